@@ -1,0 +1,10 @@
+-- A run of places written from one place on.
+-- Assumes nothing.
+use Prim.Native.Nat.{ℕ, zero, suc, _+_}
+use mathlib.Core.List.{List}
+use lib.ListN.{set}
+
+-- w with f 0, f 1, .., f (n - 1) in the n places from b on, and its other places as they are
+unfoldable pub fill : {X : Type 0} → ℕ → ℕ → (ℕ → X) → List X → List X
+fill b zero f w = w
+fill b (suc n) f w = set (fill b n f w) (b + n) (f n)

@@ -1,0 +1,33 @@
+// The smaller and the larger of two signed 64-bit numbers, their difference, and a number's negative.
+// Only these functions compare or subtract margins, so that no proof above them sees how a sign is stored.
+ghost use mathlib.Core.Path.{_≡_};
+ghost use lib.IntN.{negℤ, _-ℤ_};
+ghost use mir.Syntax.{w64};
+ghost use mir.Val.{SFits};
+ghost use Rattle.numbers.specs.Order.{smallerOf, largerOf};
+
+pub fn smaller(a: i64, b: i64) -> i64
+    ensures { λ r. ⌜ r ≡ smallerOf a b ⌝ }
+{
+    if b < a { b } else { a }
+}
+
+pub fn larger(a: i64, b: i64) -> i64
+    ensures { λ r. ⌜ r ≡ largerOf a b ⌝ }
+{
+    if a < b { b } else { a }
+}
+
+pub fn negated(a: i64) -> i64
+    requires { ⌜ SFits w64 (negℤ a) ⌝ }
+    ensures { λ r. ⌜ r ≡ negℤ a ⌝ }
+{
+    -a
+}
+
+pub fn difference(a: i64, b: i64) -> i64
+    requires { ⌜ SFits w64 (a -ℤ b) ⌝ }
+    ensures { λ r. ⌜ r ≡ a -ℤ b ⌝ }
+{
+    a - b
+}
