@@ -1,0 +1,155 @@
+-- Margins against truth. "Above e" turns largest into "or" and smallest into "and", so a margin's sign is the truth, and a margin further from zero than e
+-- decides the truth of whatever moves by at most e.
+-- Assumes nothing.
+use mathlib.Core.Path.{_≡_, refl, sym, ap, ap₂, _∙_, subst}
+use mathlib.Core.Bool.{Bool, true, false, not, cond, _&&_, _||_}
+use Prim.Native.Nat.{ℕ, suc, _+_, _-_, _≤_, _<_}
+use native.Mathlib.Omega.{arith}
+use lib.Dec.{T}
+use lib.IntN.{ℤ, pos, negℤ, negℤ-negℤ, natAbs}
+use lib.Signed.{ltZ, leZ, _≤ℤ_, ≤ℤ-refl}
+use Rattle.numbers.specs.Order.{Within}
+use Rattle.numbers.proofs.Parts.{plus, minus, lt-parts, parts-lt, nlt-parts, parts-nlt, parts-le, plus-neg, minus-neg, abs-parts, within-either}
+use Rattle.lists.proofs.Below.{same-test}
+use Rattle.logic.specs.Formula.{Extremum, largest, smallest, dual}
+use Rattle.logic.specs.Reading.{Algebra, booleans, boolean-extreme, boolean-nothing, margins, margin-extreme, margin-nothing}
+use Rattle.logic.proofs.Steps.{Step}
+use Rattle.logic.proofs.Duality.{DeMorgan, booleans-dual}
+use Rattle.logic.proofs.Carry.{Tests, junction-carries}
+
+turned : (a b : ℤ) → ltZ a b ≡ ltZ (negℤ b) (negℤ a)
+turned a b =
+    same-test (λ t. parts-lt (negℤ b) (negℤ a) (omega (arith, lt-parts a b t, plus-neg a, minus-neg a, plus-neg b, minus-neg b)))
+    (λ t. parts-lt a b (omega (arith, lt-parts (negℤ b) (negℤ a) t, plus-neg a, minus-neg a, plus-neg b, minus-neg b)))
+
+negated-choice : (c : Bool) (x y : ℤ) → negℤ (cond c x y) ≡ cond c (negℤ x) (negℤ y)
+negated-choice true x y = refl
+negated-choice false x y = refl
+
+pub margins-dual : (top : ℕ) → DeMorgan (margins top)
+margins-dual top = record { twice = negℤ-negℤ; nothing = nothing; extremes = extremes }
+  where
+    nothing : (e : Extremum) → negℤ (margin-nothing top e) ≡ margin-nothing top (dual e)
+    nothing largest = negℤ-negℤ (pos top)
+    nothing smallest = refl
+
+    extremes : (e : Extremum) (a b : ℤ) → negℤ (margin-extreme e a b) ≡ margin-extreme (dual e) (negℤ a) (negℤ b)
+    extremes largest a b = rw (← turned a b) (negated-choice (ltZ a b) b a)
+    extremes smallest a b = rw (← turned b a) (negated-choice (ltZ b a) b a)
+
+-- z is larger than e
+abbrev pub above : ℤ → ℤ → Bool
+above e z = ltZ e z
+
+-- of two tests the first implies the second: then the second is their "or", the first their "and"
+or-last : (x y : Bool) → (T x → T y) → y ≡ (x || y)
+or-last true true h = refl
+or-last true false h = absurd (h tt)
+or-last false y h = refl
+
+or-first : (x y : Bool) → (T y → T x) → x ≡ (x || y)
+or-first true y h = refl
+or-first false true h = absurd (h tt)
+or-first false false h = refl
+
+and-last : (x y : Bool) → (T y → T x) → y ≡ (x && y)
+and-last true y h = refl
+and-last false true h = absurd (h tt)
+and-last false false h = refl
+
+and-first : (x y : Bool) → (T x → T y) → x ≡ (x && y)
+and-first true true h = refl
+and-first true false h = absurd (h tt)
+and-first false y h = refl
+
+module _ (e : ℤ) where
+  rise : (a b : ℤ) → T (ltZ a b) → T (above e a) → T (above e b)
+  rise a b h t = parts-lt e b (omega (arith, lt-parts e a t, lt-parts a b h))
+
+  keep : (a b : ℤ) → T (not (ltZ a b)) → T (above e b) → T (above e a)
+  keep a b h t = parts-lt e a (omega (arith, lt-parts e b t, nlt-parts a b h))
+
+  or-above : (c : Bool) (a b : ℤ) → (T c → T (ltZ a b)) → (T (not c) → T (not (ltZ a b))) → above e (cond c b a) ≡ (above e a || above e b)
+  or-above true a b h k = or-last (above e a) (above e b) (rise a b (h tt))
+  or-above false a b h k = or-first (above e a) (above e b) (keep a b (k tt))
+
+  and-above : (c : Bool) (a b : ℤ) → (T c → T (ltZ b a)) → (T (not c) → T (not (ltZ b a))) → above e (cond c b a) ≡ (above e a && above e b)
+  and-above true a b h k = and-last (above e a) (above e b) (rise b a (h tt))
+  and-above false a b h k = and-first (above e a) (above e b) (keep b a (k tt))
+
+  pub above-extreme : (x : Extremum) (a b : ℤ) → above e (margin-extreme x a b) ≡ boolean-extreme x (above e a) (above e b)
+  above-extreme largest a b = or-above (ltZ a b) a b (λ t. t) (λ t. t)
+  above-extreme smallest a b = and-above (ltZ b a) a b (λ t. t) (λ t. t)
+
+-- "above e" is in step with truth, for every e from -top on below top
+pub above-tests : (top : ℕ) (e : ℤ) → minus e ≤ top → plus e < top → Tests (margins top) (above e)
+above-tests top e low high = record { nothing = nothing; extremes = λ x {a} {b} p q. above-extreme e x a b ∙ ap₂ (boolean-extreme x) p q }
+  where
+    nothing : (x : Extremum) → above e (margin-nothing top x) ≡ boolean-nothing x
+    nothing largest = same-test (λ t. absurd (omega (arith, lt-parts e (negℤ (pos top)) t, plus-neg (pos top), minus-neg (pos top)))) absurd
+    nothing smallest = same-test (λ t. tt) (λ t. parts-lt e (pos top) (omega arith))
+
+-- the sign says the truth: above zero where true, below zero where false, never zero
+pub record Sign (z : ℤ) (b : Bool) : Type 0 where
+  pub when-true : above (pos 0) z ≡ b
+  pub when-false : above (pos 0) (negℤ z) ≡ not b
+
+pub sign-step : (top : ℕ) → 0 < top → Step (margins top) booleans Sign
+sign-step top h = record {
+  nothing = λ e. record { when-true = tests .nothing e; when-false = rw (margins-dual top .nothing e) (tests .nothing (dual e) ∙ sym (booleans-dual .nothing e)) };
+  extremes = λ e {a} {b} {c} {d} p q. record {
+    when-true = tests .extremes e (p .when-true) (q .when-true);
+    when-false = rw (margins-dual top .extremes e a b) (tests .extremes (dual e) (p .when-false) (q .when-false) ∙ sym (booleans-dual .extremes e c d));
+  };
+}
+  where
+    tests : Tests (margins top) (above (pos 0))
+    tests = above-tests top (pos 0) (omega arith) h
+
+pub sign-negated : (a : ℤ) (c : Bool) → Sign a c → Sign (negℤ a) (not c)
+sign-negated a c h = record { when-true = h .when-false; when-false = rw (negℤ-negℤ a) (h .when-true ∙ sym (booleans-dual .twice c)) }
+
+-- z decides b by more than e: above e it says true, below -e it says false
+pub record Decides (e : ℕ) (z : ℤ) (b : Bool) : Type 0 where
+  pub when-true : T (above (pos e) z) → T b
+  pub when-false : T (above (pos e) (negℤ z)) → T (not b)
+
+pub decides-step : (e top : ℕ) → Step (margins top) booleans (Decides e)
+decides-step e top = record {
+  nothing = nothing;
+  extremes = λ x {a} {b} {c} {d} p q. record {
+    when-true = λ t. junction-carries x (above (pos e) a) (above (pos e) b) c d (p .when-true) (q .when-true) (subst T (above-extreme (pos e) x a b) t);
+    when-false = λ t.
+        subst T (sym (booleans-dual .extremes x c d))
+        (junction-carries (dual x) (above (pos e) (negℤ a)) (above (pos e) (negℤ b)) (not c) (not d) (p .when-false) (q .when-false)
+        (subst T (ap (above (pos e)) (margins-dual top .extremes x a b) ∙ above-extreme (pos e) (dual x) (negℤ a) (negℤ b)) t));
+  };
+}
+  where
+    low : T (above (pos e) (negℤ (pos top))) → ⊥
+    low t = omega (arith, lt-parts (pos e) (negℤ (pos top)) t, plus-neg (pos top), minus-neg (pos top))
+
+    nothing : (x : Extremum) → Decides e (margin-nothing top x) (boolean-nothing x)
+    nothing largest = record { when-true = λ t. absurd (low t); when-false = λ t. tt }
+    nothing smallest = record { when-true = λ t. tt; when-false = λ t. absurd (low t) }
+
+-- no margin is further from zero than top
+pub bounded-step : (top : ℕ) → Step (margins top) booleans (λ z b. Within top z)
+bounded-step top = record { nothing = nothing; extremes = λ e {a} {b} p q. extremes e a b p q }
+  where
+    nothing : (e : Extremum) → Within top (margin-nothing top e)
+    nothing largest = record { size = omega (arith, abs-parts (negℤ (pos top)), plus-neg (pos top), minus-neg (pos top)) }
+    nothing smallest = record { size = omega arith }
+
+    extremes : (e : Extremum) (a b : ℤ) → Within top a → Within top b → Within top (margin-extreme e a b)
+    extremes largest a b p q = within-either (ltZ a b) p q
+    extremes smallest a b p q = within-either (ltZ b a) p q
+
+-- what lies within top is not moved by an extremum over nothing: a loop may pass over what a window leaves out
+not-taken : (c : Bool) (a b : ℤ) → T (not c) → cond c b a ≡ a
+not-taken true a b t = absurd t
+not-taken false a b t = refl
+
+pub nothing-moves : (top : ℕ) (e : Extremum) (a : ℤ) → Within top a → margin-extreme e a (margin-nothing top e) ≡ a
+nothing-moves top largest a h = not-taken (ltZ a (negℤ (pos top))) a (negℤ (pos top)) (parts-nlt a (negℤ (pos top)) (omega (arith, abs-parts a, plus-neg (pos top), minus-neg (pos top), h .size)))
+nothing-moves top smallest a h = not-taken (ltZ (pos top) a) a (pos top) (parts-nlt (pos top) a (omega (arith, abs-parts a, h .size)))

@@ -1,0 +1,40 @@
+-- Strengthening after Fainekos and Pappas: what must be found must be found a step inside its window, and what must be kept must be kept a step beyond it.
+-- Assumes nothing.
+use mathlib.Core.Bool.{Bool}
+use Prim.Native.Nat.{ℕ, _+_, _-_}
+use Rattle.logic.specs.Window.{Window, Stop, endless, before}
+use Rattle.logic.specs.Formula.{Extremum, largest, smallest, Formula, truth, atom, negation, junction, temporal}
+use Rattle.logic.specs.Negation.{push}
+
+-- no end remains no end
+abbrev pub sooner : ℕ → Stop → Stop
+sooner s endless = endless
+sooner s (before e) = before (e - s)
+
+abbrev pub later : ℕ → Stop → Stop
+later s endless = endless
+later s (before e) = before (e + s)
+
+-- the source's contraction: lo + step to hi - step, perhaps empty
+abbrev pub contraction : ℕ → Window → Window
+contraction s w = record { from = w .from + s; stop = sooner s (w .stop) }
+
+-- the source's expansion: lo - step, not below 0, to hi + step
+abbrev pub expansion : ℕ → Window → Window
+expansion s w = record { from = w .from - s; stop = later s (w .stop) }
+
+-- until and eventually contract their windows, release and always expand them
+abbrev pub strengthen-window : Extremum → ℕ → Window → Window
+strengthen-window largest s w = contraction s w
+strengthen-window smallest s w = expansion s w
+
+abbrev pub strengthen : {P : Type 0} → ℕ → Formula P → Formula P
+strengthen s truth = truth
+strengthen s (atom p) = atom p
+strengthen s (negation φ) = negation φ
+strengthen s (junction e l r) = junction e (strengthen s l) (strengthen s r)
+strengthen s (temporal d e w l r) = temporal d e (strengthen-window e s w) (strengthen s l) (strengthen s r)
+
+-- first "not" is pushed down, then windows change: at true the strengthened requirement, at false its strengthened negation
+abbrev pub strengthened : {P : Type 0} → ℕ → Bool → Formula P → Formula P
+strengthened s b φ = strengthen s (push b φ)
