@@ -1,0 +1,52 @@
+-- What is accepted: the conditions of refusals 4 to 7 and 9 to 11, none of which applies, as sentences.
+-- Assumes nothing.
+use mathlib.Core.Path.{_≡_}
+use mathlib.Core.Logic.{_⊎_}
+use Prim.Native.Nat.{ℕ, suc, _+_, _*_, _≤_, _<_}
+use lib.Dec.{T}
+use lib.ListN.{length, getD}
+use lib.IntN.{ℤ, pos, _-ℤ_, natAbs}
+use lib.Signed.{leZ}
+use Rattle.numbers.specs.Order.{Within}
+use Rattle.recordings.specs.declared.Predicate.{Predicate}
+use Rattle.recordings.specs.declared.Range.{Range}
+use Rattle.recordings.specs.declared.Range.the-variants.{Unset, Free, AtLeast, AtMost, Between}
+use Rattle.recordings.specs.Card.{Card, rows, time, value, predicate}
+
+-- values and ends of ranges lie from −1,000,000,000 to 1,000,000,000
+abbrev pub InRange : ℤ → Type 0
+InRange v = Within 1_000_000_000 v
+
+-- a range's ends obey the range of values, and lo ≤ hi
+abbrev pub Ends : Range → Type 0
+Ends Unset = Unit
+Ends Free = Unit
+Ends (AtLeast lo) = InRange lo
+Ends (AtMost hi) = InRange hi
+Ends (Between lo hi) = InRange lo × InRange hi × T (leZ lo hi)
+
+-- a set predicate's channel is below the channel count; an unset one's is not judged
+pub record Proper (channels : ℕ) (p : Predicate) : Type 0 where
+  pub known : (p .range ≡ Unset) ⊎ (p .channel < channels)
+  pub ends : Ends (p .range)
+
+-- refusals 4 to 7 do not apply
+pub record Recorded (c : Card) : Type 0 where
+  pub some-channel : 1 ≤ c .channels
+  pub few-channels : c .channels ≤ 8
+  pub proper : (p : ℕ) → Proper (c .channels) (predicate c p)
+  pub some-row : 1 ≤ rows c
+  pub few-rows : rows c ≤ 4_096
+  pub all-values : length (c .values) ≡ rows c * c .channels
+  pub rising : (i : ℕ) → suc i < rows c → time c i < time c (suc i)
+  pub small-times : (i : ℕ) → i < rows c → time c i ≤ 2_000_000_000
+  pub in-range : (m : ℕ) → m < length (c .values) → InRange (getD (c .values) m (pos 0))
+
+-- nor do refusals 9 to 11
+pub record Accepted (c : Card) (step drift : ℕ) : Type 0 where
+  pub recorded : Recorded c
+  pub some-step : 1 ≤ step
+  pub short-step : step ≤ 1_000_000_000
+  pub small-drift : drift ≤ 1_000_000_000
+  pub no-gap : (i : ℕ) → suc i < rows c → time c (suc i) ≤ time c i + step
+  pub no-jump : (i ch : ℕ) → suc i < rows c → ch < c .channels → natAbs (value c ch (suc i) -ℤ value c ch i) ≤ 2 * drift

@@ -1,0 +1,43 @@
+-- All that a requirement is read against: a card's recording and the predicates that the requirement names.
+-- Assumes nothing.
+use mathlib.Core.List.{List}
+use Prim.Native.Nat.{ℕ, suc, _+_, _-_, _*_}
+use lib.ListN.{length, getD}
+use lib.IntN.{ℤ, pos}
+use Rattle.logic.specs.Reading.{Places}
+use Rattle.recordings.specs.declared.Predicate.{Predicate}
+use Rattle.recordings.specs.declared.Range.the-variants.{Unset}
+
+pub record Card : Type 0 where
+  pub channels : ℕ
+  pub times : List ℕ
+  pub values : List ℤ
+  pub predicates : List Predicate
+
+abbrev pub rows : Card → ℕ
+rows c = length (c .times)
+
+abbrev pub time : Card → ℕ → ℕ
+time c i = getD (c .times) i 0
+
+-- sample i, channel ch stands at place i × channels + ch
+abbrev pub value : Card → ℕ → ℕ → ℤ
+value c ch i = getD (c .values) (i * c .channels + ch) (pos 0)
+
+-- a number that no predicate has is unset
+abbrev pub predicate : Card → ℕ → Predicate
+predicate c p = getD (c .predicates) p (record { channel = 0; range = Unset })
+
+abbrev pub first-time : Card → ℕ
+first-time c = time c 0
+
+abbrev pub last-time : Card → ℕ
+last-time c = time c (rows c - 1)
+
+-- the samples, each at its time
+abbrev pub samples : Card → Places
+samples c = record { first = 0; end = rows c; time = time c }
+
+-- the recording's span: the seconds from its first time to its last, both counted
+abbrev pub span : Card → Places
+span c = record { first = first-time c; end = suc (last-time c); time = λ t. t }
