@@ -1,0 +1,46 @@
+-- The requirement that a table's node stands for: the node's kind over the requirements of its children, which are earlier nodes.
+-- Assumes nothing.
+use mathlib.Core.Bool.{cond}
+use mathlib.Core.List.{List, [], _∷_, _++_}
+use Prim.Native.Nat.{ℕ, zero, suc}
+use lib.Dec.{eqb}
+use lib.ListN.{getD}
+use Rattle.logic.specs.Window.{Window, endless, before}
+use Rattle.logic.specs.Formula.{Formula, truth, atom, negation, junction, temporal, Extremum, largest, smallest}
+use Rattle.tables.specs.declared.Node.{Node}
+use Rattle.tables.specs.Kind.{Operator, constant, named, negated, unknown, joined, binary, unary, operator}
+
+-- hi for a window without end
+abbrev pub NO-END : ℕ
+NO-END = 4_294_967_295
+
+-- the window from lo to hi, both counted
+abbrev pub window : Node → Window
+window n = record { from = n .lo; stop = cond (eqb (n .hi) NO-END) endless (before (suc (n .hi))) }
+
+-- what stands left of a single operand: eventually is until from true, always is release from false
+abbrev pub unary-left : Extremum → Formula ℕ
+unary-left largest = truth
+unary-left smallest = negation truth
+
+-- a node over the requirements of earlier nodes
+abbrev pub formula : Operator → Node → (ℕ → Formula ℕ) → Formula ℕ
+formula constant n child = truth
+formula named n child = atom (n .left)
+formula negated n child = negation (child (n .left))
+formula unknown n child = truth
+formula (joined e) n child = junction e (child (n .left)) (child (n .right))
+formula (binary d e) n child = temporal d e (window n) (child (n .left)) (child (n .right))
+formula (unary d e) n child = temporal d e (window n) (unary-left e) (child (n .left))
+
+abbrev pub node-at : List Node → ℕ → Node
+node-at ns k = getD ns k (record { kind = 0; left = 0; right = 0; lo = 0; hi = 0 })
+
+-- the requirements of the first k nodes; node k looks its children up among them
+unfoldable pub trees : List Node → ℕ → List (Formula ℕ)
+trees ns zero = []
+trees ns (suc k) = trees ns k ++ (formula (operator (node-at ns k .kind)) (node-at ns k) (λ child. getD (trees ns k) child truth) ∷ [])
+
+-- the requirement of node k; the root is the last node
+unfoldable pub tree : List Node → ℕ → Formula ℕ
+tree ns k = getD (trees ns (suc k)) k truth
