@@ -1,0 +1,104 @@
+-- One clearance, taken from either end, makes every distance: what is shown of it over its two arguments serves at least, at most and between alike.
+-- Assumes nothing.
+use mathlib.Core.Path.{_≡_, refl}
+use mathlib.Core.Bool.{Bool, true, false, not, cond, _&&_}
+use mathlib.Core.Logic.{_⊎_, inl, inr}
+use Prim.Native.Nat.{ℕ, suc, _+_, _≤_, _<_}
+use native.Mathlib.Omega.{arith}
+use lib.Dec.{T, not-T, T-not}
+use mir.Facts.{and-yes, yes-and, and-no}
+use lib.IntN.{ℤ, pos, negℤ, sucℤ, _+ℤ_, _-ℤ_, natAbs}
+use lib.Signed.{leZ, ltZ}
+use Rattle.numbers.specs.Order.{Within}
+use Rattle.numbers.proofs.Parts.{plus, minus, lt-parts, parts-lt, nlt-parts, le-parts, parts-le, nle-parts, parts-nle, parts-eq, plus-neg, minus-neg, abs-parts, parts-apart, suc-parts, add-parts, sub-parts, within-diff, within-suc, within-more, within-either}
+use Rattle.lists.proofs.Below.{same-test}
+use Rattle.logic.specs.Formula.{smallest}
+use Rattle.logic.proofs.Margins.{above, Sign, sign-step, Decides, decides-step, bounded-step}
+use Rattle.recordings.specs.declared.Range.{Range}
+use Rattle.recordings.specs.declared.Range.the-variants.{Unset, Free, AtLeast, AtMost, Between}
+use Rattle.recordings.specs.Distance.{contains, clearance, distance, Nearest, Measures}
+use Rattle.recordings.specs.Accepted.{InRange, Ends}
+
+-- ---- the clearance
+-- from a to b, and from c to d: two differences at most e apart
+record Moved (e : ℕ) (a b c d : ℤ) : Type 0 where
+  down : (plus b + minus a) + (plus c + minus d) ≤ (plus a + minus b) + (plus d + minus c) + e
+  up : (plus a + minus b) + (plus d + minus c) ≤ (plus b + minus a) + (plus c + minus d) + e
+
+clearance-decides : (e : ℕ) (a b c d : ℤ) → Moved e a b c d → Decides e (clearance a b) (leZ c d)
+clearance-decides e a b c d m = go (leZ a b) (le-parts a b) (nle-parts a b)
+  where
+    go : (t : Bool) → (T t → plus a + minus b ≤ plus b + minus a) → (T (not t) → plus b + minus a < plus a + minus b) → Decides e (cond t (sucℤ (b -ℤ a)) (b -ℤ a)) (leZ c d)
+    go true h k = record {
+      when-true = λ t. parts-le c d (omega (arith, lt-parts (pos e) (sucℤ (b -ℤ a)) t, suc-parts (b -ℤ a), sub-parts b a));
+      when-false = λ t. absurd (omega (arith, lt-parts (pos e) (negℤ (sucℤ (b -ℤ a))) t, plus-neg (sucℤ (b -ℤ a)), minus-neg (sucℤ (b -ℤ a)), suc-parts (b -ℤ a), sub-parts b a, h tt));
+    }
+    go false h k = record {
+      when-true = λ t. absurd (omega (arith, lt-parts (pos e) (b -ℤ a) t, sub-parts b a, k tt));
+      when-false = λ t. parts-nle c d (omega (arith, lt-parts (pos e) (negℤ (b -ℤ a)) t, plus-neg (b -ℤ a), minus-neg (b -ℤ a), sub-parts b a));
+    }
+
+clearance-sign : (a b : ℤ) → Sign (clearance a b) (leZ a b)
+clearance-sign a b = go (leZ a b) (le-parts a b) (nle-parts a b)
+  where
+    go : (t : Bool) → (T t → plus a + minus b ≤ plus b + minus a) → (T (not t) → plus b + minus a < plus a + minus b) → Sign (cond t (sucℤ (b -ℤ a)) (b -ℤ a)) t
+    go true h k = record {
+      when-true = same-test (λ t. tt) (λ t. parts-lt (pos 0) (sucℤ (b -ℤ a)) (omega (arith, h tt, suc-parts (b -ℤ a), sub-parts b a)));
+      when-false = same-test (λ t. omega (arith, lt-parts (pos 0) (negℤ (sucℤ (b -ℤ a))) t, h tt, plus-neg (sucℤ (b -ℤ a)), minus-neg (sucℤ (b -ℤ a)), suc-parts (b -ℤ a), sub-parts b a)) absurd;
+    }
+    go false h k = record {
+      when-true = same-test (λ t. omega (arith, lt-parts (pos 0) (b -ℤ a) t, k tt, sub-parts b a)) absurd;
+      when-false = same-test (λ t. tt) (λ t. parts-lt (pos 0) (negℤ (b -ℤ a)) (omega (arith, k tt, plus-neg (b -ℤ a), minus-neg (b -ℤ a), sub-parts b a)));
+    }
+
+clearance-small : (n : ℕ) (a b : ℤ) → Within n a → Within n b → Within (suc (n + n)) (clearance a b)
+clearance-small n a b h k = within-either (leZ a b) (within-more (omega arith) (within-diff k h)) (within-suc (within-diff k h))
+
+-- ---- the distance from a range
+-- a number at most e from the value: what the value's distance says of it
+pub distance-decides : (e top : ℕ) (r : Range) (v x : ℤ) → natAbs (x -ℤ v) ≤ e → Decides e (distance top r v) (contains r x)
+distance-decides e top r v x h = go r
+  where
+    low : (lo : ℤ) → Decides e (clearance lo v) (leZ lo x)
+    low lo = clearance-decides e lo v lo x (omega (arith, abs-parts (x -ℤ v), sub-parts x v))
+
+    high : (hi : ℤ) → Decides e (clearance v hi) (leZ x hi)
+    high hi = clearance-decides e v hi x hi (omega (arith, abs-parts (x -ℤ v), sub-parts x v))
+
+    go : (r : Range) → Decides e (distance top r v) (contains r x)
+    go Unset = decides-step e top .nothing smallest
+    go Free = decides-step e top .nothing smallest
+    go (AtLeast lo) = low lo
+    go (AtMost hi) = high hi
+    go (Between lo hi) = decides-step e top .extremes smallest (low lo) (high hi)
+
+-- the sign is the predicate's truth
+pub distance-sign : (top : ℕ) → 0 < top → (r : Range) (v : ℤ) → Sign (distance top r v) (contains r v)
+distance-sign top h Unset v = sign-step top h .nothing smallest
+distance-sign top h Free v = sign-step top h .nothing smallest
+distance-sign top h (AtLeast lo) v = clearance-sign lo v
+distance-sign top h (AtMost hi) v = clearance-sign v hi
+distance-sign top h (Between lo hi) v = sign-step top h .extremes smallest (clearance-sign lo v) (clearance-sign v hi)
+
+-- a range that takes every number
+abbrev pub Open : Range → Type 0
+Open Unset = Unit
+Open Free = Unit
+Open (AtLeast lo) = ⊥
+Open (AtMost hi) = ⊥
+Open (Between lo hi) = ⊥
+
+-- the distance of a value in range is at most 2,000,000,001 from zero, unless the range is open
+pub distance-small : (top : ℕ) (r : Range) (v : ℤ) → Ends r → InRange v → Open r ⊎ Within 2_000_000_001 (distance top r v)
+distance-small top Unset v h k = inl tt
+distance-small top Free v h k = inl tt
+distance-small top (AtLeast lo) v h k = inr (clearance-small 1_000_000_000 lo v h k)
+distance-small top (AtMost hi) v h k = inr (clearance-small 1_000_000_000 v hi k h)
+distance-small top (Between lo hi) v h k = inr (within-either (ltZ (clearance v hi) (clearance lo v)) (clearance-small 1_000_000_000 lo v (h .0) k) (clearance-small 1_000_000_000 v hi k (h .1)))
+
+pub distance-open : (top : ℕ) (r : Range) (v : ℤ) → Open r → distance top r v ≡ pos top
+distance-open top Unset v o = refl
+distance-open top Free v o = refl
+distance-open top (AtLeast lo) v o = absurd o
+distance-open top (AtMost hi) v o = absurd o
+distance-open top (Between lo hi) v o = absurd o
