@@ -6,3 +6,4 @@ pub mod Margins
 pub mod Strengthened
 pub mod Between
 pub mod Verdicts
+pub mod Examples

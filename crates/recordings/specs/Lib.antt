@@ -7,3 +7,4 @@ pub mod History
 pub mod Verdict
 pub mod Accepted
 pub mod Shown
+pub mod Examples

@@ -1,0 +1,121 @@
+-- Demand 3 is not empty, and acceptance gives no history: the program's example has one, the ramp has none. Both are accepted; each sentence of acceptance is
+-- one test that computes over the recording.
+-- Assumes nothing.
+use mathlib.Core.Path.{_≡_, refl, subst}
+use mathlib.Core.Bool.{Bool}
+use mathlib.Core.Logic.{_⊎_, inl, inr}
+use mathlib.Core.List.{List, [], _∷_}
+use Prim.Native.Nat.{ℕ, zero, suc, _+_, _-_, _*_, _≤_, _<_}
+use native.Mathlib.Omega.{arith}
+use lib.Dec.{T, leb, ltb, eqb, leb→le, ltb→lt, lit≤, lit<}
+use lib.ListN.{length, getD}
+use lib.IntN.{ℤ, pos, _-ℤ_, natAbs}
+use Rattle.numbers.specs.Order.{Within}
+use Rattle.numbers.proofs.Parts.{plus, minus, abs-parts, sub-parts}
+use Rattle.lists.specs.Fold.{allBelow}
+use Rattle.lists.proofs.Below.{all-at}
+use Rattle.recordings.specs.declared.Predicate.{Predicate}
+use Rattle.recordings.specs.declared.Range.the-variants.{Unset, AtLeast}
+use Rattle.recordings.specs.Card.{Card, rows, time, value, predicate}
+use Rattle.recordings.specs.History.{Second, OneStep, History}
+use Rattle.recordings.specs.Accepted.{Accepted, Recorded, Proper}
+use Rattle.recordings.specs.Examples.{example, ramp}
+
+-- the sentences of acceptance for a recording of one channel, as tests that compute
+record Computed (c : Card) (step drift : ℕ) : Type 0 where
+  one-channel : c .channels ≡ 1
+  proper : (p : ℕ) → Proper (c .channels) (predicate c p)
+  some-row : T (leb 1 (rows c))
+  few-rows : T (leb (rows c) 4_096)
+  all-values : length (c .values) ≡ rows c * c .channels
+  rising : T (allBelow (λ i. ltb (time c i) (time c (suc i))) (rows c - 1))
+  small-times : T (allBelow (λ i. leb (time c i) 2_000_000_000) (rows c))
+  in-range : T (allBelow (λ m. leb (natAbs (getD (c .values) m (pos 0))) 1_000_000_000) (length (c .values)))
+  some-step : T (leb 1 step)
+  short-step : T (leb step 1_000_000_000)
+  small-drift : T (leb drift 1_000_000_000)
+  no-gap : T (allBelow (λ i. leb (time c (suc i)) (time c i + step)) (rows c - 1))
+  no-jump : T (allBelow (λ i. leb (natAbs (value c 0 (suc i) -ℤ value c 0 i)) (2 * drift)) (rows c - 1))
+
+accepted : {c : Card} {step drift : ℕ} → Computed c step drift → Accepted c step drift
+accepted {c} {step} {drift} t = record {
+  recorded = record {
+    some-channel = omega (arith, t .one-channel);
+    few-channels = omega (arith, t .one-channel);
+    proper = t .proper;
+    some-row = leb→le 1 (rows c) (t .some-row);
+    few-rows = leb→le (rows c) 4_096 (t .few-rows);
+    all-values = t .all-values;
+    rising = λ i h. ltb→lt _ _ (all-at (λ j. ltb (time c j) (time c (suc j))) (rows c - 1) (t .rising) i (omega arith));
+    small-times = λ i h. leb→le _ _ (all-at (λ j. leb (time c j) 2_000_000_000) (rows c) (t .small-times) i h);
+    in-range = λ m h. record { size = leb→le _ _ (all-at (λ j. leb (natAbs (getD (c .values) j (pos 0))) 1_000_000_000) (length (c .values)) (t .in-range) m h) };
+  };
+  some-step = leb→le 1 step (t .some-step);
+  short-step = leb→le step 1_000_000_000 (t .short-step);
+  small-drift = leb→le drift 1_000_000_000 (t .small-drift);
+  no-gap = λ i h. leb→le _ _ (all-at (λ j. leb (time c (suc j)) (time c j + step)) (rows c - 1) (t .no-gap) i (omega arith));
+  no-jump = λ i ch h k.
+      let e : ch ≡ 0 = omega (arith, t .one-channel) in
+      rw e (leb→le _ _ (all-at (λ j. leb (natAbs (value c 0 (suc j) -ℤ value c 0 j)) (2 * drift)) (rows c - 1) (t .no-jump) i (omega arith)));
+}
+
+-- ---- the program's example
+at-least-five : (p : ℕ) → Proper 1 (predicate example p)
+at-least-five zero = record { known = inr (lit< tt); ends = record { size = lit≤ tt } }
+at-least-five (suc p) = record { known = inl refl; ends = tt }
+
+pub example-accepted : Accepted example 1 2
+example-accepted = accepted (record {
+  one-channel = refl;
+  proper = at-least-five;
+  some-row = tt;
+  few-rows = tt;
+  all-values = refl;
+  rising = tt;
+  small-times = tt;
+  in-range = tt;
+  some-step = tt;
+  short-step = tt;
+  small-drift = tt;
+  no-gap = tt;
+  no-jump = tt;
+})
+
+-- the course that is at each second what was then sampled
+abbrev pub course : ℕ → ℕ → ℤ
+course ch t = value example 0 t
+
+pub example-has-history : History example 1 2 course
+example-has-history = record { follows = λ ch i t h k s o. let e : ch ≡ 0 = omega arith in rw e (near i t k (omega (arith, s .to-last))) }
+  where
+    apart : ℕ → ℕ → Bool
+    apart t i = leb (natAbs (value example 0 t -ℤ value example 0 i)) 2
+
+    near : (i t : ℕ) → i < 5 → t < 5 → natAbs (value example 0 t -ℤ value example 0 i) ≤ 2
+    near i t k l = leb→le _ _ (all-at (apart t) 5 (all-at (λ u. allBelow (apart u) 5) 5 tt t l) i k)
+
+-- ---- the ramp
+pub ramp-accepted : Accepted ramp 1 1
+ramp-accepted = accepted (record {
+  one-channel = refl;
+  proper = λ p. record { known = inl refl; ends = tt };
+  some-row = tt;
+  few-rows = tt;
+  all-values = refl;
+  rising = tt;
+  small-times = tt;
+  in-range = tt;
+  some-step = tt;
+  short-step = tt;
+  small-drift = tt;
+  no-gap = tt;
+  no-jump = tt;
+})
+
+-- second 1 is one step from all three samples: no number is within 1 of both 5 and 9
+pub ramp-has-no-history : (h : ℕ → ℕ → ℤ) → History ramp 1 1 h → ⊥
+ramp-has-no-history h history =
+    omega (arith, at-one 0 (lit< tt) (record { after = lit≤ tt; before = lit≤ tt }), at-one 2 (lit< tt) (record { after = lit≤ tt; before = lit≤ tt }), abs-parts (h 0 1 -ℤ pos 5), sub-parts (h 0 1) (pos 5), abs-parts (h 0 1 -ℤ pos 9), sub-parts (h 0 1) (pos 9))
+  where
+    at-one : (i : ℕ) → i < 3 → OneStep ramp 1 i 1 → natAbs (h 0 1 -ℤ value ramp 0 i) ≤ 1
+    at-one i k o = history .follows 0 i 1 (lit< tt) k (record { from-first = lit≤ tt; to-last = lit≤ tt }) o

@@ -1,0 +1,20 @@
+-- Two recordings: the program's example of document 01, and one that is accepted although no history follows it.
+-- Assumes nothing.
+use mathlib.Core.List.{List, [], _∷_}
+use Prim.Native.Nat.{ℕ}
+use lib.IntN.{ℤ, pos}
+use Rattle.recordings.specs.declared.Range.the-variants.{AtLeast}
+use Rattle.recordings.specs.Card.{Card, value}
+
+-- p0 is "at least 5"; step 1, drift 2
+abbrev pub example : Card
+example = record {
+  channels = 1;
+  times = 0 ∷ 1 ∷ 2 ∷ 3 ∷ 4 ∷ [];
+  values = pos 10 ∷ pos 11 ∷ pos 10 ∷ pos 9 ∷ pos 10 ∷ [];
+  predicates = record { channel = 0; range = AtLeast (pos 5) } ∷ [];
+}
+
+-- a steep ramp; step 1, drift 1
+abbrev pub ramp : Card
+ramp = record { channels = 1; times = 0 ∷ 1 ∷ 2 ∷ []; values = pos 5 ∷ pos 7 ∷ pos 9 ∷ []; predicates = [] }
