@@ -1,10 +1,10 @@
--- The mathematics of the reading. `Steps`: a relation that the operations keep is kept by every reading. `Duality`: "not" pushed down changes nothing.
--- `Witness` and `Words`: the truth of the temporal operators in plain words. `Margins`: whole numbers against truth.
+-- The mathematics of the reading. `Witness` and `Words`: the truth of the temporal operators in plain words. `Steps`: a relation that the operations keep is kept
+-- by every reading. `Duality`: "not" pushed down changes nothing. `Margins`: whole numbers against truth.
 -- `Windows`, `Line`, `Carry`, `Crossing`: what is read at samples carries over to all seconds near them.
-pub mod Steps
-pub mod Duality
 pub mod Witness
 pub mod Words
+pub mod Steps
+pub mod Duality
 pub mod Windows
 pub mod Carry
 pub mod Line

@@ -27,11 +27,11 @@ joined true false c x y z = absurd y
 joined false b c x y z = absurd x
 
 module _ {w : Window} {d : ℕ → ℕ} {l r : ℕ → Bool} {n : ℕ} where
+  pub of-witness : Witness w d l r n → T (along booleans largest w d l r n)
+  of-witness u = at-any _ n (u .spot) (u .in-row) (joined (inside w (d (u .spot))) (r (u .spot)) (allBelow l (u .spot)) (u .in-window) (u .right) (at-all l (u .spot) (u .left)))
+
   pub witness-of : T (along booleans largest w d l r n) → Witness w d l r n
   witness-of t =
       let f = any-at _ n t in
       let g = apart (inside w (d (f .0))) (r (f .0)) (allBelow l (f .0)) (f .2) in
       record { spot = f .0; in-row = f .1; in-window = g .0; right = g .1; left = all-at l (f .0) (g .2) }
-
-  pub of-witness : Witness w d l r n → T (along booleans largest w d l r n)
-  of-witness u = at-any _ n (u .spot) (u .in-row) (joined (inside w (d (u .spot))) (r (u .spot)) (allBelow l (u .spot)) (u .in-window) (u .right) (at-all l (u .spot) (u .left)))
