@@ -1,0 +1,120 @@
+-- What an answer tells a caller: the place after it is past its start and inside the text, and which bytes stand between; and the converse for a mark.
+-- Assumes nothing.
+use mathlib.Core.Path.{_≡_, refl, sym, ap, _∙_}
+use mathlib.Core.List.{List, [], _∷_, _++_}
+use mathlib.Core.Bool.{Bool, true, false, cond}
+use Prim.Native.Nat.{ℕ, _+_, _-_, _≤_, _<_}
+use native.Mathlib.Omega.{arith}
+use lib.ListN.{length, drop, length-append, length-drop}
+use lib.Seq.{drop-drop}
+use lib.IntN.{ℤ, pos, negℤ}
+use lib.Dec.{leb, eqb}
+use borrow.Author.Tests.{le-leb, leb-true}
+use Rattle.text.specs.Bytes.{bytes}
+use Rattle.text.specs.Mark.{prefixOf, keyAt, markAt, afterMark}
+use Rattle.text.specs.Number.{largestSigned, numberAt, fieldAt, signedAt, signedFieldAt, afterNumber}
+use Rattle.text.specs.declared.Mark.{Mark}
+use Rattle.text.specs.declared.Mark.the-variants.{Next, Bad as Mark·Bad}
+use Rattle.text.specs.declared.Field.{Field}
+use Rattle.text.specs.declared.Field.the-variants.{Number, Bad}
+use Rattle.text.specs.declared.signed.Field.{Field as Signed}
+use Rattle.text.specs.declared.signed.Field.the-variants.{Number as Signed·Number, Bad as Signed·Bad}
+use Rattle.text.proofs.Tests.{both, never}
+use Rattle.text.proofs.Marks.{key-inside, prefix-split, prefix-append}
+use Rattle.text.proofs.Numerals.{Numbered, number-is}
+
+-- a mark that was read: its bytes stand from `at` up to `n`
+pub record Marked (key s : List ℕ) (at n : ℕ) : Type 0 where
+  pub end : n ≡ at + length key
+  pub bytes : drop at s ≡ key ++ drop n s
+  pub inside : n ≤ length s
+
+pub mark-is : (key s : List ℕ) (at n : ℕ) → markAt key s at ≡ Next n → Marked key s at n
+unfolding markAt
+mark-is key s at n h = go (keyAt key s at) refl h
+  where
+    go : (t : Bool) → keyAt key s at ≡ t → cond t (Next (at + length key)) Mark·Bad ≡ Next n → Marked key s at n
+    go true e g =
+        let z : at + length key ≡ n = cc in
+        let p = both (leb at (length s)) (prefixOf key (drop at s)) e in
+        record {
+          end = sym z;
+          bytes = rw (← z, ← drop-drop (length key) at s) (prefix-split key (drop at s) (p .1));
+          inside = rw (← z) (key-inside key s at e);
+        }
+    go false e g = let z : _≡_ {A = ℕ} 0 1 = cc in absurd (omega arith)
+
+-- a key that stands at a place is read
+pub mark-made : (key s r : List ℕ) (at : ℕ) → 0 < length key → drop at s ≡ key ++ r → markAt key s at ≡ Next (at + length key)
+unfolding markAt
+mark-made key s r at p e =
+    let l : length s - at ≡ length key + length r = sym (length-drop at s) ∙ (ap length e ∙ length-append key r) in
+    rw (le-leb at (length s) (omega arith), e, prefix-append key r)
+
+-- where other bytes stand it is not
+pub mark-missing : (key s : List ℕ) (at : ℕ) {l : List ℕ} → drop at s ≡ l → prefixOf key l ≡ false → markAt key s at ≡ Mark·Bad
+unfolding markAt
+mark-missing key s at e h = rw (e, h, never (leb at (length s)))
+
+-- a number that follows a key
+pub field-is : (key s : List ℕ) (at max v n : ℕ) → fieldAt key s at max ≡ Number v n
+    → (m : ℕ) × Marked key s at m × Numbered s m max v n
+unfolding fieldAt
+field-is key s at max v n h = go (markAt key s at) refl h
+  where
+    go : (m : Mark) → markAt key s at ≡ m → afterMark m (λ k. numberAt s k max) Bad ≡ Number v n → (m : ℕ) × Marked key s at m × Numbered s m max v n
+    go (Next m) e g = (m, mark-is key s at m e, number-is s m max v n g)
+    go Mark·Bad e g = let z : _≡_ {A = ℕ} 0 1 = cc in absurd (omega arith)
+
+-- a signed number that was read
+pub record SignedIs (s : List ℕ) (at : ℕ) (v : ℤ) (n : ℕ) : Type 0 where
+  pub size : ℕ
+  pub minus : Bool
+  pub worth : v ≡ cond minus (negℤ (pos size)) (pos size)
+  pub bound : size ≤ largestSigned
+  pub past : at < n
+  pub inside : n ≤ length s
+
+pub signed-is : (s : List ℕ) (at : ℕ) (v : ℤ) (n : ℕ) → signedAt s at ≡ Signed·Number v n → SignedIs s at v n
+unfolding signedAt
+signed-is s at v n h = go (markAt (bytes "-") s at) refl h
+  where
+    plus : (x : Field) → numberAt s at largestSigned ≡ x → afterNumber x (λ w k. Signed·Number (pos w) k) Signed·Bad ≡ Signed·Number v n → SignedIs s at v n
+    plus (Number w k) e g =
+        let a = number-is s at largestSigned w k e in
+        let z : k ≡ n = cc in
+        record { size = w; minus = false; worth = cc; bound = a .bound; past = rw (← z) (a .past); inside = rw (← z) (a .inside) }
+    plus Bad e g = let z : _≡_ {A = ℕ} 0 1 = cc in absurd (omega arith)
+
+    negated : (w k : ℕ) (t : Bool) → cond t Signed·Bad (Signed·Number (negℤ (pos w)) k) ≡ Signed·Number v n → (v ≡ negℤ (pos w)) × (k ≡ n)
+    negated w k true g = let z : _≡_ {A = ℕ} 0 1 = cc in absurd (omega arith)
+    negated w k false g = (cc, cc)
+
+    less : (d : ℕ) → Marked (bytes "-") s at d → (x : Field) → numberAt s d largestSigned ≡ x
+        → afterNumber x (λ w k. cond (eqb w 0) Signed·Bad (Signed·Number (negℤ (pos w)) k)) Signed·Bad ≡ Signed·Number v n → SignedIs s at v n
+    less d m (Number w k) e g =
+        let a = number-is s d largestSigned w k e in
+        let y = negated w k (eqb w 0) g in
+        let z : k ≡ n = y .1 in
+        let p : at < k = let q = a .past in let r = m .end in omega arith in
+        record { size = w; minus = true; worth = y .0; bound = a .bound; past = rw (← z) p; inside = rw (← z) (a .inside) }
+    less d m Bad e g = let z : _≡_ {A = ℕ} 0 1 = cc in absurd (omega arith)
+
+    go : (m : Mark) → markAt (bytes "-") s at ≡ m
+        → afterMark m
+        (λ d. afterNumber (numberAt s d largestSigned) (λ w k. cond (eqb w 0) Signed·Bad (Signed·Number (negℤ (pos w)) k)) Signed·Bad)
+        (afterNumber (numberAt s at largestSigned) (λ w k. Signed·Number (pos w) k) Signed·Bad)
+        ≡ Signed·Number v n
+        → SignedIs s at v n
+    go (Next d) e g = less d (mark-is (bytes "-") s at d e) (numberAt s d largestSigned) refl g
+    go Mark·Bad e g = plus (numberAt s at largestSigned) refl g
+
+-- a signed number that follows a key
+pub signed-field-is : (key s : List ℕ) (at : ℕ) (v : ℤ) (n : ℕ) → signedFieldAt key s at ≡ Signed·Number v n
+    → (m : ℕ) × Marked key s at m × SignedIs s m v n
+unfolding signedFieldAt
+signed-field-is key s at v n h = go (markAt key s at) refl h
+  where
+    go : (m : Mark) → markAt key s at ≡ m → afterMark m (λ k. signedAt s k) Signed·Bad ≡ Signed·Number v n → (m : ℕ) × Marked key s at m × SignedIs s m v n
+    go (Next m) e g = (m, mark-is key s at m e, signed-is s m v n g)
+    go Mark·Bad e g = let z : _≡_ {A = ℕ} 0 1 = cc in absurd (omega arith)

@@ -1,0 +1,6 @@
+pub mod Tests
+pub mod Digits
+pub mod Marks
+pub mod Signs
+pub mod Answers
+pub mod Numerals

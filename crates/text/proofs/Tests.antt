@@ -1,0 +1,25 @@
+-- What a test that joins two others tells. Everything is by cases on the first.
+-- Assumes nothing.
+use mathlib.Core.Path.{_≡_, refl}
+use mathlib.Core.Bool.{Bool, true, false, not, _&&_}
+use Prim.Native.Nat.{ℕ}
+use native.Mathlib.Omega.{arith}
+
+pub false-true : _≡_ {A = Bool} false true → ⊥
+false-true e = let z : _≡_ {A = ℕ} 0 1 = cc in omega arith
+
+pub both : (a b : Bool) → a && b ≡ true → (a ≡ true) × (b ≡ true)
+both true b h = (refl, h)
+both false b h = absurd (false-true h)
+
+pub never : (t : Bool) → t && false ≡ false
+never true = refl
+never false = refl
+
+-- a split by a test, with its equation
+pub by-test : {A : Type 0} (t : Bool) → (t ≡ true → A) → (t ≡ false → A) → A
+by-test {A} t f g = go t refl
+  where
+    go : (b : Bool) → t ≡ b → A
+    go true e = f e
+    go false e = g e

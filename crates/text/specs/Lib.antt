@@ -1,0 +1,4 @@
+pub mod Bytes
+pub mod Mark
+pub mod Number
+pub mod Numeral
