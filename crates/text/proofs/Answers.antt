@@ -20,20 +20,16 @@ use Rattle.text.specs.declared.Field.the-variants.{Number, Bad}
 use Rattle.text.specs.declared.signed.Field.{Field as Signed}
 use Rattle.text.specs.declared.signed.Field.the-variants.{Number as Signed·Number, Bad as Signed·Bad}
 use Rattle.text.proofs.Tests.{both, never}
+use Rattle.text.proofs.Places.{Between}
 use Rattle.text.proofs.Marks.{key-inside, prefix-split, prefix-append}
 use Rattle.text.proofs.Numerals.{Numbered, number-is}
 
--- a mark that was read: its bytes stand from `at` up to `n`
-pub record Marked (key s : List ℕ) (at n : ℕ) : Type 0 where
-  pub end : n ≡ at + length key
-  pub bytes : drop at s ≡ key ++ drop n s
-  pub inside : n ≤ length s
-
-pub mark-is : (key s : List ℕ) (at n : ℕ) → markAt key s at ≡ Next n → Marked key s at n
+-- a mark that was read: its bytes stand there
+pub mark-is : (key s : List ℕ) (at n : ℕ) → markAt key s at ≡ Next n → Between s at n key
 unfolding markAt
 mark-is key s at n h = go (keyAt key s at) refl h
   where
-    go : (t : Bool) → keyAt key s at ≡ t → cond t (Next (at + length key)) Mark·Bad ≡ Next n → Marked key s at n
+    go : (t : Bool) → keyAt key s at ≡ t → cond t (Next (at + length key)) Mark·Bad ≡ Next n → Between s at n key
     go true e g =
         let z : at + length key ≡ n = cc in
         let p = both (leb at (length s)) (prefixOf key (drop at s)) e in
@@ -58,11 +54,11 @@ mark-missing key s at e h = rw (e, h, never (leb at (length s)))
 
 -- a number that follows a key
 pub field-is : (key s : List ℕ) (at max v n : ℕ) → fieldAt key s at max ≡ Number v n
-    → (m : ℕ) × Marked key s at m × Numbered s m max v n
+    → (m : ℕ) × Between s at m key × Numbered s m max v n
 unfolding fieldAt
 field-is key s at max v n h = go (markAt key s at) refl h
   where
-    go : (m : Mark) → markAt key s at ≡ m → afterMark m (λ k. numberAt s k max) Bad ≡ Number v n → (m : ℕ) × Marked key s at m × Numbered s m max v n
+    go : (m : Mark) → markAt key s at ≡ m → afterMark m (λ k. numberAt s k max) Bad ≡ Number v n → (m : ℕ) × Between s at m key × Numbered s m max v n
     go (Next m) e g = (m, mark-is key s at m e, number-is s m max v n g)
     go Mark·Bad e g = let z : _≡_ {A = ℕ} 0 1 = cc in absurd (omega arith)
 
@@ -83,21 +79,21 @@ signed-is s at v n h = go (markAt (bytes "-") s at) refl h
     plus (Number w k) e g =
         let a = number-is s at largestSigned w k e in
         let z : k ≡ n = cc in
-        record { size = w; minus = false; worth = cc; bound = a .bound; past = rw (← z) (a .past); inside = rw (← z) (a .inside) }
+        record { size = w; minus = false; worth = cc; bound = a .bound; past = rw (← z) (a .past); inside = rw (← z) (a .between .inside) }
     plus Bad e g = let z : _≡_ {A = ℕ} 0 1 = cc in absurd (omega arith)
 
     negated : (w k : ℕ) (t : Bool) → cond t Signed·Bad (Signed·Number (negℤ (pos w)) k) ≡ Signed·Number v n → (v ≡ negℤ (pos w)) × (k ≡ n)
     negated w k true g = let z : _≡_ {A = ℕ} 0 1 = cc in absurd (omega arith)
     negated w k false g = (cc, cc)
 
-    less : (d : ℕ) → Marked (bytes "-") s at d → (x : Field) → numberAt s d largestSigned ≡ x
+    less : (d : ℕ) → Between s at d (bytes "-") → (x : Field) → numberAt s d largestSigned ≡ x
         → afterNumber x (λ w k. cond (eqb w 0) Signed·Bad (Signed·Number (negℤ (pos w)) k)) Signed·Bad ≡ Signed·Number v n → SignedIs s at v n
     less d m (Number w k) e g =
         let a = number-is s d largestSigned w k e in
         let y = negated w k (eqb w 0) g in
         let z : k ≡ n = y .1 in
         let p : at < k = let q = a .past in let r = m .end in omega arith in
-        record { size = w; minus = true; worth = y .0; bound = a .bound; past = rw (← z) p; inside = rw (← z) (a .inside) }
+        record { size = w; minus = true; worth = y .0; bound = a .bound; past = rw (← z) p; inside = rw (← z) (a .between .inside) }
     less d m Bad e g = let z : _≡_ {A = ℕ} 0 1 = cc in absurd (omega arith)
 
     go : (m : Mark) → markAt (bytes "-") s at ≡ m
@@ -111,10 +107,10 @@ signed-is s at v n h = go (markAt (bytes "-") s at) refl h
 
 -- a signed number that follows a key
 pub signed-field-is : (key s : List ℕ) (at : ℕ) (v : ℤ) (n : ℕ) → signedFieldAt key s at ≡ Signed·Number v n
-    → (m : ℕ) × Marked key s at m × SignedIs s m v n
+    → (m : ℕ) × Between s at m key × SignedIs s m v n
 unfolding signedFieldAt
 signed-field-is key s at v n h = go (markAt key s at) refl h
   where
-    go : (m : Mark) → markAt key s at ≡ m → afterMark m (λ k. signedAt s k) Signed·Bad ≡ Signed·Number v n → (m : ℕ) × Marked key s at m × SignedIs s m v n
+    go : (m : Mark) → markAt key s at ≡ m → afterMark m (λ k. signedAt s k) Signed·Bad ≡ Signed·Number v n → (m : ℕ) × Between s at m key × SignedIs s m v n
     go (Next m) e g = (m, mark-is key s at m e, signed-is s m v n g)
     go Mark·Bad e g = let z : _≡_ {A = ℕ} 0 1 = cc in absurd (omega arith)

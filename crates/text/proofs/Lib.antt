@@ -1,4 +1,5 @@
 pub mod Tests
+pub mod Places
 pub mod Digits
 pub mod Marks
 pub mod Signs

@@ -15,6 +15,7 @@ use Rattle.text.specs.Number.{isDigit, digits, value, inForm, judged, nu
 use Rattle.text.specs.Numeral.{Numeral, digit, longer}
 use Rattle.text.specs.declared.Field.the-variants.{Number, Bad}
 use Rattle.text.proofs.Tests.{both, never, by-test, false-true}
+use Rattle.text.proofs.Places.{Between}
 use Rattle.text.proofs.Digits.{digit-range, run-over}
 
 -- ---- digits
@@ -139,10 +140,9 @@ numeral-short {w} {v} n l = by-test (eqb v 0) (λ z. zeros (eqb-true v 0 z)) (λ
 pub record Numbered (s : List ℕ) (at max v n : ℕ) : Type 0 where
   pub written : List ℕ
   pub numeral : Numeral written v
-  pub bytes : drop at s ≡ written ++ drop n s
+  pub between : Between s at n written
   pub bound : v ≤ max
   pub past : at < n
-  pub inside : n ≤ length s
 
 number-of : (t : Bool) (v next w n : ℕ) → cond t (Number v next) Bad ≡ Number w n → (t ≡ true) × (v ≡ w) × (next ≡ n)
 number-of true v next w n h = (refl, cc, cc)
@@ -176,10 +176,13 @@ number-is s at max v n h =
     record {
       written = digits (drop at s);
       numeral = rw (← a .1) (r .0);
-      bytes = rw (← e, ← drop-drop (length (digits (drop at s))) at s) (digits-split (drop at s));
+      between = record {
+        bytes = rw (← e, ← drop-drop (length (digits (drop at s))) at s) (digits-split (drop at s));
+        end = sym e;
+        inside = let p = r .2 in omega arith;
+      };
       bound = rw (← a .1) (r .1);
       past = let p = r .2 in omega arith;
-      inside = let p = r .2 in omega arith;
     }
   where
     run-inside : (l : List ℕ) → length (digits l) ≤ length l
