@@ -1,2 +1,4 @@
+-- In the order of document 01: the kinds, the tree of a node, and the table's rules.
 pub mod Kind
 pub mod Tree
+pub mod Rules

@@ -1,0 +1,95 @@
+-- Refusal 3, of the table alone: the rules of a requirement table, each as a test and as the sentence that the test stands for. `proofs/Rules` shows the two equal.
+-- Assumes nothing.
+use mathlib.Core.Path.{_≡_}
+use mathlib.Core.Bool.{Bool, true, false, _&&_, _||_}
+use mathlib.Core.Logic.{_⊎_}
+use Prim.Native.Nat.{ℕ, _≤_, _<_}
+use lib.Dec.{leb, ltb, eqb}
+use lib.ListN.{length}
+use Rattle.lists.specs.Fold.{allBelow}
+use Rattle.tables.specs.declared.Node.{Node}
+use Rattle.tables.specs.declared.Table.{Table}
+use Rattle.tables.specs.Kind.{Operator, constant, named, negated, unknown, joined, binary, unary, kinds, operator}
+use Rattle.tables.specs.Tree.{NO-END, node-at}
+
+-- what a node's left or right number is: a child, a predicate's number, or unused
+pub data Use : Type 0 where
+  child number unused : Use
+
+abbrev pub left-use : Operator → Use
+left-use constant = unused
+left-use named = number
+left-use negated = child
+left-use unknown = unused
+left-use (joined e) = child
+left-use (binary d e) = child
+left-use (unary d e) = child
+
+abbrev pub right-use : Operator → Use
+right-use constant = unused
+right-use named = unused
+right-use negated = unused
+right-use unknown = unused
+right-use (joined e) = child
+right-use (binary d e) = child
+right-use (unary d e) = unused
+
+-- the temporal operators alone have a window
+abbrev pub timed : Operator → Bool
+timed constant = false
+timed named = false
+timed negated = false
+timed unknown = false
+timed (joined e) = false
+timed (binary d e) = true
+timed (unary d e) = true
+
+-- children of node k are earlier nodes; predicates are numbered 0 to 15; unused numbers are 0
+abbrev pub use-obeys : Use → ℕ → ℕ → Bool
+use-obeys child k x = ltb x k
+use-obeys number k x = leb x 15
+use-obeys unused k x = eqb x 0
+
+abbrev pub Used : Use → ℕ → ℕ → Type 0
+Used child k x = x < k
+Used number k x = x ≤ 15
+Used unused k x = x ≡ 0
+
+-- a window has lo and hi up to 1,000,000,000, lo ≤ hi, or hi 4,294,967,295 for no end
+abbrev pub window-obeys : ℕ → ℕ → Bool
+window-obeys lo hi = leb lo 1_000_000_000 && (eqb hi NO-END || (leb hi 1_000_000_000 && leb lo hi))
+
+pub record WindowRules (lo hi : ℕ) : Type 0 where
+  pub low : lo ≤ 1_000_000_000
+  pub high : (hi ≡ NO-END) ⊎ ((hi ≤ 1_000_000_000) × (lo ≤ hi))
+
+-- where there is no window its two numbers are unused
+abbrev pub ends-obey : Bool → ℕ → ℕ → Bool
+ends-obey true lo hi = window-obeys lo hi
+ends-obey false lo hi = eqb lo 0 && eqb hi 0
+
+abbrev pub EndsRules : Bool → ℕ → ℕ → Type 0
+EndsRules true lo hi = WindowRules lo hi
+EndsRules false lo hi = (lo ≡ 0) × (hi ≡ 0)
+
+-- node k
+unfoldable pub node-obeys : Node → ℕ → Bool
+node-obeys n k =
+    ltb (n .kind) (length kinds)
+    && (use-obeys (left-use (operator (n .kind))) k (n .left)
+    && (use-obeys (right-use (operator (n .kind))) k (n .right) && ends-obey (timed (operator (n .kind))) (n .lo) (n .hi)))
+
+pub record NodeRules (n : Node) (k : ℕ) : Type 0 where
+  pub known : n .kind < length kinds
+  pub left : Used (left-use (operator (n .kind))) k (n .left)
+  pub right : Used (right-use (operator (n .kind))) k (n .right)
+  pub ends : EndsRules (timed (operator (n .kind))) (n .lo) (n .hi)
+
+-- 1 to 64 nodes, and every one of them obeys, those that the root doesn't reach included
+unfoldable pub table-obeys : Table → Bool
+table-obeys t = leb 1 (t .count) && (leb (t .count) 64 && allBelow (λ k. node-obeys (node-at (t .nodes) k) k) (t .count))
+
+pub record TableRules (t : Table) : Type 0 where
+  pub some-node : 1 ≤ t .count
+  pub few-nodes : t .count ≤ 64
+  pub each : (k : ℕ) → k < t .count → NodeRules (node-at (t .nodes) k) k
