@@ -13,7 +13,7 @@ use Rattle.tables.specs.declared.Node.{Node}
 use Rattle.tables.specs.declared.Table.{Table}
 use Rattle.tables.specs.Kind.{Operator, kinds, operator}
 use Rattle.tables.specs.Tree.{NO-END, node-at}
-use Rattle.tables.specs.Rules.{Use, child, number, unused, left-use, right-use, timed, use-obeys, Used, window-obeys, WindowRules, ends-obey, EndsRules, node-obeys, NodeRules, table-obeys, TableRules}
+use Rattle.tables.specs.Rules.{Use, child, number, unused, left-use, right-use, timed, use-obeys, Used, window-obeys, WindowRules, ends-obey, EndsRules, node-obeys, NodeRules, nodes-obey, table-obeys, TableRules}
 
 pub used : (u : Use) (k x : ℕ) → T (use-obeys u k x) → Used u k x
 used child k x t = ltb→lt x k t
@@ -74,19 +74,19 @@ node-passes n k r =
     (ends-pass (timed (operator (n .kind))) (n .lo) (n .hi) (r .ends))))
 
 pub table-rules : (t : Table) → T (table-obeys t) → TableRules t
-unfolding table-obeys
+unfolding table-obeys nodes-obey
 table-rules t h =
-    let a = and-yes (leb 1 (t .count)) _ h in
-    let b = and-yes (leb (t .count) 64) _ (a .1) in
+    let a = and-yes (leb (t .count) 64) _ h in
+    let b = and-yes (leb 1 (t .count)) _ (a .1) in
     record {
-      some-node = leb→le 1 (t .count) (a .0);
-      few-nodes = leb→le (t .count) 64 (b .0);
+      some-node = leb→le 1 (t .count) (b .0);
+      few-nodes = leb→le (t .count) 64 (a .0);
       each = λ k i. node-rules (node-at (t .nodes) k) k (all-at (λ j. node-obeys (node-at (t .nodes) j) j) (t .count) (b .1) k i);
     }
 
 pub table-passes : (t : Table) → TableRules t → T (table-obeys t)
-unfolding table-obeys
+unfolding table-obeys nodes-obey
 table-passes t r =
-    yes-and (leb 1 (t .count)) _ (le→leb 1 (t .count) (r .some-node))
-    (yes-and (leb (t .count) 64) _ (le→leb (t .count) 64 (r .few-nodes))
+    yes-and (leb (t .count) 64) _ (le→leb (t .count) 64 (r .few-nodes))
+    (yes-and (leb 1 (t .count)) _ (le→leb 1 (t .count) (r .some-node))
     (at-all (λ k. node-obeys (node-at (t .nodes) k) k) (t .count) (λ k i. node-passes (node-at (t .nodes) k) k (r .each k i))))

@@ -3,6 +3,7 @@
 use mathlib.Core.Path.{_≡_}
 use mathlib.Core.Bool.{Bool, true, false, _&&_, _||_}
 use mathlib.Core.Logic.{_⊎_}
+use mathlib.Core.List.{List}
 use Prim.Native.Nat.{ℕ, _≤_, _<_}
 use lib.Dec.{leb, ltb, eqb}
 use lib.ListN.{length}
@@ -86,8 +87,11 @@ pub record NodeRules (n : Node) (k : ℕ) : Type 0 where
   pub ends : EndsRules (timed (operator (n .kind))) (n .lo) (n .hi)
 
 -- 1 to 64 nodes, and every one of them obeys, those that the root doesn't reach included
+unfoldable pub nodes-obey : List Node → ℕ → Bool
+nodes-obey ns n = allBelow (λ k. node-obeys (node-at ns k) k) n
+
 unfoldable pub table-obeys : Table → Bool
-table-obeys t = leb 1 (t .count) && (leb (t .count) 64 && allBelow (λ k. node-obeys (node-at (t .nodes) k) k) (t .count))
+table-obeys t = leb (t .count) 64 && (leb 1 (t .count) && nodes-obey (t .nodes) (t .count))
 
 pub record TableRules (t : Table) : Type 0 where
   pub some-node : 1 ≤ t .count

@@ -1,4 +1,15 @@
-// The requirement table: up to 64 nodes of five numbers each, the root last.
+// The requirement table: up to 64 nodes of five numbers each, the root last; and the tests of its rules, which specs/Rules.antt states.
+// The tests take every number that the types hold: none of them adds to a number.
+ghost use mathlib.Core.Path.{_≡_};
+ghost use Prim.Native.Nat.{_≤_};
+ghost use Rattle.tables.specs.Kind.{operator};
+ghost use Rattle.tables.specs.Rules.{left-use, right-use, timed, use-obeys, window-obeys, ends-obey, node-obeys, nodes-obey, table-obeys};
+
+// A window's ends go up to this.
+pub const LONGEST: u64 = 1_000_000_000;
+
+// `hi` of a window without end.
+pub const NO_END: u64 = 4_294_967_295;
 
 // One node: its kind, its children (for a predicate, the predicate's number in left), and its window's two ends.
 pub struct Node {
@@ -13,4 +24,77 @@ pub struct Node {
 pub struct Table {
     pub nodes: [Node; 64],
     pub count: usize,
+}
+
+// Whether the left number is what the kind asks for: a predicate's number, an earlier node, or nothing.
+fn left_obeys(kind: u64, left: usize, k: usize) -> bool
+    ensures { λ r. ⌜ r ≡ use-obeys (left-use (operator kind)) k left ⌝ }
+{
+    match kind {
+        1 => left <= 15,
+        2..=8 => left < k,
+        _ => left == 0,
+    }
+}
+
+fn right_obeys(kind: u64, right: usize, k: usize) -> bool
+    ensures { λ r. ⌜ r ≡ use-obeys (right-use (operator kind)) k right ⌝ }
+{
+    match kind {
+        3..=6 => right < k,
+        _ => right == 0,
+    }
+}
+
+pub fn window_obeys(lo: u64, hi: u64) -> bool
+    ensures { λ r. ⌜ r ≡ window-obeys lo hi ⌝ }
+{
+    (lo <= LONGEST) & ((hi == NO_END) | ((hi <= LONGEST) & (lo <= hi)))
+}
+
+fn ends_obey(kind: u64, lo: u64, hi: u64) -> bool
+    ensures { λ r. ⌜ r ≡ ends-obey (timed (operator kind)) lo hi ⌝ }
+{
+    match kind {
+        5..=8 => window_obeys(lo, hi),
+        _ => (lo == 0) & (hi == 0),
+    }
+}
+
+// Whether a node may stand at place k.
+pub fn node_obeys(node: Node, k: usize) -> bool
+    ensures { λ r. ⌜ r ≡ node-obeys node k ⌝ }
+{
+    let left = left_obeys(node.kind, node.left, k);
+    let right = right_obeys(node.kind, node.right, k);
+    let ends = ends_obey(node.kind, node.lo, node.hi);
+    (node.kind < 9) & (left & (right & ends))
+}
+
+fn nodes_obey(nodes: [Node; 64], count: usize) -> bool
+    requires { ⌜ count ≤ 64 ⌝ }
+    ensures { λ r. ⌜ r ≡ nodes-obey nodes count ⌝ }
+{
+    let mut ok = true;
+    let mut k = 0;
+    while k < count {
+        let node = nodes[k];
+        let obeys = node_obeys(node, k);
+        ok = ok & obeys;
+        k += 1;
+    }
+    ok
+}
+
+// Refusal 3 as far as it judges the table alone: whether the predicates that it names are set is another question.
+pub fn table_obeys(table: Table) -> bool
+    ensures { λ r. ⌜ r ≡ table-obeys table ⌝ }
+{
+    let count = table.count;
+    if 64 < count {
+        return false;
+    }
+    let nodes = table.nodes;
+    let each = nodes_obey(nodes, count);
+    (1 <= count) & each
 }
