@@ -1,0 +1,33 @@
+-- Refusals 3 to 7, in the order in which they count: what a table and a card are judged by before any margin is taken.
+-- Assumes nothing.
+use mathlib.Core.Bool.{_&&_}
+use mathlib.Core.List.{List, [], _∷_}
+use Prim.Native.Nat.{ℕ}
+use lib.ListN.{length}
+use lib.IntN.{ℤ}
+use Rattle.recordings.specs.declared.Predicate.{Predicate}
+use Rattle.recordings.specs.Card.{Card, rows}
+use Rattle.recordings.specs.Accepted.{Recorded}
+use Rattle.tables.specs.declared.Table.{Table}
+use Rattle.tables.specs.Rules.{table-obeys, TableRules}
+use Rattle.rules.specs.First.{Check}
+use Rattle.rules.specs.Recording.{all-named, Named, channels-obey, lengths-obey, times-obey, values-obey}
+
+-- what the library's callers hand over, as a card
+abbrev pub card : ℕ → List Predicate → List ℕ → List ℤ → Card
+card channels predicates times values = record { channels = channels; times = times; values = values; predicates = predicates }
+
+abbrev pub checks : Card → Table → List Check
+checks c t =
+    record { number = 3; passes = table-obeys t && all-named (c .predicates) (t .nodes) (t .count) }
+    ∷ record { number = 4; passes = channels-obey (c .channels) (c .predicates) }
+    ∷ record { number = 5; passes = lengths-obey (rows c) (length (c .values)) (c .channels) }
+    ∷ record { number = 6; passes = times-obey (c .times) }
+    ∷ record { number = 7; passes = values-obey (c .values) }
+    ∷ []
+
+-- none of them applies
+pub record Sound (c : Card) (t : Table) : Type 0 where
+  pub ruled : TableRules t
+  pub named : Named c t
+  pub recorded : Recorded c
