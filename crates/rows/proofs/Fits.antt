@@ -1,0 +1,63 @@
+-- Values and ends lie within 1,000,000,000, so distances lie within TOP: each sum, difference and negative that is taken of them fits 64 bits.
+-- Assumes nothing.
+use mathlib.Core.Path.{_≡_, refl, _∙_}
+use mathlib.Core.Bool.{true, false}
+use native.Mathlib.Omega.{arith}
+use lib.IntN.{ℤ, pos, negℤ, sucℤ, _+ℤ_, _-ℤ_}
+use lib.Signed.{ltZ, leZ}
+use mir.Syntax.{w64}
+use mir.Val.{SFits}
+use Rattle.numbers.specs.Order.{Within}
+use Rattle.numbers.proofs.Parts.{parts-eq, add-parts, suc-parts, within-neg, within-more, within-diff, within-suc, within-either, within-fits}
+use Rattle.numbers.proofs.Bits.{back, back-is}
+use Rattle.recordings.specs.declared.Range.{Range}
+use Rattle.recordings.specs.declared.Range.the-variants.{Unset, Free, AtLeast, AtMost, Between}
+use Rattle.recordings.specs.Distance.{TOP, clearance, distance}
+use Rattle.recordings.specs.Accepted.{InRange, Ends}
+
+pub plus-one : (z : ℤ) → z +ℤ pos 1 ≡ sucℤ z
+plus-one z = parts-eq _ _ (omega (arith, add-parts z (pos 1), suc-parts z))
+
+pub fit : {z : ℤ} → InRange z → SFits w64 z
+fit h = within-fits (omega arith) h
+
+pub in-back : {z : ℤ} → InRange z → InRange (back z)
+in-back h = rw (back-is (fit h)) h
+
+pub top-fits : {z : ℤ} → Within TOP z → SFits w64 z
+top-fits h = within-fits (omega arith) h
+
+pub apart-fits : {a b : ℤ} → InRange a → InRange b → SFits w64 (b -ℤ a)
+apart-fits h k = within-fits (omega arith) (within-diff k h)
+
+pub more-fits : {a b : ℤ} → InRange a → InRange b → SFits w64 (sucℤ (b -ℤ a))
+more-fits h k = within-fits (omega arith) (within-suc (within-diff k h))
+
+-- ---- the two arms of the clearance, and a clearance of numbers that were read back
+pub clearance-kept : (a b : ℤ) {d : ℤ} → InRange a → InRange b → d ≡ b -ℤ a → leZ a b ≡ true → back (d +ℤ pos 1) ≡ clearance a b
+clearance-kept a b h k e t = rw (e, plus-one (b -ℤ a), back-is (more-fits h k), t) refl
+
+pub clearance-lost : (a b : ℤ) {d : ℤ} → d ≡ b -ℤ a → leZ a b ≡ false → d ≡ clearance a b
+clearance-lost a b e t = rw (e, t) refl
+
+pub clearance-back : (a b : ℤ) {r : ℤ} → InRange a → InRange b → r ≡ clearance (back a) (back b) → r ≡ clearance a b
+clearance-back a b h k e = e ∙ rw (back-is (fit h), back-is (fit k)) refl
+
+pub difference-back : (a b : ℤ) {r : ℤ} → InRange a → InRange b → r ≡ back b -ℤ back a → r ≡ b -ℤ a
+difference-back a b h k e = e ∙ rw (back-is (fit h), back-is (fit k)) refl
+
+clearance-within : {a b : ℤ} → InRange a → InRange b → Within TOP (clearance a b)
+clearance-within {a} {b} h k =
+    within-either (leZ a b) (within-more (omega arith) (within-diff k h)) (within-more (omega arith) (within-suc (within-diff k h)))
+
+-- no distance is further from zero than TOP
+pub distance-within : (r : Range) (v : ℤ) → Ends r → InRange v → Within TOP (distance TOP r v)
+distance-within Unset v e h = record { size = omega arith }
+distance-within Free v e h = record { size = omega arith }
+distance-within (AtLeast lo) v e h = clearance-within e h
+distance-within (AtMost hi) v e h = clearance-within h e
+distance-within (Between lo hi) v e h = within-either (ltZ (clearance v hi) (clearance lo v)) (clearance-within (e .0) h) (clearance-within h (e .1))
+
+-- what stands at a value's place, its distance negated
+pub distance-fits : (r : Range) (v : ℤ) {d : ℤ} → Ends r → InRange v → d ≡ distance TOP r v → SFits w64 (negℤ d)
+distance-fits r v e h p = rw p (top-fits (within-neg (distance-within r v e h)))

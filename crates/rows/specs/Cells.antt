@@ -1,0 +1,42 @@
+-- Rows of cells: with n places to a row, row r owns the cells from r × n on.
+-- Assumes nothing.
+use mathlib.Core.Bool.{Bool, true, false}
+use mathlib.Core.List.{List}
+use Prim.Native.Nat.{ℕ, _+_, _*_, _≤_, _<_}
+use lib.IntN.{ℤ, pos, negℤ}
+use lib.ListN.{length, getD}
+use Rattle.numbers.specs.Order.{Within}
+use Rattle.logic.specs.Formula.{Extremum, largest, smallest}
+use Rattle.recordings.specs.Distance.{TOP}
+use Rattle.recordings.specs.Accepted.{InRange, Ends}
+use Rattle.recordings.specs.declared.Predicate.{Predicate}
+
+-- the value of row r at place i
+abbrev pub cell : List ℤ → ℕ → ℕ → ℕ → ℤ
+cell w n r i = getD w (r * n + i) (pos 0)
+
+-- the code's flag for "or", until and eventually against "and", release and always
+abbrev pub extremum-of : Bool → Extremum
+extremum-of true = largest
+extremum-of false = smallest
+
+-- what a leaf has, or, where it is denied, what its negation has
+abbrev pub signed : Bool → ℤ → ℤ
+signed true z = z
+signed false z = negℤ z
+
+-- a row that is filled from an earlier row
+pub record Above (w : List ℤ) (n child row : ℕ) : Type 0 where
+  pub earlier : child < row
+  pub room : row * n + n ≤ length w
+
+-- its values can be negated
+pub record Bounded (w : List ℤ) (n child : ℕ) : Type 0 where
+  pub bounded : (i : ℕ) → i < n → Within TOP (cell w n child i)
+
+-- the recording has what a predicate reads: its channel at every place, all in range
+pub record Leaf (values : List ℤ) (channels : ℕ) (p : Predicate) (n : ℕ) : Type 0 where
+  pub known : p .channel < channels
+  pub ends : Ends (p .range)
+  pub all-values : n * channels ≤ length values
+  pub in-range : (m : ℕ) → m < length values → InRange (getD values m (pos 0))

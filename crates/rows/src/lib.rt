@@ -1,0 +1,210 @@
+// The cells of one node from the recording or from its children's cells. With `rows` places to a row, row r of the work slice owns the cells from
+// r × rows on. A margin has one row for each node; a verdict has two.
+ghost use mathlib.Core.Path.{_≡_};
+ghost use Prim.Native.Nat.{ℕ, _+_, _*_, _≤_, _<_};
+ghost use lib.IntN.{pos, negℤ};
+ghost use lib.Signed.{leZ};
+ghost use mir.Syntax.{w64};
+ghost use mir.Val.{SFits};
+ghost use lib.ListN.{length, getD};
+ghost use Rattle.lists.specs.Fill.{fill};
+ghost use Rattle.logic.specs.Formula.{smallest};
+ghost use Rattle.logic.specs.Reading.{margin-extreme, margin-nothing};
+ghost use Rattle.recordings.specs.Distance.{TOP, clearance, distance};
+ghost use Rattle.recordings.specs.Accepted.{InRange, Ends};
+ghost use Rattle.rows.specs.Cells.{cell, extremum-of, signed, Above, Bounded, Leaf};
+use recordings::Predicate;
+use recordings::Range;
+
+// No margin is further from zero.
+const TOP: i64 = 4_000_000_000;
+
+const BOTTOM: i64 = -4_000_000_000;
+
+// The larger of two, or the smaller.
+pub fn extreme(largest: bool, a: i64, b: i64) -> i64
+    ensures { λ r. ⌜ r ≡ margin-extreme (extremum-of largest) a b ⌝ }
+{
+    if largest {
+        numbers::larger(a, b)
+    } else {
+        numbers::smaller(a, b)
+    }
+}
+
+// The largest over nothing, or the smallest.
+pub fn over_nothing(largest: bool) -> i64
+    ensures { λ r. ⌜ r ≡ margin-nothing TOP (extremum-of largest) ⌝ }
+{
+    if largest { BOTTOM } else { TOP }
+}
+
+// The value of a row at place i.
+pub fn cell_at(work: &[i64], rows: usize, row: usize, i: usize) -> i64
+    requires { ⌜ row * rows + i < length (now work) ⌝ }
+    ensures { λ r. ⌜ r ≡ cell (now (work .entry)) rows row i ⌝ }
+{
+    work[row * rows + i]
+}
+
+// Whether a is not above b.
+pub fn at_most(a: i64, b: i64) -> bool
+    ensures { λ r. ⌜ r ≡ leZ a b ⌝ }
+{
+    a <= b
+}
+
+// How far b is from falling below a, counted from 1, or minus how far it is below.
+fn clearance_of(a: i64, b: i64) -> i64
+    requires { ⌜ InRange a × InRange b ⌝ }
+    ensures { λ r. ⌜ r ≡ clearance a b ⌝ }
+{
+    let apart = numbers::difference(b, a);
+    let kept = at_most(a, b);
+    if kept { apart + 1 } else { apart }
+}
+
+// The distance of a value from a range.
+pub fn distance_of(range: Range, value: i64) -> i64
+    requires { ⌜ InRange value × Ends range ⌝ }
+    ensures { λ r. ⌜ r ≡ distance TOP range value ⌝ }
+{
+    match range {
+        Range::Unset => TOP,
+        Range::Free => TOP,
+        Range::AtLeast(lo) => clearance_of(lo, value),
+        Range::AtMost(hi) => clearance_of(value, hi),
+        Range::Between(lo, hi) => numbers::smaller(
+            clearance_of(lo, value),
+            clearance_of(value, hi),
+        ),
+    }
+}
+
+// A leaf's value, or that of its negation.
+fn signed_of(affirmed: bool, a: i64) -> i64
+    requires { ⌜ SFits w64 (negℤ a) ⌝ }
+    ensures { λ r. ⌜ r ≡ signed affirmed a ⌝ }
+{
+    if affirmed { a } else { numbers::negated(a) }
+}
+
+// The first `rows` places of a part, all with one value.
+fn fill_same(part: &mut [i64], rows: usize, value: i64)
+    requires { ⌜ rows ≤ length (now part) ⌝ }
+    ensures { λ _. ⌜ now (part .exit) ≡ fill 0 rows (λ i. value) (now (part .entry)) ⌝ }
+{
+    let mut i = 0;
+    while i < rows {
+        part[i] = value;
+        i += 1;
+    }
+}
+
+// The row of true, or of its negation.
+pub fn true_row(work: &mut [i64], rows: usize, affirmed: bool, row: usize)
+    requires { ⌜ row * rows + rows ≤ length (now work) ⌝ }
+    ensures { λ _. ⌜ now (work .exit) ≡ fill (row * rows) rows (λ i. signed affirmed (margin-nothing TOP smallest)) (now (work .entry)) ⌝ }
+{
+    let from = row * rows;
+    let value = signed_of(affirmed, TOP);
+    fill_same(&mut work[from..], rows, value);
+}
+
+// The first `rows` places of a part, with a channel's distances from a range.
+fn fill_distances(
+    part: &mut [i64],
+    values: &[i64],
+    channels: usize,
+    predicate: Predicate,
+    rows: usize,
+    affirmed: bool,
+)
+    requires { ⌜ rows ≤ length (now part) ⌝ }
+    requires { ⌜ Leaf (now values) channels predicate rows ⌝ }
+    ensures { λ _. ⌜ now (part .exit) ≡ fill 0 rows (λ i. signed affirmed (distance TOP (predicate .range) (getD (now (values .entry)) (i * channels + predicate .channel) (pos 0)))) (now (part .entry)) ⌝ }
+{
+    let channel = predicate.channel;
+    let range = predicate.range;
+    let mut i = 0;
+    while i < rows {
+        let value = values[i * channels + channel];
+        let far = distance_of(range, value);
+        part[i] = signed_of(affirmed, far);
+        i += 1;
+    }
+}
+
+// The row of a predicate, or of its negation.
+pub fn predicate_row(
+    work: &mut [i64],
+    values: &[i64],
+    channels: usize,
+    predicate: Predicate,
+    rows: usize,
+    affirmed: bool,
+    row: usize,
+)
+    requires { ⌜ row * rows + rows ≤ length (now work) ⌝ }
+    requires { ⌜ Leaf (now values) channels predicate rows ⌝ }
+    ensures { λ _. ⌜ now (work .exit) ≡ fill (row * rows) rows (λ i. signed affirmed (distance TOP (predicate .range) (getD (now (values .entry)) (i * channels + predicate .channel) (pos 0)))) (now (work .entry)) ⌝ }
+{
+    let from = row * rows;
+    fill_distances(
+        &mut work[from..],
+        values,
+        channels,
+        predicate,
+        rows,
+        affirmed,
+    );
+}
+
+// The row of "not": minus the child's.
+pub fn negated_row(work: &mut [i64], rows: usize, child: usize, row: usize)
+    requires { ⌜ Above (now work) rows child row × Bounded (now work) rows child ⌝ }
+    ensures { λ _. ⌜ now (work .exit) ≡ fill (row * rows) rows (λ i. negℤ (cell (now (work .entry)) rows child i)) (now (work .entry)) ⌝ }
+{
+    let base = row * rows;
+    let mut i = 0;
+    while i < rows {
+        let value = cell_at(work, rows, child, i);
+        work[base + i] = numbers::negated(value);
+        i += 1;
+    }
+}
+
+// A row that another row's values are copied to.
+pub fn copied_row(work: &mut [i64], rows: usize, child: usize, row: usize)
+    requires { ⌜ Above (now work) rows child row ⌝ }
+    ensures { λ _. ⌜ now (work .exit) ≡ fill (row * rows) rows (cell (now (work .entry)) rows child) (now (work .entry)) ⌝ }
+{
+    let base = row * rows;
+    let mut i = 0;
+    while i < rows {
+        work[base + i] = cell_at(work, rows, child, i);
+        i += 1;
+    }
+}
+
+// The row of "or", or of "and".
+pub fn joined_row(
+    work: &mut [i64],
+    rows: usize,
+    largest: bool,
+    left: usize,
+    right: usize,
+    row: usize,
+)
+    requires { ⌜ Above (now work) rows left row × Above (now work) rows right row ⌝ }
+    ensures { λ _. ⌜ now (work .exit) ≡ fill (row * rows) rows (λ i. margin-extreme (extremum-of largest) (cell (now (work .entry)) rows left i) (cell (now (work .entry)) rows right i)) (now (work .entry)) ⌝ }
+{
+    let base = row * rows;
+    let mut i = 0;
+    while i < rows {
+        let first = cell_at(work, rows, left, i);
+        let second = cell_at(work, rows, right, i);
+        work[base + i] = extreme(largest, first, second);
+        i += 1;
+    }
+}
