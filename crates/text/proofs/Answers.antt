@@ -3,16 +3,16 @@
 use mathlib.Core.Path.{_≡_, refl, sym, ap, _∙_}
 use mathlib.Core.List.{List, [], _∷_, _++_}
 use mathlib.Core.Bool.{Bool, true, false, cond}
-use Prim.Native.Nat.{ℕ, _+_, _-_, _≤_, _<_}
+use Prim.Native.Nat.{ℕ, _+_, _-_, _^_, _≤_, _<_}
 use native.Mathlib.Omega.{arith}
-use lib.ListN.{length, drop, length-append, length-drop}
+use lib.ListN.{length, getD, drop, length-append, length-drop}
 use lib.Seq.{drop-drop}
 use lib.IntN.{ℤ, pos, negℤ}
 use lib.Dec.{leb, eqb}
 use borrow.Author.Tests.{le-leb, leb-true}
 use Rattle.text.specs.Bytes.{bytes}
 use Rattle.text.specs.Mark.{prefixOf, keyAt, markAt, afterMark}
-use Rattle.text.specs.Number.{largestSigned, numberAt, fieldAt, signedAt, signedFieldAt, afterNumber}
+use Rattle.text.specs.Number.{isDigit, largestSigned, numberAt, fieldAt, signedAt, signedFieldAt, afterNumber, afterSigned}
 use Rattle.text.specs.declared.Mark.{Mark}
 use Rattle.text.specs.declared.Mark.the-variants.{Next, Bad as Mark·Bad}
 use Rattle.text.specs.declared.Field.{Field}
@@ -20,9 +20,10 @@ use Rattle.text.specs.declared.Field.the-variants.{Number, Bad}
 use Rattle.text.specs.declared.signed.Field.{Field as Signed}
 use Rattle.text.specs.declared.signed.Field.the-variants.{Number as Signed·Number, Bad as Signed·Bad}
 use Rattle.text.proofs.Tests.{both, never}
-use Rattle.text.proofs.Places.{Between}
+use Rattle.text.specs.Numeral.{Numeral}
+use Rattle.text.proofs.Places.{Between, after-bytes}
 use Rattle.text.proofs.Marks.{key-inside, prefix-split, prefix-append}
-use Rattle.text.proofs.Numerals.{Numbered, number-is}
+use Rattle.text.proofs.Numerals.{Numbered, number-is, number-made}
 
 -- a mark that was read: its bytes stand there
 pub mark-is : (key s : List ℕ) (at n : ℕ) → markAt key s at ≡ Next n → Between s at n key
@@ -114,3 +115,30 @@ signed-field-is key s at v n h = go (markAt key s at) refl h
     go : (m : Mark) → markAt key s at ≡ m → afterMark m (λ k. signedAt s k) Signed·Bad ≡ Signed·Number v n → (m : ℕ) × Between s at m key × SignedIs s m v n
     go (Next m) e g = (m, mark-is key s at m e, signed-is s m v n g)
     go Mark·Bad e g = let z : _≡_ {A = ℕ} 0 1 = cc in absurd (omega arith)
+
+-- an answer y that is not the one of a missing mark, or number, comes from what follows it
+module _ {A : Type 0} (bad y : A) (ne : bad ≡ y → ⊥) where
+  pub mark-taken : (m : Mark) (f : ℕ → A) → afterMark m f bad ≡ y → (k : ℕ) × (m ≡ Next k) × (f k ≡ y)
+  mark-taken (Next k) f h = (k, refl, h)
+  mark-taken Mark·Bad f h = absurd (ne h)
+
+  pub number-taken : (x : Field) (f : ℕ → ℕ → A) → afterNumber x f bad ≡ y → (v : ℕ) × (k : ℕ) × (x ≡ Number v k) × (f v k ≡ y)
+  number-taken (Number v k) f h = (v, k, refl, h)
+  number-taken Bad f h = absurd (ne h)
+
+  pub signed-taken : (x : Signed) (f : ℤ → ℕ → A) → afterSigned x f bad ≡ y → (v : ℤ) × (k : ℕ) × (x ≡ Signed·Number v k) × (f v k ≡ y)
+  signed-taken (Signed·Number v k) f h = (v, k, refl, h)
+  signed-taken Signed·Bad f h = absurd (ne h)
+
+-- a key and a numeral within the bound that no digit follows are read
+pub field-made : (key s : List ℕ) (at max v : ℕ) (w r : List ℕ) → 0 < length key → drop at s ≡ key ++ (w ++ r) → Numeral w v → v ≤ max → max < 10 ^ 10
+    → isDigit (getD r 0 0) ≡ false → fieldAt key s at max ≡ Number v (at + length key + length w)
+unfolding fieldAt
+field-made key s at max v w r p e n l m f =
+    rw (mark-made key s (w ++ r) at p e) (number-made s (at + length key) max v w r (after-bytes s at key (w ++ r) e) n l m f)
+
+-- where another byte stands, or none, a key that begins with c is missing
+pub mark-first : (c : ℕ) (ks s : List ℕ) (at : ℕ) (l : List ℕ) → drop at s ≡ l → eqb (getD l 0 0) c ≡ false → markAt (c ∷ ks) s at ≡ Mark·Bad
+unfolding prefixOf
+mark-first c ks s at [] e h = mark-missing (c ∷ ks) s at e refl
+mark-first c ks s at (b ∷ l) e h = mark-missing (c ∷ ks) s at e (rw h)

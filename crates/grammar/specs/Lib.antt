@@ -1,0 +1,4 @@
+pub mod Operators
+pub mod Tree
+pub mod Grammar
+pub mod Reading

@@ -1,0 +1,31 @@
+-- Requirements as trees: what a text says, before its nodes have numbers.
+use Prim.Native.Nat.{ℕ, _+_}
+use Rattle.grammar.specs.declared.Span.{Span}
+
+-- a window's ends, and those of a kind without a window
+abbrev pub span : ℕ → ℕ → Span
+span lo hi = record { lo = lo; hi = hi }
+
+abbrev pub noSpan : Span
+noSpan = span 0 0
+
+-- the high end that stands for no end, and the limit of the others
+abbrev pub noEnd : ℕ
+noEnd = 4_294_967_295
+
+abbrev pub furthest : ℕ
+furthest = 1_000_000_000
+
+-- true, a predicate, or a kind with its window over one or two requirements
+pub data Tree : Type 0 where
+  truth : Tree
+  predicate : ℕ → Tree
+  one : ℕ → Span → Tree → Tree
+  two : ℕ → Span → Tree → Tree → Tree
+
+-- how many nodes a tree has; parentheses make none
+unfoldable pub size : Tree → ℕ
+size truth = 1
+size (predicate p) = 1
+size (one k w a) = size a + 1
+size (two k w a b) = size a + size b + 1

@@ -1,0 +1,20 @@
+// What the pieces of a requirement text are, before they are put together: windows and the operators that carry one.
+
+// A window's two ends. Kinds without a window have both at 0.
+pub struct Span {
+    pub lo: u64,
+    pub hi: u64,
+}
+
+// A window and the place after it.
+pub enum Window {
+    Ends(Span, usize),
+    Bad,
+}
+
+// An operator that stands at a place: its kind, its window and the place after it. Bad is a letter without its window.
+pub enum Operator {
+    Absent,
+    Over(u64, Span, usize),
+    Bad,
+}
