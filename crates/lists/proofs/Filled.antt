@@ -10,7 +10,7 @@ use mathlib.Core.List.{List, [], _∷_, _++_}
 use lib.ListN.{length, getD, set, take, drop, length-set, length-take, length-drop}
 use borrow.Rule.Slice.PartMut.{midOf, postOf, putMid, put-same}
 use lib.Seq.{set-append-left, getD-set-same, getD-set-other, length-take-le}
-use Rattle.lists.specs.Fill.{fill}
+use Rattle.lists.specs.Fill.{fill, fill-rows}
 
 module _ {X : Type 0} where
   pub length-fill : (b n : ℕ) (f : ℕ → X) (w : List X) → length (fill b n f w) ≡ length w
@@ -86,3 +86,35 @@ module _ {X : Type 0} where
 -- the places of an earlier row stand before those of row k
 pub earlier-row : (a k rows : ℕ) → a < k → a * rows + rows ≤ k * rows
 earlier-row a k rows h = omega (arith, mul-le-mul-right rows h)
+
+-- ---- rows
+module _ {X : Type 0} (n : ℕ) (f : ℕ → ℕ → X) where
+  pub length-rows : (r : ℕ) (w : List X) → length (fill-rows n f r w) ≡ length w
+  unfolding fill-rows
+  length-rows zero w = refl
+  length-rows (suc r) w = length-fill (r * n) n (f r) (fill-rows n f r w) ∙ length-rows r w
+
+  -- place i of row q
+  pub rows-in : (r : ℕ) (w : List X) (q i : ℕ) (d : X) → q < r → i < n → r * n ≤ length w → getD (fill-rows n f r w) (q * n + i) d ≡ f q i
+  unfolding fill-rows
+  rows-in zero w q i d h k l = absurd (omega arith)
+  rows-in (suc r) w q i d h k l = go (decLt q r) (λ p. rows-in r w q i d p k (omega (arith, earlier-row r (suc r) n (omega arith))))
+    where
+      go : Dec (q < r) → (q < r → getD (fill-rows n f r w) (q * n + i) d ≡ f q i) → getD (fill (r * n) n (f r) (fill-rows n f r w)) (q * n + i) d ≡ f q i
+      go (yes p) e = fill-out (r * n) n (f r) (fill-rows n f r w) (q * n + i) d (λ a b. omega (arith, earlier-row q r n p)) ∙ e p
+      go (no p) e =
+          let z : q ≡ r = omega arith in
+          rw z (fill-in (r * n) n (f r) (fill-rows n f r w) i d k (omega (arith, length-rows r w, earlier-row r (suc r) n (omega arith))))
+
+  -- a place behind the rows
+  pub rows-out : (r : ℕ) (w : List X) (m : ℕ) (d : X) → r * n ≤ m → getD (fill-rows n f r w) m d ≡ getD w m d
+  unfolding fill-rows
+  rows-out zero w m d h = refl
+  rows-out (suc r) w m d h =
+      let l = earlier-row r (suc r) n (omega arith) in
+      fill-out (r * n) n (f r) (fill-rows n f r w) m d (λ a b. omega arith) ∙ rows-out r w m d (omega arith)
+
+  -- one row more, as a loop over the rows fills it
+  pub rows-next : (r : ℕ) (w : List X) {l : List X} → l ≡ fill-rows n f r w → fill (r * n) n (f r) l ≡ fill-rows n f (r + 1) w
+  unfolding fill-rows
+  rows-next r w e = rw (add-one r, e) refl
