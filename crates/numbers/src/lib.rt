@@ -1,7 +1,7 @@
 // The smaller and the larger of two signed 64-bit numbers, their difference, and a number's negative.
 // Only these functions compare or subtract margins, so that no proof above them sees how a sign is stored.
 ghost use mathlib.Core.Path.{_≡_};
-ghost use lib.IntN.{negℤ, _-ℤ_};
+ghost use lib.IntN.{negℤ, _-ℤ_, natAbs};
 ghost use mir.Syntax.{w64};
 ghost use mir.Val.{SFits};
 ghost use Rattle.numbers.specs.Order.{smallerOf, largerOf};
@@ -30,4 +30,16 @@ pub fn difference(a: i64, b: i64) -> i64
     ensures { λ r. ⌜ r ≡ a -ℤ b ⌝ }
 {
     a - b
+}
+
+// The number without its sign. The least number's is one more than any signed number, so it is taken in two steps.
+pub fn magnitude(a: i64) -> u64
+    ensures { λ r. ⌜ r ≡ natAbs a ⌝ }
+{
+    if a < 0 {
+        let less = -(a + 1);
+        (less as u64) + 1
+    } else {
+        a as u64
+    }
 }

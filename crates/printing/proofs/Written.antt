@@ -1,0 +1,45 @@
+-- Bytes written one after the other are the bytes written together, and a line with room for them says them.
+-- Assumes nothing.
+use mathlib.Core.Path.{_≡_, refl, sym, ap, _∙_}
+use mathlib.Core.Bool.{Bool, true, false, cond}
+use mathlib.Core.List.{List, [], _∷_, _++_, append-assoc, append-nil}
+use Prim.Native.Nat.{ℕ, zero, suc, _+_, _≤_, _<_}
+use native.Mathlib.Omega.{arith}
+use native.Mathlib.Numerals.{add-one}
+use lib.Seq.{take-suc, take-suc-set}
+use lib.Dec.{ltb}
+use lib.ListN.{length, set, take, getD, length-set}
+use borrow.Author.Tests.{lt-ltb, le-ltb}
+use Rattle.printing.specs.declared.Line.{Line}
+use Rattle.printing.specs.Line.{written, text-of, blank-line}
+
+pub written-append : (l : Line) (a b : List ℕ) → written l (a ++ b) ≡ written (written l a) b
+unfolding written
+written-append l [] b = refl
+written-append l (x ∷ a) b = written-append _ a b
+
+pub written-none : (l : Line) → l ≡ written l []
+unfolding written
+written-none l = refl
+
+-- one byte, where there is room and where there is none
+pub written-room : (l : Line) (b : ℕ) → l .len < 128 → record { bytes = set (l .bytes) (l .len) b; len = l .len + 1 } ≡ written l (b ∷ [])
+unfolding written
+written-room l b h = rw (lt-ltb (l .len) 128 h)
+
+pub written-full : (l : Line) (b : ℕ) → 128 ≤ l .len → l ≡ written l (b ∷ [])
+unfolding written
+written-full l b h = rw (le-ltb (l .len) 128 h)
+
+-- one byte more of a word
+pub written-next : (w : List ℕ) (i : ℕ) (l : Line) {m : Line} → i < length w → m ≡ written l (take i w) → written m (getD w i 0 ∷ []) ≡ written l (take (i + 1) w)
+written-next w i l {m} h e = rw (add-one i, take-suc w i 0 h, written-append l (take i w) (getD w i 0 ∷ []), e) refl
+
+-- a line with room for some bytes says them after its own
+pub written-says : (l : Line) (bs : List ℕ) → length (l .bytes) ≡ 128 → l .len + length bs ≤ 128 → text-of (written l bs) ≡ text-of l ++ bs
+unfolding written
+written-says l [] h k = sym (append-nil (text-of l))
+written-says l (b ∷ bs) h k =
+    ap text-of (written-append l (b ∷ []) bs ∙ ap (λ (m : Line). written m bs) (sym (written-room l b (omega arith))))
+    ∙ written-says (record { bytes = set (l .bytes) (l .len) b; len = l .len + 1 }) bs (rw length-set h) (omega arith)
+    ∙ rw (add-one (l .len), take-suc-set (l .bytes) (l .len) b (omega arith), append-assoc (text-of l) (b ∷ []) bs) refl

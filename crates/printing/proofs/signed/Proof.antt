@@ -1,0 +1,57 @@
+-- The branch's test says whether a sign stands there.
+-- Assumes nothing.
+use mathlib.Core.Path.{_≡_}
+use mathlib.Core.Bool.{true, false}
+use lib.IntN.{pos, natAbs}
+use lib.Signed.{ltZ}
+use mir.Facts.{toZ-ofZ}
+use borrow.Author.Needs.{needs}
+use Rattle.text.specs.Bytes.{bytes}
+use Rattle.printing.specs.Decimal.{decimal}
+use Rattle.printing.proofs.Written.{written-append}
+use Rattle.printing.proofs.Decimal.{signed-minus, signed-plain}
+use Rattle.printing.proofs.signed.Statement.{statement}
+use Rattle.printing.proofs.signed.Tie as tie
+
+magnitude-requires : tie.Need-magnitude-requires
+magnitude-requires c κs = search needs
+
+slice-aggregate-word : tie.Need-slice-aggregate-word
+slice-aggregate-word c = search needs
+
+word-requires : tie.Need-word-requires
+word-requires c κs = search needs
+
+number-requires : tie.Need-number-requires
+number-requires c κs = search needs
+
+number-requires-2 : tie.Need-number-requires-2
+number-requires-2 c κs = search needs
+
+returns : tie.Need-returns
+returns c =
+    let s = c .before .before .before .before .before in
+    let f = s .fits .v in
+    let e : ltZ (s .args .v) (pos 0) ≡ true = simp toZ-ofZ at (c .before .before .before .if1 .taken) in
+    let m : c .before .before .before .before .magnitude .result ≡ natAbs (s .args .v) = simp toZ-ofZ at (c .before .before .before .before .magnitude .ensures) in
+    rw (signed-minus (s .args .v) e, written-append (s .args .line) (bytes "-") (decimal (natAbs (s .args .v))), ← m, ← c .before .word .ensures) (c .number .ensures)
+
+returns-2 : tie.Need-returns-2
+returns-2 c =
+    let s = c .before .before .before in
+    let f = s .fits .v in
+    let e : ltZ (s .args .v) (pos 0) ≡ false = simp toZ-ofZ at (c .before .if1 .left) in
+    let m : c .before .before .magnitude .result ≡ natAbs (s .args .v) = simp toZ-ofZ at (c .before .before .magnitude .ensures) in
+    rw (signed-plain (s .args .v) e, ← m) (c .number2 .ensures)
+
+pub signed-spec : {M : Type 1} → statement M
+signed-spec =
+    tie.close
+    (tie.spec
+    magnitude-requires
+    slice-aggregate-word
+    word-requires
+    number-requires
+    number-requires-2
+    returns
+    returns-2)
