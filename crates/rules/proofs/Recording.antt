@@ -14,7 +14,7 @@ use lib.IntN.{ℤ, pos, negℤ}
 use lib.Signed.{leZ}
 use mir.Facts.{and-yes, yes-and, or-yes, yes-eqb}
 use Rattle.numbers.specs.Order.{Within}
-use Rattle.numbers.proofs.Parts.{plus, minus, le-parts, parts-le, parts-apart, abs-parts}
+use Rattle.numbers.proofs.Parts.{plus, minus, holds, le-parts, parts-le, parts-apart, abs-parts}
 use Rattle.lists.specs.Fold.{allBelow}
 use Rattle.lists.proofs.Below.{yes-or, all-at, at-all}
 use Rattle.recordings.specs.declared.Predicate.{Predicate}
@@ -70,11 +70,13 @@ named-passes c t r = at-all (λ j. names-set (c .predicates) (node-at (t .nodes)
 
 -- ---- 4
 pub value-in-range : (v : ℤ) → T (value-obeys v) → InRange v
+unfolding value-obeys
 value-in-range v t =
     let a = and-yes (leZ (negℤ (pos 1_000_000_000)) v) (leZ v (pos 1_000_000_000)) t in
     record { size = omega (arith, le-parts (negℤ (pos 1_000_000_000)) v (a .0), le-parts v (pos 1_000_000_000) (a .1), parts-apart v, abs-parts v) }
 
 pub in-range-passes : (v : ℤ) → InRange v → T (value-obeys v)
+unfolding value-obeys
 in-range-passes v r =
     yes-and (leZ (negℤ (pos 1_000_000_000)) v) (leZ v (pos 1_000_000_000))
     (parts-le (negℤ (pos 1_000_000_000)) v (omega (arith, r .size, abs-parts v)))
@@ -119,7 +121,7 @@ proper-passes channels p r =
     (ends-pass (p .range) (r .ends))
 
 pub channels-are : (c : Card) → length (c .predicates) ≤ 16 → T (channels-obey (c .channels) (c .predicates)) → Channels c
-unfolding predicates-obey
+unfolding predicates-obey channels-obey
 channels-are c l t =
     let a = and-yes (leb 1 (c .channels)) (leb (c .channels) 8 && predicates-obey (c .channels) (c .predicates) 16) t in
     let b = and-yes (leb (c .channels) 8) (predicates-obey (c .channels) (c .predicates) 16) (a .1) in
@@ -133,27 +135,43 @@ channels-are c l t =
     }
 
 pub channels-pass : (c : Card) → Channels c → T (channels-obey (c .channels) (c .predicates))
-unfolding predicates-obey
+unfolding predicates-obey channels-obey
 channels-pass c r =
     yes-and (leb 1 (c .channels)) (leb (c .channels) 8 && predicates-obey (c .channels) (c .predicates) 16) (le→leb 1 (c .channels) (r .some-channel))
     (yes-and (leb (c .channels) 8) (predicates-obey (c .channels) (c .predicates) 16) (le→leb (c .channels) 8 (r .few-channels))
     (at-all (λ q. predicate-obeys (c .channels) (predicate-at (c .predicates) q)) 16 (λ p i. proper-passes (c .channels) (predicate c p) (r .proper p))))
 
+-- what the test of the lengths may rely on
+pub few-channels : (channels : ℕ) (ps : List Predicate) → channels-obey channels ps ≡ true → channels ≤ 8
+unfolding channels-obey
+few-channels channels ps e =
+    let a = and-yes (leb 1 channels) (leb channels 8 && predicates-obey channels ps 16) (holds e) in
+    leb→le channels 8 (and-yes (leb channels 8) (predicates-obey channels ps 16) (a .1) .0)
+
 -- ---- 5
 pub lengths-are : (c : Card) → T (lengths-obey (rows c) (length (c .values)) (c .channels)) → Lengths c
+unfolding lengths-obey
 lengths-are c t =
     let a = and-yes (leb (rows c) 4_096) (leb 1 (rows c) && eqb (length (c .values)) (rows c * c .channels)) t in
     let b = and-yes (leb 1 (rows c)) (eqb (length (c .values)) (rows c * c .channels)) (a .1) in
     record { some-row = leb→le 1 (rows c) (b .0); few-rows = leb→le (rows c) 4_096 (a .0); all-values = eqb→eq (length (c .values)) (rows c * c .channels) (b .1) }
 
 pub lengths-pass : (c : Card) → Lengths c → T (lengths-obey (rows c) (length (c .values)) (c .channels))
+unfolding lengths-obey
 lengths-pass c r =
     yes-and (leb (rows c) 4_096) (leb 1 (rows c) && eqb (length (c .values)) (rows c * c .channels)) (le→leb (rows c) 4_096 (r .few-rows))
     (yes-and (leb 1 (rows c)) (eqb (length (c .values)) (rows c * c .channels)) (le→leb 1 (rows c) (r .some-row)) (yes-eqb (r .all-values)))
 
+-- what the test of the times may rely on
+pub some-row : (rows values channels : ℕ) → lengths-obey rows values channels ≡ true → 1 ≤ rows
+unfolding lengths-obey
+some-row rows values channels e =
+    let a = and-yes (leb rows 4_096) (leb 1 rows && eqb values (rows * channels)) (holds e) in
+    leb→le 1 rows (and-yes (leb 1 rows) (eqb values (rows * channels)) (a .1) .0)
+
 -- ---- 6
 pub times-are : (c : Card) → T (times-obey (c .times)) → Times c
-unfolding all-rising all-early
+unfolding all-rising all-early times-obey
 times-are c t =
     let a = and-yes (all-rising (c .times) (rows c - 1)) (all-early (c .times) (rows c)) t in
     record {
@@ -162,7 +180,7 @@ times-are c t =
     }
 
 pub times-pass : (c : Card) → Times c → T (times-obey (c .times))
-unfolding all-rising all-early
+unfolding all-rising all-early times-obey
 times-pass c r =
     yes-and (all-rising (c .times) (rows c - 1)) (all-early (c .times) (rows c))
     (at-all (λ j. ltb (time c j) (time c (suc j))) (rows c - 1) (λ i h. lt→ltb (time c i) (time c (suc i)) (r .rising i (omega arith))))
@@ -170,9 +188,9 @@ times-pass c r =
 
 -- ---- 7
 pub values-are : (c : Card) → T (values-obey (c .values)) → Values c
-unfolding all-in-range
+unfolding all-in-range values-obey
 values-are c t = record { in-range = λ m h. value-in-range (getD (c .values) m (pos 0)) (all-at (λ j. value-obeys (getD (c .values) j (pos 0))) (length (c .values)) t m h) }
 
 pub values-pass : (c : Card) → Values c → T (values-obey (c .values))
-unfolding all-in-range
+unfolding all-in-range values-obey
 values-pass c r = at-all (λ j. value-obeys (getD (c .values) j (pos 0))) (length (c .values)) (λ m h. in-range-passes (getD (c .values) m (pos 0)) (r .in-range m h))

@@ -14,7 +14,7 @@ use Rattle.tables.specs.declared.Table.{Table}
 use Rattle.tables.specs.Rules.{table-obeys}
 use Rattle.tables.proofs.Rules.{table-rules, table-passes}
 use Rattle.rules.specs.First.{first, check-at, Passed}
-use Rattle.rules.specs.Recording.{all-named, Channels, Lengths, Times, Values}
+use Rattle.rules.specs.Recording.{requirement-obeys, all-named, Channels, Lengths, Times, Values}
 use Rattle.rules.specs.Refusals.{checks, Sound}
 use Rattle.rules.proofs.First.{passed, none-fails}
 use Rattle.rules.proofs.Recording.{named, named-passes, channels-are, channels-pass, lengths-are, lengths-pass, times-are, times-pass, values-are, values-pass}
@@ -33,6 +33,7 @@ recorded h l t v = record {
 }
 
 pub sound : (c : Card) (t : Table) → length (c .predicates) ≤ 16 → first (checks c t) ≡ 0 → Sound c t
+unfolding requirement-obeys
 sound c t l e =
     let p = passed (checks c t) tt e in
     let three = and-yes (table-obeys t) (all-named (c .predicates) (t .nodes) (t .count)) (p .each 0 (omega arith)) in
@@ -43,6 +44,7 @@ sound c t l e =
     }
 
 pub sound-passes : (c : Card) (t : Table) → Sound c t → first (checks c t) ≡ 0
+unfolding requirement-obeys
 sound-passes c t s = none-fails (checks c t) (record { each = each })
   where
     each : (j : ℕ) → j < 5 → T (check-at (checks c t) j .passes)

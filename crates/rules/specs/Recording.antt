@@ -17,6 +17,7 @@ use Rattle.recordings.specs.Accepted.{InRange, Proper}
 use Rattle.tables.specs.declared.Node.{Node}
 use Rattle.tables.specs.declared.Table.{Table}
 use Rattle.tables.specs.Tree.{node-at}
+use Rattle.tables.specs.Rules.{table-obeys}
 
 -- a number that no predicate has is unset
 abbrev pub predicate-at : List Predicate → ℕ → Predicate
@@ -36,12 +37,16 @@ names-set ps n = not (eqb (n .kind) 1) || is-set (predicate-at ps (n .left) .ran
 unfoldable pub all-named : List Predicate → List Node → ℕ → Bool
 all-named ps ns n = allBelow (λ k. names-set ps (node-at ns k)) n
 
+-- refusal 3 whole: the table's own rules, and what it names
+unfoldable pub requirement-obeys : Table → List Predicate → Bool
+requirement-obeys t ps = table-obeys t && all-named ps (t .nodes) (t .count)
+
 -- every predicate that a node names is set
 pub record Named (c : Card) (t : Table) : Type 0 where
   pub set : (k : ℕ) → k < t .count → node-at (t .nodes) k .kind ≡ 1 → predicate c (node-at (t .nodes) k .left) .range ≡ Unset → ⊥
 
 -- ---- 4: channels not 1 to 8, or a set predicate with a channel not below that count, an end out of range or lo > hi
-abbrev pub value-obeys : ℤ → Bool
+unfoldable pub value-obeys : ℤ → Bool
 value-obeys v = leZ (negℤ (pos 1_000_000_000)) v && leZ v (pos 1_000_000_000)
 
 abbrev pub range-obeys : Range → Bool
@@ -57,7 +62,7 @@ predicate-obeys channels p = (not (is-set (p .range)) || ltb (p .channel) channe
 unfoldable pub predicates-obey : ℕ → List Predicate → ℕ → Bool
 predicates-obey channels ps n = allBelow (λ p. predicate-obeys channels (predicate-at ps p)) n
 
-abbrev pub channels-obey : ℕ → List Predicate → Bool
+unfoldable pub channels-obey : ℕ → List Predicate → Bool
 channels-obey channels ps = leb 1 channels && (leb channels 8 && predicates-obey channels ps 16)
 
 pub record Channels (c : Card) : Type 0 where
@@ -66,7 +71,7 @@ pub record Channels (c : Card) : Type 0 where
   pub proper : (p : ℕ) → Proper (c .channels) (predicate c p)
 
 -- ---- 5: no sample, over 4,096, or values not rows × channels long
-abbrev pub lengths-obey : ℕ → ℕ → ℕ → Bool
+unfoldable pub lengths-obey : ℕ → ℕ → ℕ → Bool
 lengths-obey rows values channels = leb rows 4_096 && (leb 1 rows && eqb values (rows * channels))
 
 pub record Lengths (c : Card) : Type 0 where
@@ -81,7 +86,7 @@ all-rising ts n = allBelow (λ i. ltb (getD ts i 0) (getD ts (suc i) 0)) n
 unfoldable pub all-early : List ℕ → ℕ → Bool
 all-early ts n = allBelow (λ i. leb (getD ts i 0) 2_000_000_000) n
 
-abbrev pub times-obey : List ℕ → Bool
+unfoldable pub times-obey : List ℕ → Bool
 times-obey ts = all-rising ts (length ts - 1) && all-early ts (length ts)
 
 pub record Times (c : Card) : Type 0 where
@@ -92,7 +97,7 @@ pub record Times (c : Card) : Type 0 where
 unfoldable pub all-in-range : List ℤ → ℕ → Bool
 all-in-range vs n = allBelow (λ m. value-obeys (getD vs m (pos 0))) n
 
-abbrev pub values-obey : List ℤ → Bool
+unfoldable pub values-obey : List ℤ → Bool
 values-obey vs = all-in-range vs (length vs)
 
 pub record Values (c : Card) : Type 0 where

@@ -1,6 +1,5 @@
 -- Refusals 3 to 7, in the order in which they count: what a table and a card are judged by before any margin is taken.
 -- Assumes nothing.
-use mathlib.Core.Bool.{_&&_}
 use mathlib.Core.List.{List, [], _∷_}
 use Prim.Native.Nat.{ℕ}
 use lib.ListN.{length}
@@ -9,9 +8,9 @@ use Rattle.recordings.specs.declared.Predicate.{Predicate}
 use Rattle.recordings.specs.Card.{Card, rows}
 use Rattle.recordings.specs.Accepted.{Recorded}
 use Rattle.tables.specs.declared.Table.{Table}
-use Rattle.tables.specs.Rules.{table-obeys, TableRules}
+use Rattle.tables.specs.Rules.{TableRules}
 use Rattle.rules.specs.First.{Check}
-use Rattle.rules.specs.Recording.{all-named, Named, channels-obey, lengths-obey, times-obey, values-obey}
+use Rattle.rules.specs.Recording.{requirement-obeys, Named, channels-obey, lengths-obey, times-obey, values-obey}
 
 -- what the library's callers hand over, as a card
 abbrev pub card : ℕ → List Predicate → List ℕ → List ℤ → Card
@@ -19,7 +18,7 @@ card channels predicates times values = record { channels = channels; times = ti
 
 abbrev pub checks : Card → Table → List Check
 checks c t =
-    record { number = 3; passes = table-obeys t && all-named (c .predicates) (t .nodes) (t .count) }
+    record { number = 3; passes = requirement-obeys t (c .predicates) }
     ∷ record { number = 4; passes = channels-obey (c .channels) (c .predicates) }
     ∷ record { number = 5; passes = lengths-obey (rows c) (length (c .values)) (c .channels) }
     ∷ record { number = 6; passes = times-obey (c .times) }

@@ -1,0 +1,33 @@
+-- A table that breaks a rule fails at once; one that does not has at most 64 nodes, so its nodes may be walked again.
+-- Assumes nothing.
+use mathlib.Core.Path.{_≡_, refl, sym, _∙_}
+use mathlib.Core.Bool.{true}
+use borrow.Author.Needs.{needs}
+use borrow.Author.Tests.{not-true, not-false}
+use Rattle.numbers.proofs.Parts.{holds}
+use Rattle.tables.specs.Rules.{table-obeys}
+use Rattle.tables.proofs.Rules.{table-rules}
+use Rattle.rules.specs.Recording.{requirement-obeys}
+use Rattle.rules.proofs.requirement_obeys.Statement.{statement}
+use Rattle.rules.proofs.requirement_obeys.Tie as tie
+
+ruled : (c : tie.Else1) → table-obeys (c .before .before .args .table) ≡ true
+ruled c = sym (c .before .table-obeys .ensures) ∙ not-false _ (c .if1 .left)
+
+table-obeys-requires : tie.Need-table-obeys-requires
+table-obeys-requires c κs = search needs
+
+returns : tie.Need-returns
+unfolding requirement-obeys
+returns c = rw (sym (c .before .table-obeys .ensures) ∙ not-true (c .before .table-obeys .result) (c .if1 .taken))
+
+all-named-requires : tie.Need-all-named-requires
+all-named-requires c κs = table-rules (c .before .before .before .args .table) (holds (ruled (c .before))) .few-nodes
+
+returns-2 : tie.Need-returns-2
+unfolding requirement-obeys
+returns-2 c = rw (ruled (c .before .before)) (c .all-named .ensures)
+
+pub requirement-obeys-spec : {M : Type 1} → statement M
+requirement-obeys-spec =
+    tie.close (tie.spec table-obeys-requires returns all-named-requires returns-2)

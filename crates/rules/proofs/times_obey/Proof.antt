@@ -1,0 +1,23 @@
+-- The two loops' tests, each by its own equation.
+-- Assumes nothing.
+use mathlib.Core.Path.{_≡_, refl}
+use borrow.Author.Needs.{needs}
+use Rattle.rules.specs.Recording.{times-obey}
+use Rattle.rules.proofs.times_obey.Statement.{statement}
+use Rattle.rules.proofs.times_obey.Tie as tie
+
+sub-gaps : tie.Need-sub-gaps
+sub-gaps c = search needs
+
+all-rising-requires : tie.Need-all-rising-requires
+all-rising-requires c κs = search needs
+
+all-early-requires : tie.Need-all-early-requires
+all-early-requires c κs = search needs
+
+returns : tie.Need-returns
+unfolding times-obey
+returns c = rw (c .before .all-rising .ensures, c .all-early .ensures)
+
+pub times-obey-spec : {M : Type 1} → statement M
+times-obey-spec = tie.close (tie.spec sub-gaps all-rising-requires all-early-requires returns)

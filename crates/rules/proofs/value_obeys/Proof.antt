@@ -1,0 +1,14 @@
+-- The code's test is the definition's; a signed parameter is read back as it stands.
+-- Assumes nothing.
+use mathlib.Core.Path.{_≡_, refl}
+use Rattle.numbers.proofs.Bits.{back-is}
+use Rattle.rules.specs.Recording.{value-obeys}
+use Rattle.rules.proofs.value_obeys.Statement.{statement}
+use Rattle.rules.proofs.value_obeys.Tie as tie
+
+returns : tie.Need-returns
+unfolding value-obeys
+returns c = rw (back-is (c .fits .v))
+
+pub value-obeys-spec : {M : Type 1} → statement M
+value-obeys-spec = tie.close (tie.spec returns)
