@@ -14,10 +14,12 @@ use Rattle.tables.specs.declared.Table.{Table}
 use Rattle.tables.specs.Rules.{table-obeys}
 use Rattle.tables.proofs.Rules.{table-rules, table-passes}
 use Rattle.rules.specs.First.{first, check-at, Passed}
-use Rattle.rules.specs.Recording.{requirement-obeys, all-named, Channels, Lengths, Times, Values}
+use Rattle.predicates.specs.Predicates.{requirement-obeys, all-named, Channels}
+use Rattle.predicates.proofs.Predicates.{named, named-passes, channels-are, channels-pass}
+use Rattle.rules.specs.Recording.{Lengths, Times, Values}
 use Rattle.rules.specs.Refusals.{checks, Sound}
 use Rattle.rules.proofs.First.{passed, none-fails}
-use Rattle.rules.proofs.Recording.{named, named-passes, channels-are, channels-pass, lengths-are, lengths-pass, times-are, times-pass, values-are, values-pass}
+use Rattle.rules.proofs.Recording.{lengths-are, lengths-pass, times-are, times-pass, values-are, values-pass}
 
 recorded : {c : Card} → Channels c → Lengths c → Times c → Values c → Recorded c
 recorded h l t v = record {

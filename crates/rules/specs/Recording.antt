@@ -1,74 +1,16 @@
--- Refusals 4 to 7, and what refusal 3 asks of the predicates: for each number the test, and the sentence that it stands for. `proofs/Recording` shows the two equal.
+-- Refusals 5 to 7: for each number the test, and the sentence that it stands for. `proofs/Recording` shows the two equal.
 -- Assumes nothing.
 use mathlib.Core.Path.{_≡_}
-use mathlib.Core.Bool.{Bool, true, false, not, _&&_, _||_}
+use mathlib.Core.Bool.{Bool, _&&_}
 use mathlib.Core.List.{List}
 use Prim.Native.Nat.{ℕ, suc, _-_, _*_, _≤_, _<_}
 use lib.Dec.{leb, ltb, eqb}
 use lib.ListN.{length, getD}
-use lib.IntN.{ℤ, pos, negℤ}
-use lib.Signed.{leZ}
+use lib.IntN.{ℤ, pos}
 use Rattle.lists.specs.Fold.{allBelow}
-use Rattle.recordings.specs.declared.Predicate.{Predicate}
-use Rattle.recordings.specs.declared.Range.{Range}
-use Rattle.recordings.specs.declared.Range.the-variants.{Unset, Free, AtLeast, AtMost, Between}
-use Rattle.recordings.specs.Card.{Card, rows, time, predicate}
-use Rattle.recordings.specs.Accepted.{InRange, Proper}
-use Rattle.tables.specs.declared.Node.{Node}
-use Rattle.tables.specs.declared.Table.{Table}
-use Rattle.tables.specs.Tree.{node-at}
-use Rattle.tables.specs.Rules.{table-obeys}
-
--- a number that no predicate has is unset
-abbrev pub predicate-at : List Predicate → ℕ → Predicate
-predicate-at ps p = getD ps p (record { channel = 0; range = Unset })
-
-abbrev pub is-set : Range → Bool
-is-set Unset = false
-is-set Free = true
-is-set (AtLeast lo) = true
-is-set (AtMost hi) = true
-is-set (Between lo hi) = true
-
--- ---- 3: a node names a predicate that is unset
-unfoldable pub names-set : List Predicate → Node → Bool
-names-set ps n = not (eqb (n .kind) 1) || is-set (predicate-at ps (n .left) .range)
-
-unfoldable pub all-named : List Predicate → List Node → ℕ → Bool
-all-named ps ns n = allBelow (λ k. names-set ps (node-at ns k)) n
-
--- refusal 3 whole: the table's own rules, and what it names
-unfoldable pub requirement-obeys : Table → List Predicate → Bool
-requirement-obeys t ps = table-obeys t && all-named ps (t .nodes) (t .count)
-
--- every predicate that a node names is set
-pub record Named (c : Card) (t : Table) : Type 0 where
-  pub set : (k : ℕ) → k < t .count → node-at (t .nodes) k .kind ≡ 1 → predicate c (node-at (t .nodes) k .left) .range ≡ Unset → ⊥
-
--- ---- 4: channels not 1 to 8, or a set predicate with a channel not below that count, an end out of range or lo > hi
-unfoldable pub value-obeys : ℤ → Bool
-value-obeys v = leZ (negℤ (pos 1_000_000_000)) v && leZ v (pos 1_000_000_000)
-
-abbrev pub range-obeys : Range → Bool
-range-obeys Unset = true
-range-obeys Free = true
-range-obeys (AtLeast lo) = value-obeys lo
-range-obeys (AtMost hi) = value-obeys hi
-range-obeys (Between lo hi) = value-obeys lo && (value-obeys hi && leZ lo hi)
-
-unfoldable pub predicate-obeys : ℕ → Predicate → Bool
-predicate-obeys channels p = (not (is-set (p .range)) || ltb (p .channel) channels) && range-obeys (p .range)
-
-unfoldable pub predicates-obey : ℕ → List Predicate → ℕ → Bool
-predicates-obey channels ps n = allBelow (λ p. predicate-obeys channels (predicate-at ps p)) n
-
-unfoldable pub channels-obey : ℕ → List Predicate → Bool
-channels-obey channels ps = leb 1 channels && (leb channels 8 && predicates-obey channels ps 16)
-
-pub record Channels (c : Card) : Type 0 where
-  pub some-channel : 1 ≤ c .channels
-  pub few-channels : c .channels ≤ 8
-  pub proper : (p : ℕ) → Proper (c .channels) (predicate c p)
+use Rattle.recordings.specs.Card.{Card, rows, time}
+use Rattle.recordings.specs.Accepted.{InRange}
+use Rattle.predicates.specs.Predicates.{value-obeys}
 
 -- ---- 5: no sample, over 4,096, or values not rows × channels long
 unfoldable pub lengths-obey : ℕ → ℕ → ℕ → Bool

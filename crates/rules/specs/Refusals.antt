@@ -10,7 +10,8 @@ use Rattle.recordings.specs.Accepted.{Recorded}
 use Rattle.tables.specs.declared.Table.{Table}
 use Rattle.tables.specs.Rules.{TableRules}
 use Rattle.rules.specs.First.{Check}
-use Rattle.rules.specs.Recording.{requirement-obeys, Named, channels-obey, lengths-obey, times-obey, values-obey}
+use Rattle.predicates.specs.Predicates.{requirement-obeys, Named, channels-obey}
+use Rattle.rules.specs.Recording.{lengths-obey, times-obey, values-obey}
 
 -- what the library's callers hand over, as a card
 abbrev pub card : ℕ → List Predicate → List ℕ → List ℤ → Card

@@ -1,113 +1,13 @@
-// Refusals 3 to 7: the tests that a table, its predicates and a recording pass before a margin is taken. Their sentences are in specs/.
-// Each test looks at everything that it judges, so no loop branches; none counts past what an earlier one has bounded.
+// Refusals 3 to 7: what a table, its predicates and a recording are judged by before a margin is taken. Their sentences are in specs/.
+// No test branches on what it has found so far; none counts past what an earlier one has bounded.
 ghost use mathlib.Core.Path.{_≡_};
 ghost use Prim.Native.Nat.{_≤_, _<_};
 ghost use lib.ListN.{length};
 ghost use Rattle.rules.specs.First.{first};
-ghost use Rattle.rules.specs.Recording.{requirement-obeys, is-set, names-set, all-named, value-obeys, range-obeys, predicate-obeys, predicates-obey, channels-obey, lengths-obey, all-rising, all-early, times-obey, values-obey};
+ghost use Rattle.rules.specs.Recording.{lengths-obey, all-rising, all-early, times-obey, values-obey};
 ghost use Rattle.rules.specs.Refusals.{card, checks};
 use recordings::Predicate;
-use recordings::Range;
-use tables::Node;
 use tables::Table;
-
-// The range of values, and of the ends of predicates' ranges.
-pub const LOWEST: i64 = -1_000_000_000;
-
-pub const HIGHEST: i64 = 1_000_000_000;
-
-pub fn is_set(range: Range) -> bool
-    ensures { λ r. ⌜ r ≡ is-set range ⌝ }
-{
-    match range {
-        Range::Unset => false,
-        Range::Free => true,
-        Range::AtLeast(_) => true,
-        Range::AtMost(_) => true,
-        Range::Between(_, _) => true,
-    }
-}
-
-// Whether the predicate that a node names, if it names one, is set.
-fn names_set(node: Node, predicates: [Predicate; 16]) -> bool
-    ensures { λ r. ⌜ r ≡ names-set predicates node ⌝ }
-{
-    let left = node.left;
-    if node.kind != 1 {
-        return true;
-    }
-    if 16 <= left {
-        return false;
-    }
-    let predicate = predicates[left];
-    let range = predicate.range;
-    is_set(range)
-}
-
-fn all_named(nodes: [Node; 64], count: usize, predicates: [Predicate; 16]) -> bool
-    requires { ⌜ count ≤ 64 ⌝ }
-    ensures { λ r. ⌜ r ≡ all-named predicates nodes count ⌝ }
-{
-    let mut ok = true;
-    let mut k = 0;
-    while k < count {
-        let node = nodes[k];
-        let set = names_set(node, predicates);
-        ok = ok & set;
-        k += 1;
-    }
-    ok
-}
-
-pub fn value_obeys(v: i64) -> bool
-    ensures { λ r. ⌜ r ≡ value-obeys v ⌝ }
-{
-    (LOWEST <= v) & (v <= HIGHEST)
-}
-
-fn between_obeys(lo: i64, hi: i64) -> bool
-    ensures { λ r. ⌜ r ≡ range-obeys (Range.Between lo hi) ⌝ }
-{
-    let low = value_obeys(lo);
-    let high = value_obeys(hi);
-    low & (high & (lo <= hi))
-}
-
-fn range_obeys(range: Range) -> bool
-    ensures { λ r. ⌜ r ≡ range-obeys range ⌝ }
-{
-    match range {
-        Range::Unset => true,
-        Range::Free => true,
-        Range::AtLeast(lo) => value_obeys(lo),
-        Range::AtMost(hi) => value_obeys(hi),
-        Range::Between(lo, hi) => between_obeys(lo, hi),
-    }
-}
-
-fn predicate_obeys(predicate: Predicate, channels: usize) -> bool
-    ensures { λ r. ⌜ r ≡ predicate-obeys channels predicate ⌝ }
-{
-    let channel = predicate.channel;
-    let range = predicate.range;
-    let set = is_set(range);
-    let ends = range_obeys(range);
-    (!set | (channel < channels)) & ends
-}
-
-pub fn predicates_obey(predicates: [Predicate; 16], channels: usize) -> bool
-    ensures { λ r. ⌜ r ≡ predicates-obey channels predicates 16 ⌝ }
-{
-    let mut ok = true;
-    let mut p = 0;
-    while p < 16 {
-        let predicate = predicates[p];
-        let obeys = predicate_obeys(predicate, channels);
-        ok = ok & obeys;
-        p += 1;
-    }
-    ok
-}
 
 // `values` is the count of values.
 fn lengths_obey(rows: usize, values: usize, channels: usize) -> bool
@@ -148,40 +48,6 @@ fn all_early(times: &[u64]) -> bool
     ok
 }
 
-fn values_obey(values: &[i64]) -> bool
-    ensures { λ r. ⌜ r ≡ values-obey (now (values .entry)) ⌝ }
-{
-    let mut ok = true;
-    let mut m = 0;
-    while m < values.len() {
-        let obeys = value_obeys(values[m]);
-        ok = ok & obeys;
-        m += 1;
-    }
-    ok
-}
-
-// Refusal 3: the table by itself, and whether what it names is set.
-fn requirement_obeys(table: Table, predicates: [Predicate; 16]) -> bool
-    ensures { λ r. ⌜ r ≡ requirement-obeys table predicates ⌝ }
-{
-    let ruled = tables::table_obeys(table);
-    if !ruled {
-        return false;
-    }
-    let nodes = table.nodes;
-    let count = table.count;
-    all_named(nodes, count, predicates)
-}
-
-// Refusal 4.
-pub fn channels_obey(channels: usize, predicates: [Predicate; 16]) -> bool
-    ensures { λ r. ⌜ r ≡ channels-obey channels predicates ⌝ }
-{
-    let each = predicates_obey(predicates, channels);
-    (1 <= channels) & ((channels <= 8) & each)
-}
-
 // Refusal 6, of some rows.
 fn times_obey(times: &[u64]) -> bool
     requires { ⌜ 1 ≤ length (now times) ⌝ }
@@ -191,6 +57,19 @@ fn times_obey(times: &[u64]) -> bool
     let rising = all_rising(times, gaps);
     let early = all_early(times);
     rising & early
+}
+
+fn values_obey(values: &[i64]) -> bool
+    ensures { λ r. ⌜ r ≡ values-obey (now (values .entry)) ⌝ }
+{
+    let mut ok = true;
+    let mut m = 0;
+    while m < values.len() {
+        let obeys = predicates::value_obeys(values[m]);
+        ok = ok & obeys;
+        m += 1;
+    }
+    ok
 }
 
 // The first of refusals 3 to 7 that applies, 0 where none does.
@@ -203,11 +82,11 @@ pub fn refusal(
 ) -> u64
     ensures { λ r. ⌜ r ≡ first (checks (card channels predicates (now (times .entry)) (now (values .entry))) table) ⌝ }
 {
-    let three = requirement_obeys(table, predicates);
+    let three = predicates::requirement_obeys(table, predicates);
     if !three {
         return 3;
     }
-    let four = channels_obey(channels, predicates);
+    let four = predicates::channels_obey(channels, predicates);
     if !four {
         return 4;
     }

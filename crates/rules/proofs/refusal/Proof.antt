@@ -6,8 +6,10 @@ use lib.ListN.{length}
 use borrow.Author.Needs.{needs}
 use borrow.Author.Tests.{not-true, not-false}
 use Rattle.rules.specs.First.{first}
-use Rattle.rules.specs.Recording.{requirement-obeys, channels-obey, lengths-obey, times-obey, values-obey}
-use Rattle.rules.proofs.Recording.{few-channels, some-row}
+use Rattle.predicates.specs.Predicates.{requirement-obeys, channels-obey}
+use Rattle.predicates.proofs.Predicates.{few-channels}
+use Rattle.rules.specs.Recording.{lengths-obey, times-obey, values-obey}
+use Rattle.rules.proofs.Recording.{some-row}
 use Rattle.rules.proofs.refusal.Statement.{statement}
 use Rattle.rules.proofs.refusal.Tie as tie
 

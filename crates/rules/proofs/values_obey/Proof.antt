@@ -8,7 +8,8 @@ use borrow.Author.Needs.{needs}
 use lib.ListN.{length, getD}
 use lib.IntN.{pos}
 use Rattle.numbers.proofs.Bits.{back-ok}
-use Rattle.rules.specs.Recording.{value-obeys, all-in-range, values-obey}
+use Rattle.predicates.specs.Predicates.{value-obeys}
+use Rattle.rules.specs.Recording.{all-in-range, values-obey}
 use Rattle.rules.proofs.values_obey.Statement.{statement}
 use Rattle.rules.proofs.values_obey.Tie as tie
 

@@ -7,9 +7,9 @@ use borrow.Author.Tests.{not-true, not-false}
 use Rattle.numbers.proofs.Parts.{holds}
 use Rattle.tables.specs.Rules.{table-obeys}
 use Rattle.tables.proofs.Rules.{table-rules}
-use Rattle.rules.specs.Recording.{requirement-obeys}
-use Rattle.rules.proofs.requirement_obeys.Statement.{statement}
-use Rattle.rules.proofs.requirement_obeys.Tie as tie
+use Rattle.predicates.specs.Predicates.{requirement-obeys}
+use Rattle.predicates.proofs.requirement_obeys.Statement.{statement}
+use Rattle.predicates.proofs.requirement_obeys.Tie as tie
 
 ruled : (c : tie.Else1) → table-obeys (c .before .before .args .table) ≡ true
 ruled c = sym (c .before .table-obeys .ensures) ∙ not-false _ (c .if1 .left)

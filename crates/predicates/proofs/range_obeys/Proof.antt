@@ -5,9 +5,9 @@ use borrow.Author.Needs.{needs}
 use mir.Syntax.{w64}
 use mir.Val.{SFits}
 use Rattle.numbers.proofs.Bits.{back-is}
-use Rattle.rules.specs.Recording.{value-obeys, range-obeys}
-use Rattle.rules.proofs.range_obeys.Statement.{statement}
-use Rattle.rules.proofs.range_obeys.Tie as tie
+use Rattle.predicates.specs.Predicates.{value-obeys, range-obeys}
+use Rattle.predicates.proofs.range_obeys.Statement.{statement}
+use Rattle.predicates.proofs.range_obeys.Tie as tie
 
 enum-told : tie.Need-enum-told
 enum-told c = search needs

@@ -2,9 +2,9 @@
 -- Assumes nothing.
 use mathlib.Core.Path.{_≡_, refl}
 use Rattle.numbers.proofs.Bits.{back-is}
-use Rattle.rules.specs.Recording.{value-obeys}
-use Rattle.rules.proofs.value_obeys.Statement.{statement}
-use Rattle.rules.proofs.value_obeys.Tie as tie
+use Rattle.predicates.specs.Predicates.{value-obeys}
+use Rattle.predicates.proofs.value_obeys.Statement.{statement}
+use Rattle.predicates.proofs.value_obeys.Tie as tie
 
 returns : tie.Need-returns
 unfolding value-obeys

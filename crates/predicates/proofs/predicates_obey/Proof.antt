@@ -5,9 +5,9 @@ use Prim.Native.Nat.{_≤_, _-_}
 use native.Mathlib.Omega.{arith}
 use native.Mathlib.Numerals.{add-one}
 use borrow.Author.Needs.{needs}
-use Rattle.rules.specs.Recording.{predicates-obey}
-use Rattle.rules.proofs.predicates_obey.Statement.{statement}
-use Rattle.rules.proofs.predicates_obey.Tie as tie
+use Rattle.predicates.specs.Predicates.{predicates-obey}
+use Rattle.predicates.proofs.predicates_obey.Statement.{statement}
+use Rattle.predicates.proofs.predicates_obey.Tie as tie
 
 abbrev Inv-loop : tie.InvT-loop
 Inv-loop channels predicates ok₀ p₀ ok p = (p ≤ 16) × (ok ≡ predicates-obey channels predicates p)

@@ -5,9 +5,9 @@ use Prim.Native.Nat.{_≤_, _-_}
 use native.Mathlib.Omega.{arith}
 use native.Mathlib.Numerals.{add-one}
 use borrow.Author.Needs.{needs}
-use Rattle.rules.specs.Recording.{all-named}
-use Rattle.rules.proofs.all_named.Statement.{statement}
-use Rattle.rules.proofs.all_named.Tie as tie
+use Rattle.predicates.specs.Predicates.{all-named}
+use Rattle.predicates.proofs.all_named.Statement.{statement}
+use Rattle.predicates.proofs.all_named.Tie as tie
 
 abbrev Inv-loop : tie.InvT-loop
 Inv-loop count predicates nodes ok₀ k₀ ok k = (k ≤ count) × (ok ≡ all-named predicates nodes k)

@@ -3,8 +3,8 @@
 use mathlib.Core.Path.{_≡_, refl}
 use borrow.Author.Needs.{needs}
 use Rattle.numbers.proofs.Bits.{back-is}
-use Rattle.rules.proofs.between_obeys.Statement.{statement}
-use Rattle.rules.proofs.between_obeys.Tie as tie
+use Rattle.predicates.proofs.between_obeys.Statement.{statement}
+use Rattle.predicates.proofs.between_obeys.Tie as tie
 
 value-obeys-requires : tie.Need-value-obeys-requires
 value-obeys-requires c κs = search needs

@@ -2,9 +2,9 @@
 -- Assumes nothing.
 use mathlib.Core.Path.{_≡_, refl}
 use borrow.Author.Needs.{needs}
-use Rattle.rules.specs.Recording.{predicate-obeys}
-use Rattle.rules.proofs.predicate_obeys.Statement.{statement}
-use Rattle.rules.proofs.predicate_obeys.Tie as tie
+use Rattle.predicates.specs.Predicates.{predicate-obeys}
+use Rattle.predicates.proofs.predicate_obeys.Statement.{statement}
+use Rattle.predicates.proofs.predicate_obeys.Tie as tie
 
 is-set-requires : tie.Need-is-set-requires
 is-set-requires c κs = search needs

@@ -2,9 +2,9 @@
 -- Assumes nothing.
 use mathlib.Core.Path.{_≡_, refl}
 use borrow.Author.Needs.{needs}
-use Rattle.rules.specs.Recording.{channels-obey}
-use Rattle.rules.proofs.channels_obey.Statement.{statement}
-use Rattle.rules.proofs.channels_obey.Tie as tie
+use Rattle.predicates.specs.Predicates.{channels-obey}
+use Rattle.predicates.proofs.channels_obey.Statement.{statement}
+use Rattle.predicates.proofs.channels_obey.Tie as tie
 
 predicates-obey-requires : tie.Need-predicates-obey-requires
 predicates-obey-requires c κs = search needs

@@ -8,9 +8,9 @@ use lib.ListN.{length, List·getD-eq-default}
 use borrow.Author.Needs.{needs}
 use borrow.Author.Tests.{eq-eqb, ne-eqb}
 use Rattle.recordings.specs.declared.Range.the-variants.{Unset}
-use Rattle.rules.specs.Recording.{names-set}
-use Rattle.rules.proofs.names_set.Statement.{statement}
-use Rattle.rules.proofs.names_set.Tie as tie
+use Rattle.predicates.specs.Predicates.{names-set}
+use Rattle.predicates.proofs.names_set.Statement.{statement}
+use Rattle.predicates.proofs.names_set.Tie as tie
 
 returns : tie.Need-returns
 unfolding names-set

@@ -1,0 +1,2 @@
+-- The tests of the predicates that a requirement names.
+pub mod Predicates

@@ -1,0 +1,128 @@
+// The predicates that a requirement names: refusal 4, and of refusal 3 whether they are set. Their sentences are in specs/.
+// No test branches on what it has found so far: each looks at everything that it judges.
+ghost use mathlib.Core.Path.{_≡_};
+ghost use Prim.Native.Nat.{_≤_};
+ghost use Rattle.predicates.specs.Predicates.{is-set, names-set, all-named, requirement-obeys, value-obeys, range-obeys, predicate-obeys, predicates-obey, channels-obey};
+use recordings::Predicate;
+use recordings::Range;
+use tables::Node;
+use tables::Table;
+
+// The range of values, and of the ends of predicates' ranges.
+pub const LOWEST: i64 = -1_000_000_000;
+
+pub const HIGHEST: i64 = 1_000_000_000;
+
+pub fn is_set(range: Range) -> bool
+    ensures { λ r. ⌜ r ≡ is-set range ⌝ }
+{
+    match range {
+        Range::Unset => false,
+        Range::Free => true,
+        Range::AtLeast(_) => true,
+        Range::AtMost(_) => true,
+        Range::Between(_, _) => true,
+    }
+}
+
+// Whether the predicate that a node names, if it names one, is set.
+fn names_set(node: Node, predicates: [Predicate; 16]) -> bool
+    ensures { λ r. ⌜ r ≡ names-set predicates node ⌝ }
+{
+    let left = node.left;
+    if node.kind != 1 {
+        return true;
+    }
+    if 16 <= left {
+        return false;
+    }
+    let predicate = predicates[left];
+    let range = predicate.range;
+    is_set(range)
+}
+
+fn all_named(nodes: [Node; 64], count: usize, predicates: [Predicate; 16]) -> bool
+    requires { ⌜ count ≤ 64 ⌝ }
+    ensures { λ r. ⌜ r ≡ all-named predicates nodes count ⌝ }
+{
+    let mut ok = true;
+    let mut k = 0;
+    while k < count {
+        let node = nodes[k];
+        let set = names_set(node, predicates);
+        ok = ok & set;
+        k += 1;
+    }
+    ok
+}
+
+// Refusal 3: the table by itself, and whether what it names is set.
+pub fn requirement_obeys(table: Table, predicates: [Predicate; 16]) -> bool
+    ensures { λ r. ⌜ r ≡ requirement-obeys table predicates ⌝ }
+{
+    let ruled = tables::table_obeys(table);
+    if !ruled {
+        return false;
+    }
+    let nodes = table.nodes;
+    let count = table.count;
+    all_named(nodes, count, predicates)
+}
+
+pub fn value_obeys(v: i64) -> bool
+    ensures { λ r. ⌜ r ≡ value-obeys v ⌝ }
+{
+    (LOWEST <= v) & (v <= HIGHEST)
+}
+
+fn between_obeys(lo: i64, hi: i64) -> bool
+    ensures { λ r. ⌜ r ≡ range-obeys (Range.Between lo hi) ⌝ }
+{
+    let low = value_obeys(lo);
+    let high = value_obeys(hi);
+    low & (high & (lo <= hi))
+}
+
+fn range_obeys(range: Range) -> bool
+    ensures { λ r. ⌜ r ≡ range-obeys range ⌝ }
+{
+    match range {
+        Range::Unset => true,
+        Range::Free => true,
+        Range::AtLeast(lo) => value_obeys(lo),
+        Range::AtMost(hi) => value_obeys(hi),
+        Range::Between(lo, hi) => between_obeys(lo, hi),
+    }
+}
+
+fn predicate_obeys(predicate: Predicate, channels: usize) -> bool
+    ensures { λ r. ⌜ r ≡ predicate-obeys channels predicate ⌝ }
+{
+    let channel = predicate.channel;
+    let range = predicate.range;
+    let set = is_set(range);
+    let ends = range_obeys(range);
+    (!set | (channel < channels)) & ends
+}
+
+fn predicates_obey(predicates: [Predicate; 16], channels: usize) -> bool
+    ensures { λ r. ⌜ r ≡ predicates-obey channels predicates 16 ⌝ }
+{
+    let mut ok = true;
+    let mut p = 0;
+    while p < 16 {
+        let predicate = predicates[p];
+        let obeys = predicate_obeys(predicate, channels);
+        ok = ok & obeys;
+        p += 1;
+    }
+    ok
+}
+
+// Refusal 4.
+pub fn channels_obey(channels: usize, predicates: [Predicate; 16]) -> bool
+    ensures { λ r. ⌜ r ≡ channels-obey channels predicates ⌝ }
+{
+    let each = predicates_obey(predicates, channels);
+    (1 <= channels) & ((channels <= 8) & each)
+}
