@@ -1,0 +1,104 @@
+-- Until and release from what their windows hold: places outside the window, and all places after the carried value is beaten, may be left out.
+-- Assumes nothing.
+use mathlib.Core.Path.{_≡_, refl, sym, ap, ap₂, _∙_}
+use mathlib.Core.Bool.{Bool, true, false, not, cond, _&&_}
+use Prim.Native.Nat.{ℕ, zero, suc, _+_, _-_, _≤_, _<_}
+use native.Mathlib.Omega.{arith}
+use native.Mathlib.Decide.{decLt}
+use lib.Dec.{leb}
+use lib.IntN.{ℤ}
+use borrow.Author.Tests.{le-leb, lt-leb, lt-ltb, le-ltb}
+use Rattle.logic.specs.Window.{Window, before, inside}
+use Rattle.logic.specs.Formula.{Extremum, dual}
+use Rattle.logic.specs.Reading.{Algebra, extremum, along, margins, margin-extreme, margin-nothing}
+use Rattle.rows.specs.Cells.{extremum-of}
+use Rattle.temporal.proofs.Beaten.{stays-beaten, either-beaten, nothing-beaten, run-beaten, extremum-still}
+
+pub dual-of : (b : Bool) → extremum-of (not b) ≡ dual (extremum-of b)
+dual-of true = refl
+dual-of false = refl
+
+-- ---- readings that agree on the first n places
+module _ {X : Type 0} (A : Algebra X) where
+  pub extremum-cong : (e : Extremum) (f g : ℕ → X) (n : ℕ) → ((m : ℕ) → m < n → f m ≡ g m) → extremum A e f n ≡ extremum A e g n
+  extremum-cong e f g zero h = refl
+  extremum-cong e f g (suc n) h = ap₂ (A .extreme e) (extremum-cong e f g n (λ m q. h m (omega arith))) (h n (omega arith))
+
+  pub along-cong : (e : Extremum) (v w : Window) (c d : ℕ → ℕ) (l l′ r r′ : ℕ → X) (n : ℕ) → ((m : ℕ) → m < n → inside v (c m) ≡ inside w (d m)) → ((m : ℕ) → m < n → l m ≡ l′ m) → ((m : ℕ) → m < n → r m ≡ r′ m) → along A e v c l r n ≡ along A e w d l′ r′ n
+  along-cong e v w c d l l′ r r′ n hw hl hr =
+      extremum-cong e _ _ n (λ m q. rw (hw m q, hr m q, extremum-cong (dual e) l l′ m (λ k p. hl k (omega arith))) refl)
+
+-- ---- what may be left out
+module _ (top : ℕ) (e : Extremum) (w : Window) (d : ℕ → ℕ) (l r : ℕ → ℤ) where
+  pub along-outside : (m n : ℕ) → m ≤ n → ((k : ℕ) → m ≤ k → k < n → inside w (d k) ≡ false) → along (margins top) e w d l r n ≡ along (margins top) e w d l r m
+  along-outside m n h k = extremum-still top e _ m n h (λ j a b. rw (k j a b) (nothing-beaten top e _ m))
+
+  pub along-settled : (m n : ℕ) → m ≤ n → margin-extreme e (along (margins top) e w d l r m) (extremum (margins top) (dual e) l m) ≡ along (margins top) e w d l r m → along (margins top) e w d l r n ≡ along (margins top) e w d l r m
+  along-settled m n h s =
+      extremum-still top e _ m n h (λ j a b.
+      either-beaten e (inside w (d j)) _ _ _ (run-beaten top e _ (r j) l m j a (stays-beaten e _ _ s)) (nothing-beaten top e _ m))
+
+-- ---- one place more, places counted from i on
+module _ (top : ℕ) (e : Extremum) (l : ℕ → ℤ) (i j : ℕ) (h : i ≤ j) where
+  pub run-next : extremum (margins top) e (λ m. l (i + m)) (j + 1 - i) ≡ margin-extreme e (extremum (margins top) e (λ m. l (i + m)) (j - i)) (l j)
+  run-next =
+      let p : j + 1 - i ≡ suc (j - i) = omega arith in
+      let q : i + (j - i) ≡ j = omega arith in
+      rw p (ap (λ (k : ℕ). margin-extreme e (extremum (margins top) e (λ m. l (i + m)) (j - i)) (l k)) q)
+
+-- the window of the places from `first` up to, not including, `end`
+module _ (first end : ℕ) where
+  abbrev pub between : Window
+  between = record { from = first; stop = before end }
+
+  pub not-yet : (j : ℕ) → j < first → inside between j ≡ false
+  not-yet j h = rw (lt-leb first j h) refl
+
+  pub within : (j : ℕ) → first ≤ j → j < end → inside between j ≡ true
+  within j h k = rw (le-leb first j h, lt-ltb j end k) refl
+
+  pub past : (j : ℕ) → end ≤ j → inside between j ≡ false
+  past j h = rw (le-ltb j end h) (off (leb first j))
+    where
+      off : (b : Bool) → (b && false) ≡ false
+      off true = refl
+      off false = refl
+
+  module _ (top : ℕ) (e : Extremum) (l r : ℕ → ℤ) (i : ℕ) where
+    abbrev pub best : ℕ → ℤ
+    best j = along (margins top) e between (λ m. i + m) (λ m. l (i + m)) (λ m. r (i + m)) (j - i)
+
+    abbrev pub run : ℕ → ℤ
+    run j = extremum (margins top) (dual e) (λ m. l (i + m)) (j - i)
+
+    pub best-next : (j : ℕ) → i ≤ j → first ≤ j → j < end → best (j + 1) ≡ margin-extreme e (best j) (margin-extreme (dual e) (r j) (run j))
+    best-next j h a b =
+        let p : j + 1 - i ≡ suc (j - i) = omega arith in
+        let q : i + (j - i) ≡ j = omega arith in
+        rw p (ap (λ (k : ℕ). margin-extreme e (best j) (cond (inside between k) (margin-extreme (dual e) (r k) (run j)) (margin-nothing top e))) q
+        ∙ (rw (within j a b) refl))
+
+    -- before the window there is nothing; from its end on nothing is added
+    pub best-first : (j : ℕ) → j ≤ first → best j ≡ margin-nothing top e
+    best-first j h = along-outside top e between _ _ _ 0 (j - i) (omega arith) (λ k a b. not-yet (i + k) (omega arith))
+
+    pub best-end : (j n : ℕ) → i ≤ j → j ≤ n → end ≤ j → best n ≡ best j
+    best-end j n h k a = along-outside top e between _ _ _ (j - i) (n - i) (omega arith) (λ m b c. past (i + m) (omega arith))
+
+    pub best-empty : (n : ℕ) → end ≤ first → best n ≡ margin-nothing top e
+    best-empty n h = along-outside top e between _ _ _ 0 (n - i) (omega arith) (λ k a b. outside k (decLt (i + k) first))
+      where
+        outside : (k : ℕ) → Dec (i + k < first) → inside between (i + k) ≡ false
+        outside k (yes q) = not-yet (i + k) q
+        outside k (no q) = past (i + k) (omega arith)
+
+    pub best-settled : (j n : ℕ) → i ≤ j → j ≤ n → margin-extreme e (best j) (run j) ≡ best j → best n ≡ best j
+    best-settled j n h k s = along-settled top e between _ _ _ (j - i) (n - i) (omega arith) s
+
+-- ---- one turn of a loop: x, u and out are what is read back of a cell and of two results; b says "largest"
+pub turn-run : (top : ℕ) (b : Bool) (l : ℕ → ℤ) (i j : ℕ) {old x res out : ℤ} → i ≤ j → old ≡ extremum (margins top) (dual (extremum-of b)) (λ m. l (i + m)) (j - i) → x ≡ l j → res ≡ margin-extreme (extremum-of (not b)) old x → out ≡ res → out ≡ extremum (margins top) (dual (extremum-of b)) (λ m. l (i + m)) (j + 1 - i)
+turn-run top b l i j h p q e o = o ∙ e ∙ rw (dual-of b, p, q) (sym (run-next top (dual (extremum-of b)) l i j h))
+
+pub turn-best : (first end top : ℕ) (b : Bool) (l r : ℕ → ℤ) (i j : ℕ) {old carried x res u last out : ℤ} → i ≤ j → first ≤ j → j < end → old ≡ best first end top (extremum-of b) l r i j → carried ≡ run first end top (extremum-of b) l r i j → x ≡ r j → res ≡ margin-extreme (extremum-of (not b)) x carried → u ≡ res → last ≡ margin-extreme (extremum-of b) old u → out ≡ last → out ≡ best first end top (extremum-of b) l r i (j + 1)
+turn-best first end top b l r i j h a k p c q e v f o =
+    o ∙ f ∙ rw (v, e, dual-of b, p, q, c) (sym (best-next first end top (extremum-of b) l r i j h a k))

@@ -1,0 +1,84 @@
+-- A value that another one beats does not move the extremum of the two. What is joined to a beaten value by the dual extremum is beaten too, and
+-- an extremum over nothing is beaten by every extremum: so a loop may stop where all that is left is beaten.
+-- Assumes nothing.
+use mathlib.Core.Path.{_≡_, refl, subst}
+use mathlib.Core.Bool.{Bool, true, false, not, cond}
+use Prim.Native.Nat.{ℕ, zero, suc, _+_, _≤_, _<_}
+use native.Mathlib.Omega.{arith}
+use native.Mathlib.Decide.{decLe}
+use lib.Dec.{T}
+use lib.IntN.{ℤ}
+use lib.Signed.{ltZ}
+use Rattle.numbers.proofs.Parts.{plus, minus, parts-nlt, Smaller, Larger, smaller-parts, larger-parts}
+use Rattle.logic.specs.Formula.{Extremum, largest, smallest, dual}
+use Rattle.logic.specs.Reading.{extremum, margins, margin-extreme, margin-nothing}
+
+abbrev AtMost : ℤ → ℤ → Type 0
+AtMost a b = plus a + minus b ≤ plus b + minus a
+
+-- b is at least as extreme as a
+abbrev pub Beaten : Extremum → ℤ → ℤ → Type 0
+Beaten largest b a = AtMost a b
+Beaten smallest b a = AtMost b a
+
+not-taken : (t : Bool) (a b : ℤ) → T (not t) → cond t b a ≡ a
+not-taken true a b h = absurd h
+not-taken false a b h = refl
+
+pub beaten-stays : (e : Extremum) (b a : ℤ) → Beaten e b a → margin-extreme e b a ≡ b
+beaten-stays largest b a h = not-taken (ltZ b a) b a (parts-nlt b a h)
+beaten-stays smallest b a h = not-taken (ltZ a b) b a (parts-nlt a b h)
+
+pub stays-beaten : (e : Extremum) (b a : ℤ) → margin-extreme e b a ≡ b → Beaten e b a
+stays-beaten largest b a h = let p : Larger b a b = rw h at (larger-parts b a) in omega arith
+stays-beaten smallest b a h = let p : Smaller b a b = rw h at (smaller-parts b a) in omega arith
+
+beaten-self : (e : Extremum) (a : ℤ) → Beaten e a a
+beaten-self largest a = omega arith
+beaten-self smallest a = omega arith
+
+-- what is beaten stays so as the extremum goes on
+beaten-more : (e : Extremum) (b a x : ℤ) → Beaten e b a → Beaten e (margin-extreme e b x) a
+beaten-more largest b a x h = omega (arith, larger-parts b x)
+beaten-more smallest b a x h = omega (arith, smaller-parts b x)
+
+beaten-first : (e : Extremum) (b a x : ℤ) → Beaten e b a → Beaten e b (margin-extreme (dual e) a x)
+beaten-first largest b a x h = omega (arith, smaller-parts a x)
+beaten-first smallest b a x h = omega (arith, larger-parts a x)
+
+beaten-last : (e : Extremum) (b a x : ℤ) → Beaten e b a → Beaten e b (margin-extreme (dual e) x a)
+beaten-last largest b a x h = omega (arith, smaller-parts x a)
+beaten-last smallest b a x h = omega (arith, larger-parts x a)
+
+pub either-beaten : (e : Extremum) (t : Bool) (b x y : ℤ) → Beaten e b x → Beaten e b y → Beaten e b (cond t x y)
+either-beaten e true b x y h k = h
+either-beaten e false b x y h k = k
+
+module _ (top : ℕ) (e : Extremum) where
+  pub nothing-beaten : (f : ℕ → ℤ) (n : ℕ) → Beaten e (extremum (margins top) e f n) (margin-nothing top e)
+  nothing-beaten f zero = beaten-self e (margin-nothing top e)
+  nothing-beaten f (suc n) = beaten-more e _ _ (f n) (nothing-beaten f n)
+
+  -- a carried value that is beaten stays so, whatever it is joined to
+  pub run-beaten : (b x : ℤ) (l : ℕ → ℤ) (m k : ℕ) → m ≤ k → Beaten e b (extremum (margins top) (dual e) l m) → Beaten e b (margin-extreme (dual e) x (extremum (margins top) (dual e) l k))
+  run-beaten b x l m k h g = beaten-last e b (extremum (margins top) (dual e) l k) x (go k h)
+    where
+      the : (a c : ℕ) → a ≡ c → a ≡ c
+      the a c p = p
+
+      go : (k : ℕ) → m ≤ k → Beaten e b (extremum (margins top) (dual e) l k)
+      go zero h = subst (λ (i : ℕ). Beaten e b (extremum (margins top) (dual e) l i)) (the m 0 (omega arith)) g
+      go (suc k) h =
+          elim (decLe m k) [
+            | yes q ↦ beaten-first e b (extremum (margins top) (dual e) l k) (l k) (go k q)
+            | no q ↦ subst (λ (i : ℕ). Beaten e b (extremum (margins top) (dual e) l i)) (the m (suc k) (omega arith)) g
+          ]
+
+  -- where all that is left is beaten, the extremum is what it is
+  pub extremum-still : (f : ℕ → ℤ) (m n : ℕ) → m ≤ n → ((k : ℕ) → m ≤ k → k < n → Beaten e (extremum (margins top) e f m) (f k)) → extremum (margins top) e f n ≡ extremum (margins top) e f m
+  extremum-still f m zero h k = let p : m ≡ 0 = omega arith in rw p refl
+  extremum-still f m (suc n) h k =
+      elim (decLe m n) [
+        | yes q ↦ rw (extremum-still f m n q (λ j a b. k j a (omega arith))) (beaten-stays e _ (f n) (k n q (omega arith)))
+        | no q ↦ let p : m ≡ suc n = omega arith in rw p refl
+      ]
