@@ -1,0 +1,28 @@
+-- What filling a node's row asks of its caller.
+-- Assumes nothing.
+use mathlib.Core.Path.{_≡_}
+use mathlib.Core.List.{List}
+use Prim.Native.Nat.{ℕ, _+_, _*_, _≤_, _<_}
+use lib.ListN.{length}
+use lib.IntN.{ℤ}
+use Rattle.recordings.specs.declared.Range.the-variants.{Unset}
+use Rattle.recordings.specs.Card.{Card, rows, predicate}
+use Rattle.recordings.specs.Accepted.{Recorded}
+use Rattle.tables.specs.declared.Node.{Node}
+use Rattle.tables.specs.Kind.{operator}
+use Rattle.tables.specs.Rules.{Use, child, number, unused, left-use, right-use}
+
+-- a row that an operand is read from stands before the row that is filled
+abbrev pub Earlier : Use → ℕ → ℕ → Type 0
+Earlier child from row = from < row
+Earlier number from row = Unit
+Earlier unused from row = Unit
+
+pub record NodeAsks (work : List ℤ) (c : Card) (n : Node) (left right row : ℕ) : Type 0 where
+  pub recorded : Recorded c
+  pub known : n .kind ≤ 8
+  pub left-earlier : Earlier (left-use (operator (n .kind))) left row
+  pub right-earlier : Earlier (right-use (operator (n .kind))) right row
+  pub numbered : n .kind ≡ 1 → n .left ≤ 15
+  pub set : n .kind ≡ 1 → predicate c (n .left) .range ≡ Unset → ⊥
+  pub room : row * rows c + rows c ≤ length work
