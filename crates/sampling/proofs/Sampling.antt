@@ -1,0 +1,127 @@
+-- Each test of refusals 9 to 11 holds exactly where its sentence does. Neighbouring values of a channel are those `channels` places apart: place m is channel m % channels of sample m / channels.
+-- Assumes nothing.
+use mathlib.Core.Path.{_≡_, refl, sym, ap}
+use mathlib.Core.Bool.{Bool, true, _&&_}
+use mathlib.Core.List.{List}
+use Prim.Native.Nat.{ℕ, zero, suc, _+_, _-_, _*_, _/_, _%_, _≤_, _<_}
+use native.Mathlib.Omega.{arith}
+use native.Mathlib.Nat.{mul-le-mul-right, suc-mul, div-add-mod', mod-lt}
+use native.Mathlib.Decide.{decLt}
+use lib.Dec.{T, leb, leb→le, le→leb}
+use lib.ListN.{length, getD}
+use lib.IntN.{ℤ, pos, _-ℤ_, natAbs}
+use lib.Signed.{leZ}
+use mir.Facts.{and-yes, yes-and}
+use Rattle.numbers.proofs.Parts.{plus, minus, holds, le-parts, parts-le, parts-apart, abs-parts, sub-parts}
+use Rattle.lists.proofs.Below.{same-test, all-at, at-all}
+use Rattle.lists.proofs.Filled.{earlier-row}
+use Rattle.recordings.specs.Card.{Card, rows, time, value}
+use Rattle.recordings.specs.Accepted.{InRange, Recorded, Accepted}
+use Rattle.tables.specs.declared.Table.{Table}
+use Rattle.rules.specs.First.{first, check-at}
+use Rattle.rules.specs.Refusals.{checks as recording-checks}
+use Rattle.rules.proofs.First.{passed, none-fails}
+use Rattle.rules.proofs.Refusals.{sound}
+use Rattle.sampling.specs.Sampling.{step-obeys, Step, all-close, times-close, Gapless, near, all-near, values-near, Steady, checks, Measured}
+
+-- ---- 9
+pub step-is : (step drift : ℕ) → T (step-obeys step drift) → Step step drift
+unfolding step-obeys
+step-is step drift t =
+    let a = and-yes (leb 1 step) (leb step 1_000_000_000 && leb drift 1_000_000_000) t in
+    let b = and-yes (leb step 1_000_000_000) (leb drift 1_000_000_000) (a .1) in
+    record { some-step = leb→le 1 step (a .0); short-step = leb→le step 1_000_000_000 (b .0); small-drift = leb→le drift 1_000_000_000 (b .1) }
+
+pub step-passes : (step drift : ℕ) → Step step drift → T (step-obeys step drift)
+unfolding step-obeys
+step-passes step drift r =
+    yes-and (leb 1 step) (leb step 1_000_000_000 && leb drift 1_000_000_000) (le→leb 1 step (r .some-step))
+    (yes-and (leb step 1_000_000_000) (leb drift 1_000_000_000) (le→leb step 1_000_000_000 (r .short-step)) (le→leb drift 1_000_000_000 (r .small-drift)))
+
+-- ---- 10
+pub gapless : (c : Card) (step : ℕ) → T (times-close step (c .times)) → Gapless c step
+unfolding times-close all-close
+gapless c step t = record {
+  no-gap = λ i h. omega (arith, leb→le (time c (suc i) - time c i) step (all-at (λ j. leb (time c (suc j) - time c j) step) (rows c - 1) t i (omega arith)));
+}
+
+pub gapless-passes : (c : Card) (step : ℕ) → Gapless c step → T (times-close step (c .times))
+unfolding times-close all-close
+gapless-passes c step r =
+    at-all (λ j. leb (time c (suc j) - time c j) step) (rows c - 1) (λ i h. le→leb (time c (suc i) - time c i) step (omega (arith, r .no-gap i (omega arith))))
+
+-- ---- 11
+-- the code compares both differences with 2 × drift
+pub near-both : (drift : ℕ) (a b : ℤ) → near drift a b ≡ (leZ (b -ℤ a) (pos (2 * drift)) && leZ (a -ℤ b) (pos (2 * drift)))
+unfolding near
+near-both drift a b = same-test
+    (λ t. let h = leb→le (natAbs (b -ℤ a)) (2 * drift) t in
+    yes-and (leZ (b -ℤ a) (pos (2 * drift))) (leZ (a -ℤ b) (pos (2 * drift)))
+    (parts-le (b -ℤ a) (pos (2 * drift)) (omega (arith, abs-parts (b -ℤ a))))
+    (parts-le (a -ℤ b) (pos (2 * drift)) (omega (arith, abs-parts (b -ℤ a), sub-parts a b, sub-parts b a))))
+    (λ t. let h = and-yes (leZ (b -ℤ a) (pos (2 * drift))) (leZ (a -ℤ b) (pos (2 * drift))) t in
+    le→leb (natAbs (b -ℤ a)) (2 * drift)
+    (omega (arith, le-parts (b -ℤ a) (pos (2 * drift)) (h .0), le-parts (a -ℤ b) (pos (2 * drift)) (h .1), abs-parts (b -ℤ a), parts-apart (b -ℤ a), sub-parts a b, sub-parts b a)))
+
+-- the next sample's place is `channels` places on
+next-place : (i ch n : ℕ) → suc i * n + ch ≡ i * n + ch + n
+next-place i ch n = omega (arith, suc-mul i n)
+
+pub steady : (c : Card) (drift : ℕ) → length (c .values) ≡ rows c * c .channels → T (values-near drift (c .channels) (c .values)) → Steady c drift
+unfolding values-near all-near near
+steady c drift l t = record { no-jump = λ i ch h k. apart i ch h k }
+  where
+    there : (i ch : ℕ) → suc i < rows c → ch < c .channels → i * c .channels + ch < length (c .values) - c .channels
+    there i ch h k = omega (arith, earlier-row (suc i) (rows c) (c .channels) h, suc-mul i (c .channels))
+
+    apart : (i ch : ℕ) → suc i < rows c → ch < c .channels → natAbs (value c ch (suc i) -ℤ value c ch i) ≤ 2 * drift
+    apart i ch h k = rw (next-place i ch (c .channels))
+        (leb→le (natAbs (getD (c .values) (i * c .channels + ch + c .channels) (pos 0) -ℤ value c ch i)) (2 * drift)
+        (all-at (λ m. near drift (getD (c .values) m (pos 0)) (getD (c .values) (m + c .channels) (pos 0))) (length (c .values) - c .channels) t (i * c .channels + ch) (there i ch h k)))
+
+pub steady-passes : (c : Card) (drift : ℕ) → 1 ≤ c .channels → length (c .values) ≡ rows c * c .channels → Steady c drift → T (values-near drift (c .channels) (c .values))
+unfolding values-near all-near near
+steady-passes c drift s l r = at-all (λ m. near drift (getD (c .values) m (pos 0)) (getD (c .values) (m + c .channels) (pos 0))) (length (c .values) - c .channels) apart
+  where
+    parts : (m : ℕ) → m / c .channels * c .channels + m % c .channels ≡ m
+    parts m = div-add-mod' m (c .channels)
+
+    inner : (m : ℕ) → m < length (c .values) - c .channels → suc (m / c .channels) < rows c
+    inner m h = elim (decLt (suc (m / c .channels)) (rows c)) [
+      | yes i ↦ i
+      | no i ↦ let n : rows c ≤ suc (m / c .channels) = omega arith in absurd (omega (arith, mul-le-mul-right (c .channels) n, suc-mul (m / c .channels) (c .channels), parts m))
+    ]
+
+    apart : (m : ℕ) → m < length (c .values) - c .channels → T (near drift (getD (c .values) m (pos 0)) (getD (c .values) (m + c .channels) (pos 0)))
+    apart m h = le→leb (natAbs (getD (c .values) (m + c .channels) (pos 0) -ℤ getD (c .values) m (pos 0))) (2 * drift)
+        (rw (next-place (m / c .channels) (m % c .channels) (c .channels), parts m) at (r .no-jump (m / c .channels) (m % c .channels) (inner m h) (mod-lt m s)))
+
+-- ---- all of them
+pub measured : {c : Card} → Recorded c → Measured (c .channels) (c .times) (c .values)
+measured {c} r = record { some-row = r .some-row; some-values = omega (arith, r .all-values, mul-le-mul-right (c .channels) (r .some-row)); in-range = r .in-range }
+
+pub accepted : (c : Card) (step drift : ℕ) → Recorded c → first (checks (c .channels) (c .times) (c .values) step drift) ≡ 0 → Accepted c step drift
+accepted c step drift r e =
+    let p = passed (checks (c .channels) (c .times) (c .values) step drift) tt e in
+    let s = step-is step drift (p .each 0 (omega arith)) in
+    record {
+      recorded = r;
+      some-step = s .some-step;
+      short-step = s .short-step;
+      small-drift = s .small-drift;
+      no-gap = gapless c step (p .each 1 (omega arith)) .no-gap;
+      no-jump = steady c drift (r .all-values) (p .each 2 (omega arith)) .no-jump;
+    }
+
+-- no number of 3 to 7 and none of 9 to 11: what demand 3 asks
+pub accepted-by : (c : Card) (t : Table) (step drift : ℕ) → length (c .predicates) ≤ 16 → first (recording-checks c t) ≡ 0 → first (checks (c .channels) (c .times) (c .values) step drift) ≡ 0 → Accepted c step drift
+accepted-by c t step drift l e f = accepted c step drift (sound c t l e .recorded) f
+
+pub accepted-passes : (c : Card) (step drift : ℕ) → Accepted c step drift → first (checks (c .channels) (c .times) (c .values) step drift) ≡ 0
+accepted-passes c step drift a = none-fails (checks (c .channels) (c .times) (c .values) step drift) (record { each = each })
+  where
+    each : (j : ℕ) → j < 3 → T (check-at (checks (c .channels) (c .times) (c .values) step drift) j .passes)
+    each zero h = step-passes step drift (record { some-step = a .some-step; short-step = a .short-step; small-drift = a .small-drift })
+    each (suc zero) h = gapless-passes c step (record { no-gap = a .no-gap })
+    each (suc (suc zero)) h = steady-passes c drift (a .recorded .some-channel) (a .recorded .all-values) (record { no-jump = a .no-jump })
+    each (suc (suc (suc j))) h = absurd (omega arith)

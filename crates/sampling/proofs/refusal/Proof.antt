@@ -1,0 +1,72 @@
+-- The tests follow the list: each return says which of them passed and which one failed.
+-- Assumes nothing.
+use mathlib.Core.Path.{_≡_, refl, sym, _∙_}
+use mathlib.Core.Bool.{true, false}
+use lib.ListN.{length}
+use borrow.Author.Needs.{needs}
+use borrow.Author.Tests.{not-true, not-false}
+use Rattle.numbers.proofs.Parts.{holds}
+use Rattle.rules.specs.First.{first}
+use Rattle.sampling.specs.Sampling.{step-obeys, times-close, values-near}
+use Rattle.sampling.proofs.Sampling.{step-is}
+use Rattle.sampling.proofs.refusal.Statement.{statement}
+use Rattle.sampling.proofs.refusal.Tie as tie
+
+-- past the branch on a test, the test holds
+passed-9 : (c : tie.Else1) → step-obeys (c .before .before .before .args .step) (c .before .before .before .args .drift) ≡ true
+passed-9 c = sym (c .before .step-obeys .ensures) ∙ not-false _ (c .if1 .left)
+
+passed-10 : (c : tie.Else2) → times-close (c .before .before .before .before .before .args .step) (c .before .before .before .before .before .args .times .now) ≡ true
+unfolding times-close
+passed-10 c = sym (c .before .all-close .ensures) ∙ not-false _ (c .if2 .left)
+
+passed-11 : (c : tie.Else3) → values-near (c .before .before .before .before .before .before .before .args .drift) (c .before .before .before .before .before .before .before .args .channels) (c .before .before .before .before .before .before .before .args .values .now) ≡ true
+passed-11 c = sym (c .before .values-near .ensures) ∙ not-false _ (c .if3 .left)
+
+step-obeys-requires : tie.Need-step-obeys-requires
+step-obeys-requires c κs = search needs
+
+returns : tie.Need-returns
+unfolding first
+returns c = rw (sym (c .before .step-obeys .ensures) ∙ not-true (c .before .step-obeys .result) (c .if1 .taken))
+
+sub-gaps : tie.Need-sub-gaps
+sub-gaps c = search needs
+
+all-close-requires : tie.Need-all-close-requires
+all-close-requires c κs = search needs
+
+returns-2 : tie.Need-returns-2
+unfolding first times-close
+returns-2 c = rw (passed-9 (c .before .before), sym (c .before .all-close .ensures) ∙ not-true (c .before .all-close .result) (c .if2 .taken))
+
+values-near-requires : tie.Need-values-near-requires
+values-near-requires c κs =
+    let s = c .before .before .before .before .before in
+    record {
+      some-values = s .pre .some-values;
+      in-range = s .pre .in-range;
+      small-drift = step-is (s .args .step) (s .args .drift) (holds (passed-9 (c .before .before))) .small-drift;
+    }
+
+returns-3 : tie.Need-returns-3
+unfolding first
+returns-3 c =
+    rw (passed-9 (c .before .before .before .before), passed-10 (c .before .before), sym (c .before .values-near .ensures) ∙ not-true (c .before .values-near .result) (c .if3 .taken))
+
+returns-4 : tie.Need-returns-4
+unfolding first
+returns-4 c = rw (passed-9 (c .before .before .before .before), passed-10 (c .before .before), passed-11 c)
+
+pub refusal-spec : {M : Type 1} → statement M
+refusal-spec =
+    tie.close
+    (tie.spec
+    step-obeys-requires
+    returns
+    sub-gaps
+    all-close-requires
+    returns-2
+    values-near-requires
+    returns-3
+    returns-4)

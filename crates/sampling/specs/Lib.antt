@@ -1,0 +1,2 @@
+-- What the verdict asks of step, drift and neighbouring samples.
+pub mod Sampling

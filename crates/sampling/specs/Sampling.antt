@@ -1,0 +1,69 @@
+-- Refusals 9 to 11, which the verdict alone has: for each number the test, and the sentence that it stands for. `proofs/Sampling` shows the two equal.
+-- Assumes nothing.
+use mathlib.Core.Bool.{Bool, _&&_}
+use mathlib.Core.List.{List, [], _∷_}
+use Prim.Native.Nat.{ℕ, suc, _+_, _-_, _*_, _≤_, _<_}
+use lib.Dec.{leb}
+use lib.ListN.{length, getD}
+use lib.IntN.{ℤ, pos, _-ℤ_, natAbs}
+use Rattle.lists.specs.Fold.{allBelow}
+use Rattle.recordings.specs.Card.{Card, rows, time, value}
+use Rattle.recordings.specs.Accepted.{InRange}
+use Rattle.rules.specs.First.{Check}
+
+-- ---- 9: step or drift out of range
+unfoldable pub step-obeys : ℕ → ℕ → Bool
+step-obeys step drift = leb 1 step && (leb step 1_000_000_000 && leb drift 1_000_000_000)
+
+pub record Step (step drift : ℕ) : Type 0 where
+  pub some-step : 1 ≤ step
+  pub short-step : step ≤ 1_000_000_000
+  pub small-drift : drift ≤ 1_000_000_000
+
+-- ---- 10: two neighbouring times differ by more than the step
+unfoldable pub all-close : ℕ → List ℕ → ℕ → Bool
+all-close step ts n = allBelow (λ i. leb (getD ts (suc i) 0 - getD ts i 0) step) n
+
+unfoldable pub times-close : ℕ → List ℕ → Bool
+times-close step ts = all-close step ts (length ts - 1)
+
+pub record Gapless (c : Card) (step : ℕ) : Type 0 where
+  pub no-gap : (i : ℕ) → suc i < rows c → time c (suc i) ≤ time c i + step
+
+-- ---- 11: neighbouring values of a channel differ by more than 2 × drift
+unfoldable pub near : ℕ → ℤ → ℤ → Bool
+near drift a b = leb (natAbs (b -ℤ a)) (2 * drift)
+
+-- the channel's next value stands `channels` places on
+unfoldable pub all-near : ℕ → ℕ → List ℤ → ℕ → Bool
+all-near drift channels vs n = allBelow (λ m. near drift (getD vs m (pos 0)) (getD vs (m + channels) (pos 0))) n
+
+unfoldable pub values-near : ℕ → ℕ → List ℤ → Bool
+values-near drift channels vs = all-near drift channels vs (length vs - channels)
+
+pub record Steady (c : Card) (drift : ℕ) : Type 0 where
+  pub no-jump : (i ch : ℕ) → suc i < rows c → ch < c .channels → natAbs (value c ch (suc i) -ℤ value c ch i) ≤ 2 * drift
+
+-- ---- in the order in which they count; in a verdict they stand behind refusals 3 to 8
+abbrev pub checks : ℕ → List ℕ → List ℤ → ℕ → ℕ → List Check
+checks channels times values step drift =
+    record { number = 9; passes = step-obeys step drift }
+    ∷ record { number = 10; passes = times-close step times }
+    ∷ record { number = 11; passes = values-near drift channels values }
+    ∷ []
+
+-- what the tests may rely on, from refusals 5, 7 and 9
+pub record Comparable (from to : ℤ) (drift : ℕ) : Type 0 where
+  pub from-in-range : InRange from
+  pub to-in-range : InRange to
+  pub small-drift : drift ≤ 1_000_000_000
+
+pub record Comparables (channels : ℕ) (values : List ℤ) (drift : ℕ) : Type 0 where
+  pub some-values : channels ≤ length values
+  pub in-range : (m : ℕ) → m < length values → InRange (getD values m (pos 0))
+  pub small-drift : drift ≤ 1_000_000_000
+
+pub record Measured (channels : ℕ) (times : List ℕ) (values : List ℤ) : Type 0 where
+  pub some-row : 1 ≤ length times
+  pub some-values : channels ≤ length values
+  pub in-range : (m : ℕ) → m < length values → InRange (getD values m (pos 0))
