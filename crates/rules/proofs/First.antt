@@ -1,7 +1,7 @@
--- The answer is a number exactly when that number's test fails and none earlier does, and 0 exactly when none fails. By induction over the list.
+-- Where each test is exact, the answer is a number exactly when that number's condition does not hold and every earlier one does, and 0 exactly when all hold. By induction over the list.
 -- Assumes nothing.
-use mathlib.Core.Path.{_≡_, refl, sym, _∙_}
-use mathlib.Core.Bool.{Bool, true, false, not, cond, _&&_}
+use mathlib.Core.Path.{_≡_, refl, sym, subst, _∙_}
+use mathlib.Core.Bool.{Bool, true, false, cond, _&&_}
 use mathlib.Core.Logic.{_⊎_, inl, inr}
 use mathlib.Core.List.{List, [], _∷_, _++_}
 use Prim.Native.Nat.{ℕ, zero, suc, _≤_, _<_}
@@ -10,24 +10,22 @@ use native.Mathlib.Nat.{le-of-suc-le-suc}
 use lib.Dec.{T, leb, leb→le}
 use lib.ListN.{length, getD}
 use mir.Facts.{and-yes}
-use Rattle.rules.specs.First.{Check, first, check-at, Refused, Passed, numbered}
+use Rattle.numbers.proofs.Parts.{holds}
+use Rattle.rules.specs.First.{Check, first, Exact, AllExact, numbered, check-at, Refused, Passed}
 
 either : (b : Bool) → (b ≡ true) ⊎ (b ≡ false)
 either true = inl refl
 either false = inr refl
 
-clear : {b : Bool} → b ≡ true → T b
-clear e = rw e tt
+answers : {b : Bool} → T b → b ≡ true
+answers {b = true} t = refl
+answers {b = false} t = absurd t
 
-pub passes-true : (b : Bool) → T b → b ≡ true
-passes-true true t = refl
-passes-true false t = absurd t
+refutes : {b : Bool} → (T b → ⊥) → b ≡ false
+refutes {b = true} h = absurd (h tt)
+refutes {b = false} h = refl
 
-pub fails-false : (b : Bool) → T (not b) → b ≡ false
-fails-false true t = absurd t
-fails-false false t = refl
-
--- ---- one test more in front
+-- ---- one condition more in front
 pub first-passes : (c : Check) (cs : List Check) → c .passes ≡ true → first (c ∷ cs) ≡ first cs
 unfolding first
 first-passes c cs e = rw e
@@ -42,50 +40,56 @@ head-numbered c cs n = leb→le 1 (c .number) (and-yes (leb 1 (c .number)) (numb
 tail-numbered : (c : Check) (cs : List Check) → T (numbered (c ∷ cs)) → T (numbered cs)
 tail-numbered c cs n = and-yes (leb 1 (c .number)) (numbered cs) n .1
 
--- ---- 0 exactly when no test fails
-pub passed : (cs : List Check) → T (numbered cs) → first cs ≡ 0 → Passed cs
-passed [] n e = record { each = λ j h. absurd (omega arith) }
-passed (c ∷ cs) n e = elim (either (c .passes)) [
+-- ---- 0 exactly when every condition holds
+pub passed : (cs : List Check) → T (numbered cs) → AllExact cs → first cs ≡ 0 → Passed cs
+passed [] n x e = record { each = λ j h. absurd (omega arith) }
+passed (c ∷ cs) n x e = elim (either (c .passes)) [
   | inl p ↦
-      let r = passed cs (tail-numbered c cs n) (sym (first-passes c cs p) ∙ e) in
-      record { each = λ j. elim j [ zero ↦ λ h. clear p | suc i ↦ λ h. r .each i (le-of-suc-le-suc h) ] }
+      let r = passed cs (tail-numbered c cs n) (x .1) (sym (first-passes c cs p) ∙ e) in
+      record { each = λ j. elim j [ zero ↦ λ h. x .0 .sound (holds p) | suc i ↦ λ h. r .each i (le-of-suc-le-suc h) ] }
   | inr p ↦ absurd (omega (arith, head-numbered c cs n, sym (first-fails c cs p) ∙ e))
 ]
 
-pub none-fails : (cs : List Check) → Passed cs → first cs ≡ 0
+pub none-fails : (cs : List Check) → AllExact cs → Passed cs → first cs ≡ 0
 unfolding first
-none-fails [] r = refl
-none-fails (c ∷ cs) r =
-    first-passes c cs (passes-true (c .passes) (r .each 0 (omega arith)))
-    ∙ none-fails cs (record { each = λ j h. r .each (suc j) (omega arith) })
+none-fails [] x r = refl
+none-fails (c ∷ cs) x r =
+    first-passes c cs (answers (x .0 .complete (r .each 0 (omega arith))))
+    ∙ none-fails cs (x .1) (record { each = λ j h. r .each (suc j) (omega arith) })
 
--- ---- m exactly when test m fails and none earlier does
-pub refused : (cs : List Check) → (first cs ≡ 0 → ⊥) → Refused cs (first cs)
+-- ---- m exactly when condition m does not hold and every earlier one does
+pub refused : (cs : List Check) → AllExact cs → (first cs ≡ 0 → ⊥) → Refused cs (first cs)
 unfolding first
-refused [] h = absurd (h refl)
-refused (c ∷ cs) h = elim (either (c .passes)) [
+refused [] x h = absurd (h refl)
+refused (c ∷ cs) x h = elim (either (c .passes)) [
   | inl p ↦
       let e = first-passes c cs p in
-      let r = refused cs (λ z. h (e ∙ z)) in
+      let r = refused cs (x .1) (λ z. h (e ∙ z)) in
       record {
         place = suc (r .place);
         listed = omega (arith, r .listed);
         number = r .number ∙ sym e;
         fails = r .fails;
-        earlier = λ j. elim j [ zero ↦ λ k. clear p | suc i ↦ λ k. r .earlier i (le-of-suc-le-suc k) ];
+        earlier = λ j. elim j [ zero ↦ λ k. x .0 .sound (holds p) | suc i ↦ λ k. r .earlier i (le-of-suc-le-suc k) ];
       }
-  | inr p ↦ record { place = 0; listed = omega arith; number = sym (first-fails c cs p); fails = rw p tt; earlier = λ j k. absurd (omega arith) }
+  | inr p ↦ record {
+    place = 0;
+    listed = omega arith;
+    number = sym (first-fails c cs p);
+    fails = λ s. subst T p (x .0 .complete s);
+    earlier = λ j k. absurd (omega arith);
+  }
 ]
 
-at-place : (cs : List Check) (m place : ℕ) → place < length cs → check-at cs place .number ≡ m → T (not (check-at cs place .passes)) → ((j : ℕ) → j < place → T (check-at cs j .passes)) → first cs ≡ m
-at-place [] m place l n f e = absurd (omega arith)
-at-place (c ∷ cs) m zero l n f e = first-fails c cs (fails-false (c .passes) f) ∙ n
-at-place (c ∷ cs) m (suc p) l n f e =
-    first-passes c cs (passes-true (c .passes) (e 0 (omega arith)))
-    ∙ at-place cs m p (le-of-suc-le-suc l) n f (λ j k. e (suc j) (omega arith))
+at-place : (cs : List Check) (m place : ℕ) → AllExact cs → place < length cs → check-at cs place .number ≡ m → (check-at cs place .sentence → ⊥) → ((j : ℕ) → j < place → check-at cs j .sentence) → first cs ≡ m
+at-place [] m place x l n f e = absurd (omega arith)
+at-place (c ∷ cs) m zero x l n f e = first-fails c cs (refutes (λ t. f (x .0 .sound t))) ∙ n
+at-place (c ∷ cs) m (suc p) x l n f e =
+    first-passes c cs (answers (x .0 .complete (e 0 (omega arith))))
+    ∙ at-place cs m p (x .1) (le-of-suc-le-suc l) n f (λ j k. e (suc j) (omega arith))
 
-pub first-is : (cs : List Check) {m : ℕ} → Refused cs m → first cs ≡ m
-first-is cs {m} r = at-place cs m (r .place) (r .listed) (r .number) (r .fails) (r .earlier)
+pub first-is : (cs : List Check) {m : ℕ} → AllExact cs → Refused cs m → first cs ≡ m
+first-is cs {m} x r = at-place cs m (r .place) x (r .listed) (r .number) (r .fails) (r .earlier)
 
 -- ---- a list in two parts: the second counts where the first finds nothing
 pub first-append : (cs ds : List Check) → T (numbered cs) → first cs ≡ 0 → first (cs ++ ds) ≡ first ds
@@ -102,3 +106,18 @@ first-stays (c ∷ cs) ds h = elim (either (c .passes)) [
   | inl p ↦ first-passes c (cs ++ ds) p ∙ first-stays cs ds (λ z. h (first-passes c cs p ∙ z)) ∙ sym (first-passes c cs p)
   | inr p ↦ first-fails c (cs ++ ds) p ∙ sym (first-fails c cs p)
 ]
+
+-- nothing applies to the whole exactly when nothing applies to either part
+pub first-of-whole : (cs ds : List Check) → T (numbered cs) → first (cs ++ ds) ≡ 0 → (first cs ≡ 0) × (first ds ≡ 0)
+unfolding first
+first-of-whole [] ds n e = (refl, e)
+first-of-whole (c ∷ cs) ds n e = elim (either (c .passes)) [
+  | inl p ↦
+      let r = first-of-whole cs ds (tail-numbered c cs n) (sym (first-passes c (cs ++ ds) p) ∙ e) in
+      (first-passes c cs p ∙ r .0, r .1)
+  | inr p ↦ absurd (omega (arith, head-numbered c cs n, sym (first-fails c (cs ++ ds) p) ∙ e))
+]
+
+pub exact-append : (cs ds : List Check) → AllExact cs → AllExact ds → AllExact (cs ++ ds)
+exact-append [] ds x y = y
+exact-append (c ∷ cs) ds x y = (x .0, exact-append cs ds (x .1) y)

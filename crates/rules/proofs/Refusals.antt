@@ -13,12 +13,12 @@ use Rattle.recordings.specs.Accepted.{Recorded}
 use Rattle.tables.specs.declared.Table.{Table}
 use Rattle.tables.specs.Rules.{table-obeys}
 use Rattle.tables.proofs.Rules.{table-rules, table-passes}
-use Rattle.rules.specs.First.{first, check-at, Passed}
+use Rattle.rules.specs.First.{first, Exact, AllExact, check-at, Refused, Passed}
 use Rattle.predicates.specs.Predicates.{requirement-obeys, all-named, Channels}
 use Rattle.predicates.proofs.Predicates.{named, named-passes, channels-are, channels-pass}
 use Rattle.rules.specs.Recording.{Lengths, Times, Values}
 use Rattle.rules.specs.Refusals.{checks, Sound}
-use Rattle.rules.proofs.First.{passed, none-fails}
+use Rattle.rules.proofs.First.{passed, none-fails, refused, first-is}
 use Rattle.rules.proofs.Recording.{lengths-are, lengths-pass, times-are, times-pass, values-are, values-pass}
 
 recorded : {c : Card} → Channels c → Lengths c → Times c → Values c → Recorded c
@@ -34,25 +34,44 @@ recorded h l t v = record {
   in-range = v .in-range;
 }
 
-pub sound : (c : Card) (t : Table) → length (c .predicates) ≤ 16 → first (checks c t) ≡ 0 → Sound c t
+-- sixteen predicates are all there are
+pub exact : (c : Card) (t : Table) → length (c .predicates) ≤ 16 → AllExact (checks c t)
 unfolding requirement-obeys
-sound c t l e =
-    let p = passed (checks c t) tt e in
-    let three = and-yes (table-obeys t) (all-named (c .predicates) (t .nodes) (t .count)) (p .each 0 (omega arith)) in
-    record {
-      ruled = table-rules t (three .0);
-      named = named c t (three .1);
-      recorded = recorded (channels-are c l (p .each 1 (omega arith))) (lengths-are c (p .each 2 (omega arith))) (times-are c (p .each 3 (omega arith))) (values-are c (p .each 4 (omega arith)));
+exact c t l = (three, (record { sound = channels-are c l; complete = channels-pass c }, (record { sound = lengths-are c; complete = lengths-pass c }, (record { sound = times-are c; complete = times-pass c }, (record { sound = values-are c; complete = values-pass c }, tt)))))
+  where
+    three : Exact (check-at (checks c t) 0)
+    three = record {
+      sound = λ h. let a = and-yes (table-obeys t) (all-named (c .predicates) (t .nodes) (t .count)) h in (table-rules t (a .0), named c t (a .1));
+      complete = λ s. yes-and (table-obeys t) (all-named (c .predicates) (t .nodes) (t .count)) (table-passes t (s .0)) (named-passes c t (s .1));
     }
 
-pub sound-passes : (c : Card) (t : Table) → Sound c t → first (checks c t) ≡ 0
-unfolding requirement-obeys
-sound-passes c t s = none-fails (checks c t) (record { each = each })
+-- the number is 0 exactly when the table is ruled, what it names is set, and the recording is as the semantics ask
+pub sound : (c : Card) (t : Table) → length (c .predicates) ≤ 16 → first (checks c t) ≡ 0 → Sound c t
+sound c t l e =
+    let p = passed (checks c t) tt (exact c t l) e in
+    record {
+      ruled = p .each 0 (omega arith) .0;
+      named = p .each 0 (omega arith) .1;
+      recorded = recorded (p .each 1 (omega arith)) (p .each 2 (omega arith)) (p .each 3 (omega arith)) (p .each 4 (omega arith));
+    }
+
+pub sound-passes : (c : Card) (t : Table) → length (c .predicates) ≤ 16 → Sound c t → first (checks c t) ≡ 0
+sound-passes c t l s = none-fails (checks c t) (exact c t l) (record { each = each })
   where
-    each : (j : ℕ) → j < 5 → T (check-at (checks c t) j .passes)
-    each zero h = yes-and (table-obeys t) (all-named (c .predicates) (t .nodes) (t .count)) (table-passes t (s .ruled)) (named-passes c t (s .named))
-    each (suc zero) h = channels-pass c (record { some-channel = s .recorded .some-channel; few-channels = s .recorded .few-channels; proper = s .recorded .proper })
-    each (suc (suc zero)) h = lengths-pass c (record { some-row = s .recorded .some-row; few-rows = s .recorded .few-rows; all-values = s .recorded .all-values })
-    each (suc (suc (suc zero))) h = times-pass c (record { rising = s .recorded .rising; small-times = s .recorded .small-times })
-    each (suc (suc (suc (suc zero)))) h = values-pass c (record { in-range = s .recorded .in-range })
+    r : Recorded c
+    r = s .recorded
+
+    each : (j : ℕ) → j < 5 → check-at (checks c t) j .sentence
+    each zero h = (s .ruled, s .named)
+    each (suc zero) h = record { some-channel = r .some-channel; few-channels = r .few-channels; proper = r .proper }
+    each (suc (suc zero)) h = record { some-row = r .some-row; few-rows = r .few-rows; all-values = r .all-values }
+    each (suc (suc (suc zero))) h = record { rising = r .rising; small-times = r .small-times }
+    each (suc (suc (suc (suc zero)))) h = record { in-range = r .in-range }
     each (suc (suc (suc (suc (suc j))))) h = absurd (omega arith)
+
+-- each number, exactly: `refused` and `first-is` of this list
+pub refused-by : (c : Card) (t : Table) → length (c .predicates) ≤ 16 → (first (checks c t) ≡ 0 → ⊥) → Refused (checks c t) (first (checks c t))
+refused-by c t l h = refused (checks c t) (exact c t l) h
+
+pub refusal-is : (c : Card) (t : Table) {m : ℕ} → length (c .predicates) ≤ 16 → Refused (checks c t) m → first (checks c t) ≡ m
+refusal-is c t l r = first-is (checks c t) (exact c t l) r

@@ -10,8 +10,8 @@ use Rattle.recordings.specs.Accepted.{Recorded}
 use Rattle.tables.specs.declared.Table.{Table}
 use Rattle.tables.specs.Rules.{TableRules}
 use Rattle.rules.specs.First.{Check}
-use Rattle.predicates.specs.Predicates.{requirement-obeys, Named, channels-obey}
-use Rattle.rules.specs.Recording.{lengths-obey, times-obey, values-obey}
+use Rattle.predicates.specs.Predicates.{requirement-obeys, Named, channels-obey, Channels}
+use Rattle.rules.specs.Recording.{lengths-obey, Lengths, times-obey, Times, values-obey, Values}
 
 -- what the library's callers hand over, as a card
 abbrev pub card : ℕ → List Predicate → List ℕ → List ℤ → Card
@@ -19,11 +19,11 @@ card channels predicates times values = record { channels = channels; times = ti
 
 abbrev pub checks : Card → Table → List Check
 checks c t =
-    record { number = 3; passes = requirement-obeys t (c .predicates) }
-    ∷ record { number = 4; passes = channels-obey (c .channels) (c .predicates) }
-    ∷ record { number = 5; passes = lengths-obey (rows c) (length (c .values)) (c .channels) }
-    ∷ record { number = 6; passes = times-obey (c .times) }
-    ∷ record { number = 7; passes = values-obey (c .values) }
+    record { number = 3; sentence = TableRules t × Named c t; passes = requirement-obeys t (c .predicates) }
+    ∷ record { number = 4; sentence = Channels c; passes = channels-obey (c .channels) (c .predicates) }
+    ∷ record { number = 5; sentence = Lengths c; passes = lengths-obey (rows c) (length (c .values)) (c .channels) }
+    ∷ record { number = 6; sentence = Times c; passes = times-obey (c .times) }
+    ∷ record { number = 7; sentence = Values c; passes = values-obey (c .values) }
     ∷ []
 
 -- none of them applies

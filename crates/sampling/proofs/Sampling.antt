@@ -18,11 +18,11 @@ use Rattle.lists.proofs.Filled.{earlier-row}
 use Rattle.recordings.specs.Card.{Card, rows, time, value}
 use Rattle.recordings.specs.Accepted.{InRange, Recorded, Accepted}
 use Rattle.tables.specs.declared.Table.{Table}
-use Rattle.rules.specs.First.{first, check-at}
+use Rattle.rules.specs.First.{first, Exact, AllExact, check-at}
 use Rattle.rules.specs.Refusals.{checks as recording-checks}
 use Rattle.rules.proofs.First.{passed, none-fails}
 use Rattle.rules.proofs.Refusals.{sound}
-use Rattle.sampling.specs.Sampling.{step-obeys, Step, all-close, times-close, Gapless, near, all-near, values-near, Steady, checks, Measured}
+use Rattle.sampling.specs.Sampling.{step-obeys, Step, all-close, times-close, Gapless, near, all-near, values-near, Steady, checks, samples-alone, Measured}
 
 -- ---- 9
 pub step-is : (step drift : ℕ) → T (step-obeys step drift) → Step step drift
@@ -100,28 +100,40 @@ steady-passes c drift s l r = at-all (λ m. near drift (getD (c .values) m (pos 
 pub measured : {c : Card} → Recorded c → Measured (c .channels) (c .times) (c .values)
 measured {c} r = record { some-row = r .some-row; some-values = omega (arith, r .all-values, mul-le-mul-right (c .channels) (r .some-row)); in-range = r .in-range }
 
-pub accepted : (c : Card) (step drift : ℕ) → Recorded c → first (checks (c .channels) (c .times) (c .values) step drift) ≡ 0 → Accepted c step drift
+pub exact : (c : Card) (step drift : ℕ) → Recorded c → AllExact (checks c step drift)
+exact c step drift r = (record { sound = step-is step drift; complete = step-passes step drift }, (record { sound = gapless c step; complete = gapless-passes c step }, (eleven, tt)))
+  where
+    eleven : Exact (check-at (checks c step drift) 2)
+    eleven = record { sound = steady c drift (r .all-values); complete = steady-passes c drift (r .some-channel) (r .all-values) }
+
+-- behind refusals 3 to 7, number 0 is acceptance, and acceptance is number 0
+pub accepted : (c : Card) (step drift : ℕ) → Recorded c → first (checks c step drift) ≡ 0 → Accepted c step drift
 accepted c step drift r e =
-    let p = passed (checks (c .channels) (c .times) (c .values) step drift) tt e in
-    let s = step-is step drift (p .each 0 (omega arith)) in
+    let p = passed (checks c step drift) tt (exact c step drift r) e in
+    let s : Step step drift = p .each 0 (omega arith) in
     record {
       recorded = r;
       some-step = s .some-step;
       short-step = s .short-step;
       small-drift = s .small-drift;
-      no-gap = gapless c step (p .each 1 (omega arith)) .no-gap;
-      no-jump = steady c drift (r .all-values) (p .each 2 (omega arith)) .no-jump;
+      no-gap = p .each 1 (omega arith) .no-gap;
+      no-jump = p .each 2 (omega arith) .no-jump;
     }
 
+pub accepted-passes : (c : Card) (step drift : ℕ) → Accepted c step drift → first (checks c step drift) ≡ 0
+accepted-passes c step drift a = none-fails (checks c step drift) (exact c step drift (a .recorded)) (record { each = each })
+  where
+    each : (j : ℕ) → j < 3 → check-at (checks c step drift) j .sentence
+    each zero h = record { some-step = a .some-step; short-step = a .short-step; small-drift = a .small-drift }
+    each (suc zero) h = record { no-gap = a .no-gap }
+    each (suc (suc zero)) h = record { no-jump = a .no-jump }
+    each (suc (suc (suc j))) h = absurd (omega arith)
+
 -- no number of 3 to 7 and none of 9 to 11: what demand 3 asks
-pub accepted-by : (c : Card) (t : Table) (step drift : ℕ) → length (c .predicates) ≤ 16 → first (recording-checks c t) ≡ 0 → first (checks (c .channels) (c .times) (c .values) step drift) ≡ 0 → Accepted c step drift
+pub accepted-by : (c : Card) (t : Table) (step drift : ℕ) → length (c .predicates) ≤ 16 → first (recording-checks c t) ≡ 0 → first (checks c step drift) ≡ 0 → Accepted c step drift
 accepted-by c t step drift l e f = accepted c step drift (sound c t l e .recorded) f
 
-pub accepted-passes : (c : Card) (step drift : ℕ) → Accepted c step drift → first (checks (c .channels) (c .times) (c .values) step drift) ≡ 0
-accepted-passes c step drift a = none-fails (checks (c .channels) (c .times) (c .values) step drift) (record { each = each })
-  where
-    each : (j : ℕ) → j < 3 → T (check-at (checks (c .channels) (c .times) (c .values) step drift) j .passes)
-    each zero h = step-passes step drift (record { some-step = a .some-step; short-step = a .short-step; small-drift = a .small-drift })
-    each (suc zero) h = gapless-passes c step (record { no-gap = a .no-gap })
-    each (suc (suc zero)) h = steady-passes c drift (a .recorded .some-channel) (a .recorded .all-values) (record { no-jump = a .no-jump })
-    each (suc (suc (suc j))) h = absurd (omega arith)
+-- the tests of 9 to 11 do not look at the predicates
+pub first-alone : (c : Card) (step drift : ℕ) → first (checks (samples-alone (c .channels) (c .times) (c .values)) step drift) ≡ first (checks c step drift)
+unfolding first
+first-alone c step drift = refl

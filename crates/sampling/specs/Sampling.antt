@@ -10,6 +10,7 @@ use Rattle.lists.specs.Fold.{allBelow}
 use Rattle.recordings.specs.Card.{Card, rows, time, value}
 use Rattle.recordings.specs.Accepted.{InRange}
 use Rattle.rules.specs.First.{Check}
+use Rattle.rules.specs.Refusals.{card}
 
 -- ---- 9: step or drift out of range
 unfoldable pub step-obeys : ℕ → ℕ → Bool
@@ -45,12 +46,16 @@ pub record Steady (c : Card) (drift : ℕ) : Type 0 where
   pub no-jump : (i ch : ℕ) → suc i < rows c → ch < c .channels → natAbs (value c ch (suc i) -ℤ value c ch i) ≤ 2 * drift
 
 -- ---- in the order in which they count; in a verdict they stand behind refusals 3 to 8
-abbrev pub checks : ℕ → List ℕ → List ℤ → ℕ → ℕ → List Check
-checks channels times values step drift =
-    record { number = 9; passes = step-obeys step drift }
-    ∷ record { number = 10; passes = times-close step times }
-    ∷ record { number = 11; passes = values-near drift channels values }
+abbrev pub checks : Card → ℕ → ℕ → List Check
+checks c step drift =
+    record { number = 9; sentence = Step step drift; passes = step-obeys step drift }
+    ∷ record { number = 10; sentence = Gapless c step; passes = times-close step (c .times) }
+    ∷ record { number = 11; sentence = Steady c drift; passes = values-near drift (c .channels) (c .values) }
     ∷ []
+
+-- no predicate is looked at
+abbrev pub samples-alone : ℕ → List ℕ → List ℤ → Card
+samples-alone channels times values = card channels [] times values
 
 -- what the tests may rely on, from refusals 5, 7 and 9
 pub record Comparable (from to : ℤ) (drift : ℕ) : Type 0 where

@@ -6,7 +6,7 @@ ghost use lib.Dec.{leb};
 ghost use lib.ListN.{length};
 ghost use Rattle.recordings.specs.Accepted.{InRange};
 ghost use Rattle.rules.specs.First.{first};
-ghost use Rattle.sampling.specs.Sampling.{step-obeys, all-close, times-close, near, Comparable, all-near, values-near, checks, Measured, Comparables};
+ghost use Rattle.sampling.specs.Sampling.{step-obeys, all-close, times-close, near, Comparable, all-near, values-near, checks, samples-alone, Measured, Comparables};
 
 // The step and the drift go up to this.
 pub const LARGEST: u64 = 1_000_000_000;
@@ -70,7 +70,7 @@ fn values_near(values: &[i64], channels: usize, drift: u64) -> bool
 // The first of refusals 9 to 11 that applies, 0 where none does.
 pub fn refusal(times: &[u64], values: &[i64], channels: usize, step: u64, drift: u64) -> u64
     requires { ⌜ Measured channels (now times) (now values) ⌝ }
-    ensures { λ r. ⌜ r ≡ first (checks channels (now (times .entry)) (now (values .entry)) step drift) ⌝ }
+    ensures { λ r. ⌜ r ≡ first (checks (samples-alone channels (now (times .entry)) (now (values .entry))) step drift) ⌝ }
 {
     let nine = step_obeys(step, drift);
     if !nine {

@@ -60,7 +60,11 @@ loop-less c = omega arith
 loop-again : tie.Need-loop-again Inv-loop μ-loop
 unfolding all-near
 loop-again c =
-    (omega arith, rw (c .near .ensures, back-ok _ (c .before .before .near-arg .given), back-ok _ (c .before .near-arg2 .given), add-one, c .before .before .before .before .loop .inv .1))
+    let s = c .before .before .before .before .before in
+    let m : ℕ = c .before .before .before .before .loop .m in
+    let from = back-ok (getD (s .args .values .now) m (pos 0)) (c .before .before .near-arg .given) in
+    let to = back-ok (getD (s .args .values .now) (m + s .args .channels) (pos 0)) (c .before .near-arg2 .given) in
+    (omega arith, rw (c .near .ensures, from, to, add-one, c .before .before .before .before .loop .inv .1))
 
 returns : tie.Need-returns Inv-loop μ-loop
 unfolding values-near
