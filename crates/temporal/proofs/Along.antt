@@ -4,15 +4,17 @@ use mathlib.Core.Path.{_≡_, refl, sym, ap, ap₂, _∙_}
 use mathlib.Core.Bool.{Bool, true, false, not, cond, _&&_}
 use Prim.Native.Nat.{ℕ, zero, suc, _+_, _-_, _≤_, _<_}
 use native.Mathlib.Omega.{arith}
-use native.Mathlib.Decide.{decLt}
+use native.Mathlib.Decide.{decLe, decLt}
 use lib.Dec.{leb}
 use lib.IntN.{ℤ}
 use borrow.Author.Tests.{le-leb, lt-leb, lt-ltb, le-ltb}
+use Rattle.numbers.specs.Order.{Within}
 use Rattle.logic.specs.Window.{Window, before, inside}
 use Rattle.logic.specs.Formula.{Extremum, dual}
 use Rattle.logic.specs.Reading.{Algebra, extremum, along, margins, margin-extreme, margin-nothing}
+use Rattle.logic.proofs.Margins.{nothing-moves}
 use Rattle.rows.specs.Cells.{extremum-of}
-use Rattle.temporal.proofs.Beaten.{stays-beaten, either-beaten, nothing-beaten, run-beaten, extremum-still}
+use Rattle.temporal.proofs.Beaten.{beaten-stays, stays-beaten, either-beaten, nothing-beaten, run-beaten, extremum-still}
 
 pub dual-of : (b : Bool) → extremum-of (not b) ≡ dual (extremum-of b)
 dual-of true = refl
@@ -95,9 +97,37 @@ module _ (first end : ℕ) where
     pub best-settled : (j n : ℕ) → i ≤ j → j ≤ n → margin-extreme e (best j) (run j) ≡ best j → best n ≡ best j
     best-settled j n h k s = along-settled top e between _ _ _ (j - i) (n - i) (omega arith) s
 
+-- ---- no left operand: the extremum of right over the window's places
+module _ (top : ℕ) (e : Extremum) where
+  nothing-carried : (n : ℕ) → extremum (margins top) e (λ m. margin-nothing top e) n ≡ margin-nothing top e
+  nothing-carried zero = refl
+  nothing-carried (suc n) = rw (nothing-carried n) (beaten-stays e _ _ (nothing-beaten top e (λ m. margin-nothing top e) 0))
+
+module _ (first end top : ℕ) (e : Extremum) (r : ℕ → ℤ) (i n : ℕ) (within-top : (j : ℕ) → j < n → Within top (r j)) (h : i ≤ first) (g : end ≤ n) where
+  lone-to : (k : ℕ) → first + k ≤ end → best first end top e (λ j. margin-nothing top (dual e)) r i (first + k) ≡ extremum (margins top) e (λ m. r (first + m)) k
+  lone-to zero a = best-first first end top e (λ j. margin-nothing top (dual e)) r i (first + 0) (omega arith)
+  lone-to (suc k) a =
+      let p : first + suc k ≡ first + k + 1 = omega arith in
+      rw p (best-next first end top e (λ j. margin-nothing top (dual e)) r i (first + k) (omega arith) (omega arith) (omega arith)
+      ∙ (rw (nothing-carried top (dual e) (first + k - i), nothing-moves top (dual e) (r (first + k)) (within-top (first + k) (omega arith)), lone-to k (omega arith)) refl))
+
+  pub lone : first ≤ n → best first end top e (λ j. margin-nothing top (dual e)) r i n ≡ extremum (margins top) e (λ m. r (first + m)) (end - first)
+  lone b =
+      elim (decLe first end) [
+        | yes q ↦
+            let p : first + (end - first) ≡ end = omega arith in
+            best-end first end top e (λ j. margin-nothing top (dual e)) r i end n (omega arith) g (omega arith) ∙ (rw p at (lone-to (end - first) (omega arith)))
+        | no q ↦
+            let z : end - first ≡ 0 = omega arith in
+            rw z (best-empty first end top e (λ j. margin-nothing top (dual e)) r i n (omega arith))
+      ]
+
 -- ---- one turn of a loop: x, u and out are what is read back of a cell and of two results; b says "largest"
+pub turn-extremum : (top : ℕ) (e : Extremum) (l : ℕ → ℤ) (i j : ℕ) {old x res out : ℤ} → i ≤ j → old ≡ extremum (margins top) e (λ m. l (i + m)) (j - i) → x ≡ l j → res ≡ margin-extreme e old x → out ≡ res → out ≡ extremum (margins top) e (λ m. l (i + m)) (j + 1 - i)
+turn-extremum top e l i j h p q f o = o ∙ f ∙ rw (p, q) (sym (run-next top e l i j h))
+
 pub turn-run : (top : ℕ) (b : Bool) (l : ℕ → ℤ) (i j : ℕ) {old x res out : ℤ} → i ≤ j → old ≡ extremum (margins top) (dual (extremum-of b)) (λ m. l (i + m)) (j - i) → x ≡ l j → res ≡ margin-extreme (extremum-of (not b)) old x → out ≡ res → out ≡ extremum (margins top) (dual (extremum-of b)) (λ m. l (i + m)) (j + 1 - i)
-turn-run top b l i j h p q e o = o ∙ e ∙ rw (dual-of b, p, q) (sym (run-next top (dual (extremum-of b)) l i j h))
+turn-run top b l i j h p q f o = turn-extremum top (dual (extremum-of b)) l i j h p q (rw (dual-of b) at f) o
 
 pub turn-best : (first end top : ℕ) (b : Bool) (l r : ℕ → ℤ) (i j : ℕ) {old carried x res u last out : ℤ} → i ≤ j → first ≤ j → j < end → old ≡ best first end top (extremum-of b) l r i j → carried ≡ run first end top (extremum-of b) l r i j → x ≡ r j → res ≡ margin-extreme (extremum-of (not b)) x carried → u ≡ res → last ≡ margin-extreme (extremum-of b) old u → out ≡ last → out ≡ best first end top (extremum-of b) l r i (j + 1)
 turn-best first end top b l r i j h a k p c q e v f o =

@@ -13,7 +13,7 @@ use Rattle.logic.specs.Window.{Window, before}
 use Rattle.logic.specs.Formula.{Extremum, future}
 use Rattle.logic.specs.Reading.{along, margins}
 use Rattle.recordings.specs.Distance.{TOP}
-use Rattle.rows.specs.Cells.{cell}
+use Rattle.rows.specs.Cells.{cell, Bounded}
 use Rattle.rows.proofs.Kept.{child-kept}
 use Rattle.temporal.specs.declared.Left.{Left}
 use Rattle.temporal.specs.declared.Left.the-variants.{Row, Absent}
@@ -34,6 +34,9 @@ module _ (w : List ℤ) {l : List ℤ} (n row m : ℕ) (f : ℕ → ℤ) (room :
 
   right-kept : (right : ℕ) → right < row → (i : ℕ) → i < n → cell l n right i ≡ cell w n right i
   right-kept right h i q = child-kept n right row m f (record { earlier = h; room = room }) e i q
+
+  pub bounded-kept : (right : ℕ) → right < row → Bounded w n right → Bounded l n right
+  bounded-kept right h b = record { bounded = λ i q. rw (right-kept right h i q) (b .bounded i q) }
 
 pub place-value : {w l : List ℤ} {times : List ℕ} (x : Extremum) (v : Window) (left : Left) (right row i m first end : ℕ) (f : ℕ → ℤ) → RowAsks w times left right row → l ≡ fill (row * length times) m f w → Edge times (before (v .from)) i first → Edge times (v .stop) i end → along (margins TOP) x (between first end) (λ k. i + k) (λ k. left-at x l (length times) left (i + k)) (λ k. cell l (length times) right (i + k)) (length times - i) ≡ temporal-at future x v (places times) (left-at x w (length times) left) (cell w (length times) right) i
 place-value {w} {l} {times} x v left right row i m first end f a e F E =

@@ -9,7 +9,7 @@ ghost use Rattle.logic.specs.Window.{before};
 ghost use Rattle.logic.specs.Formula.{dual, future};
 ghost use Rattle.logic.specs.Reading.{extremum, along, margins, margin-extreme};
 ghost use Rattle.recordings.specs.Distance.{TOP};
-ghost use Rattle.rows.specs.Cells.{cell, extremum-of};
+ghost use Rattle.rows.specs.Cells.{cell, extremum-of, Bounded};
 ghost use Rattle.temporal.specs.Reading.{stop-of, window-of, places, left-at, temporal-at, Rising, LeftInside, LeftEarlier};
 ghost use Rattle.temporal.specs.Edges.{Reached, Edge};
 ghost use Rattle.temporal.specs.Asks.{PlaceAsks, RowAsks};
@@ -68,31 +68,26 @@ fn edge(times: &[u64], i: usize, at: usize, stop: Stop) -> usize
     }
 }
 
-// The left operand's value at place j.
-fn left_cell(cells: &[i64], rows: usize, largest: bool, left: Left, j: usize) -> i64
-    requires { ⌜ LeftInside (length (now cells)) rows left × (j < rows) ⌝ }
-    ensures { λ r. ⌜ r ≡ left-at (extremum-of largest) (now (cells .entry)) rows left j ⌝ }
+// The largest (least) of a row over the places from `first` up to, not including, `end`.
+fn over_places(
+    cells: &[i64],
+    rows: usize,
+    largest: bool,
+    row: usize,
+    first: usize,
+    end: usize,
+) -> i64
+    requires { ⌜ (row * rows + rows ≤ length (now cells)) × (end ≤ rows) ⌝ }
+    ensures { λ r. ⌜ r ≡ extremum (margins TOP) (extremum-of largest) (λ m. cell (now (cells .entry)) rows row (first + m)) (end - first) ⌝ }
 {
-    match left {
-        Left::Row(row) => rows::cell_at(cells, rows, row, j),
-        Left::Absent => rows::over_nothing(!largest),
-    }
-}
-
-// The least (largest) of left over the places from i up to, not including, `first`.
-fn carried(cells: &[i64], rows: usize, largest: bool, left: Left, i: usize, first: usize) -> i64
-    requires { ⌜ LeftInside (length (now cells)) rows left × (i ≤ first) × (first ≤ rows) ⌝ }
-    ensures { λ r. ⌜ r ≡ extremum (margins TOP) (dual (extremum-of largest)) (λ m. left-at (extremum-of largest) (now (cells .entry)) rows left (i + m)) (first - i) ⌝ }
-{
-    let other = !largest;
-    let mut run = rows::over_nothing(other);
-    let mut j = i;
-    while j < first {
-        let l = left_cell(cells, rows, largest, left, j);
-        run = rows::extreme(other, run, l);
+    let mut best = rows::over_nothing(largest);
+    let mut j = first;
+    while j < end {
+        let value = rows::cell_at(cells, rows, row, j);
+        best = rows::extreme(largest, best, value);
         j += 1;
     }
-    run
+    best
 }
 
 // Whether the best so far stays the best, `run` being the carried value.
@@ -106,7 +101,41 @@ fn settled(largest: bool, best: i64, run: i64) -> bool
     }
 }
 
-// The operator at place i, the places of its window being those from `first` up to, not including, `end`.
+// Until, or release, at place i, the places of its window being those from `first` up to, not including, `end`.
+fn bound_at(
+    cells: &[i64],
+    rows: usize,
+    largest: bool,
+    left: usize,
+    right: usize,
+    i: usize,
+    first: usize,
+    end: usize,
+) -> i64
+    requires { ⌜ PlaceAsks (now cells) rows right i first end × (left * rows + rows ≤ length (now cells)) ⌝ }
+    ensures { λ r. ⌜ r ≡ along (margins TOP) (extremum-of largest) (record { from = first; stop = before end }) (λ m. i + m) (λ m. cell (now (cells .entry)) rows left (i + m)) (λ m. cell (now (cells .entry)) rows right (i + m)) (rows - i) ⌝ }
+{
+    let other = !largest;
+    let mut best = rows::over_nothing(largest);
+    if end <= first {
+        return best;
+    }
+    let mut run = over_places(cells, rows, other, left, i, first);
+    let mut j = first;
+    while j < end {
+        let r = rows::cell_at(cells, rows, right, j);
+        let l = rows::cell_at(cells, rows, left, j);
+        best = rows::extreme(largest, best, rows::extreme(other, r, run));
+        run = rows::extreme(other, run, l);
+        if settled(largest, best, run) {
+            return best;
+        }
+        j += 1;
+    }
+    best
+}
+
+// The operator at place i: with no left operand, its extremum over the window's places.
 fn at_place(
     cells: &[i64],
     rows: usize,
@@ -117,27 +146,14 @@ fn at_place(
     first: usize,
     end: usize,
 ) -> i64
-    requires { ⌜ PlaceAsks (now cells) rows left right i first end ⌝ }
+    requires { ⌜ PlaceAsks (now cells) rows right i first end × LeftInside (length (now cells)) rows left ⌝ }
+    requires { ⌜ Bounded (now cells) rows right ⌝ }
     ensures { λ r. ⌜ r ≡ along (margins TOP) (extremum-of largest) (record { from = first; stop = before end }) (λ m. i + m) (λ m. left-at (extremum-of largest) (now (cells .entry)) rows left (i + m)) (λ m. cell (now (cells .entry)) rows right (i + m)) (rows - i) ⌝ }
 {
-    let other = !largest;
-    let mut best = rows::over_nothing(largest);
-    if end <= first {
-        return best;
+    match left {
+        Left::Row(operand) => bound_at(cells, rows, largest, operand, right, i, first, end),
+        Left::Absent => over_places(cells, rows, largest, right, first, end),
     }
-    let mut run = carried(cells, rows, largest, left, i, first);
-    let mut j = first;
-    while j < end {
-        let r = rows::cell_at(cells, rows, right, j);
-        let l = left_cell(cells, rows, largest, left, j);
-        best = rows::extreme(largest, best, rows::extreme(other, r, run));
-        run = rows::extreme(other, run, l);
-        if settled(largest, best, run) {
-            return best;
-        }
-        j += 1;
-    }
-    best
 }
 
 // The row of until (`largest`) or release, or without a left operand of eventually (`largest`) or always.

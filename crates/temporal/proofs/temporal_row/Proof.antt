@@ -13,7 +13,7 @@ use Rattle.rows.specs.Cells.{cell, extremum-of}
 use Rattle.temporal.specs.Reading.{stop-of, places, left-at, temporal-at}
 use Rattle.temporal.specs.Edges.{Reached}
 use Rattle.temporal.proofs.Edges.{reached-none, reached-next}
-use Rattle.temporal.proofs.Row.{left-inside, place-value}
+use Rattle.temporal.proofs.Row.{left-inside, bounded-kept, place-value}
 use Rattle.temporal.proofs.temporal_row.Statement.{statement}
 use Rattle.temporal.proofs.temporal_row.Tie as tie
 
@@ -44,13 +44,19 @@ at-place-requires : tie.Need-at-place-requires Inv-loop μ-loop
 at-place-requires c κs =
     let s = c .before .before .before .before .before .before in
     let l : length (c .before .before .before .before .loop .work) ≡ length (s .args .work .now) = c .before .before .before .before .loop .inv .2 in
-    record {
-      left-inside = left-inside (s .args .left) _ (length (s .args .times .now)) (s .args .row) (s .pre .left-earlier) (omega (arith, s .pre .room));
-      right-inside = omega (arith, s .pre .room, earlier-row (s .args .right) (s .args .row) (length (s .args .times .now)) (s .pre .right-earlier));
-      from = c .before .before .edge .ensures .from;
-      first-inside = c .before .before .edge .ensures .short .in-times;
-      end-inside = c .before .edge2 .ensures .short .in-times;
-    }
+    let h = c .before .before .before .before .loop .inv in
+    let n = length (s .args .times .now) in (
+      (
+        record {
+          right-inside = omega (arith, s .pre .room, earlier-row (s .args .right) (s .args .row) n (s .pre .right-earlier));
+          from = c .before .before .edge .ensures .from;
+          first-inside = c .before .before .edge .ensures .short .in-times;
+          end-inside = c .before .edge2 .ensures .short .in-times;
+        },
+        left-inside (s .args .left) _ n (s .args .row) (s .pre .left-earlier) (omega (arith, s .pre .room)),
+      ),
+      bounded-kept (s .args .work .now) n (s .args .row) _ _ (s .pre .room) (h .1) (s .args .right) (s .pre .right-earlier) (s .pre .right-bounded),
+    )
 
 add-t20 : tie.Need-add-t20 Inv-loop μ-loop
 add-t20 c = omega arith
