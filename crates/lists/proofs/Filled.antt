@@ -118,3 +118,10 @@ module _ {X : Type 0} (n : ℕ) (f : ℕ → ℕ → X) where
   pub rows-next : (r : ℕ) (w : List X) {l : List X} → l ≡ fill-rows n f r w → fill (r * n) n (f r) l ≡ fill-rows n f (r + 1) w
   unfolding fill-rows
   rows-next r w e = rw (add-one r, e) refl
+
+  pub rows-none : (w : List X) → w ≡ fill-rows n f 0 w
+  unfolding fill-rows
+  rows-none w = refl
+
+  pub rows-to : (w : List X) {r q : ℕ} {l : List X} → r ≡ q → l ≡ fill-rows n f r w → l ≡ fill-rows n f q w
+  rows-to w p e = rw (← p) e

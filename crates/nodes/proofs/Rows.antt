@@ -48,7 +48,7 @@ module _ {w : List ℤ} {c : Card} {n : Node} {left right row : ℕ} (a : NodeAs
   above operand h = record { earlier = h; room = a .room }
 
   pub row-asks : (l : Left) (operand : ℕ) → LeftEarlier row l → operand < row → RowAsks w (c .times) l operand row
-  row-asks l operand h k = record { left-earlier = h; right-earlier = k; room = a .room; times-rise = record { rising = a .recorded .rising } }
+  row-asks l operand h k = record { left-earlier = h; right-earlier = k; right-bounded = a .bounded operand k; room = a .room; times-rise = record { rising = a .recorded .rising } }
 
   pub leaf : n .kind ≡ 1 → Leaf (c .values) (c .channels) (predicate c (n .left)) (rows c)
   leaf e = record {

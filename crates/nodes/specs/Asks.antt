@@ -8,6 +8,7 @@ use lib.IntN.{ℤ}
 use Rattle.recordings.specs.declared.Range.the-variants.{Unset}
 use Rattle.recordings.specs.Card.{Card, rows, predicate}
 use Rattle.recordings.specs.Accepted.{Recorded}
+use Rattle.rows.specs.Cells.{Bounded}
 use Rattle.tables.specs.declared.Node.{Node}
 use Rattle.tables.specs.Kind.{operator}
 use Rattle.tables.specs.Rules.{Use, child, number, unused, left-use, right-use}
@@ -26,3 +27,10 @@ pub record NodeAsks (work : List ℤ) (c : Card) (n : Node) (left right row : �
   pub numbered : n .kind ≡ 1 → n .left ≤ 15
   pub set : n .kind ≡ 1 → predicate c (n .left) .range ≡ Unset → ⊥
   pub room : row * rows c + rows c ≤ length work
+  pub bounded : (q : ℕ) → q < row → Bounded work (rows c) q
+
+-- two readings of an operand's values agree at every sample, where it is an operand
+abbrev pub Agree : Use → ℕ → (ℕ → ℤ) → (ℕ → ℤ) → Type 0
+Agree child n f g = (i : ℕ) → i < n → f i ≡ g i
+Agree number n f g = Unit
+Agree unused n f g = Unit

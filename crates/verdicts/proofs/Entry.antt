@@ -1,0 +1,82 @@
+-- The entry point's answer, by the number that its tests found: the list of refusals in parts, and the root's two cells.
+-- Assumes nothing.
+use mathlib.Core.Path.{_≡_, refl, sym, ap, _∙_}
+use mathlib.Core.Bool.{Bool, true, false}
+use mathlib.Core.List.{List, _∷_}
+use Prim.Native.Nat.{ℕ, zero, suc, _+_, _*_, _-_, _≤_, _<_}
+use native.Mathlib.Omega.{arith}
+use native.Mathlib.Nat.{mul-le-mul-right}
+use lib.Dec.{T}
+use borrow.Author.Tests.{le-leb, lt-leb}
+use lib.IntN.{ℤ}
+use lib.ListN.{length}
+use Rattle.lists.proofs.Filled.{rows-in, length-rows, earlier-row}
+use Rattle.recordings.specs.declared.Verdict.{Verdict}
+use Rattle.recordings.specs.Card.{Card, rows}
+use Rattle.tables.specs.declared.Table.{Table}
+use Rattle.rows.specs.Cells.{cell}
+use Rattle.rules.specs.First.{first}
+use Rattle.rules.specs.Refusals.{checks, Sound}
+use Rattle.rules.proofs.First.{first-append, first-stays, first-passes, first-fails}
+use Rattle.sampling.specs.Sampling.{checks as sampling-checks}
+use Rattle.verdicts.specs.declared.Answer.{Answer}
+use Rattle.verdicts.specs.declared.Answer.the-variants.{Judged, Refused}
+use Rattle.verdicts.specs.Cells.{strong, row-value, cells}
+use Rattle.verdicts.specs.Rows.{row-of, Ready}
+use Rattle.verdicts.specs.Answer.{answered, kept-under}
+use Rattle.verdicts.specs.Refusals.{room-check, refusal}
+use Rattle.verdicts.proofs.Rows.{row-value-of}
+
+module _ (c : Card) (t : Table) (step drift size : ℕ) where
+  pub refused-early : (first (checks c t) ≡ 0 → ⊥) → refusal c t step drift size ≡ first (checks c t)
+  unfolding refusal
+  refused-early h = first-stays (checks c t) (room-check c t size ∷ sampling-checks c step drift) h
+
+  pub refused-room : first (checks c t) ≡ 0 → size < 2 * t .count * rows c → refusal c t step drift size ≡ 8
+  unfolding refusal
+  refused-room e h =
+      first-append (checks c t) (room-check c t size ∷ sampling-checks c step drift) tt e
+      ∙ first-fails (room-check c t size) (sampling-checks c step drift) (lt-leb _ _ h)
+
+  pub refused-late : first (checks c t) ≡ 0 → 2 * t .count * rows c ≤ size → refusal c t step drift size ≡ first (sampling-checks c step drift)
+  unfolding refusal
+  refused-late e h =
+      first-append (checks c t) (room-check c t size ∷ sampling-checks c step drift) tt e
+      ∙ first-passes (room-check c t size) (sampling-checks c step drift) (le-leb _ _ h)
+
+-- under a number other than 0 the answer is that number, and what was lent stays
+pub answer-refused : (n m : ℕ) (v : Verdict) (h f : ℤ) → n ≡ m → (m ≡ 0 → ⊥) → Refused m ≡ answered n v h f
+answer-refused zero m v h f e g = absurd (g (sym e))
+answer-refused (suc n) m v h f e g = ap Refused (sym e)
+
+pub kept-refused : {X : Type 0} (n m : ℕ) (done entry : X) → n ≡ m → (m ≡ 0 → ⊥) → entry ≡ kept-under n done entry
+kept-refused zero m done entry e g = absurd (g (sym e))
+kept-refused (suc n) m done entry e g = refl
+
+pub few-cells : (n r : ℕ) → n ≤ 64 → r ≤ 4_096 → 2 * n * r ≤ 524_288
+few-cells n r h k = let l : 2 * n ≤ 128 = omega arith in omega (arith, mul-le-mul-right r l)
+
+-- the root's cells, of the requirement and of its negation
+pub root-cell : (c : Card) (t : Table) (step : ℕ) (w : List ℤ) {work : List ℤ} → Ready c t step (length w) → work ≡ cells c step (t .nodes) (t .count) w → (b : Bool) → cell work (rows c) (row-of b (t .count - 1)) 0 ≡ strong c step (t .nodes) b (t .count - 1) 0
+root-cell c t step w ok e b =
+    rw e (rows-in (rows c) (row-value c step (t .nodes)) (2 * t .count) w (row-of b (t .count - 1)) 0 _ (inside b) (omega (arith, ok .sound .recorded .some-row)) (ok .room))
+    ∙ row-value-of c step (t .nodes) b (t .count - 1) 0
+  where
+    inside : (b : Bool) → row-of b (t .count - 1) < 2 * t .count
+    inside true = omega (arith, ok .sound .ruled .some-node)
+    inside false = omega (arith, ok .sound .ruled .some-node)
+
+pub root-inside : (c : Card) (t : Table) (step : ℕ) (w : List ℤ) {work : List ℤ} → Ready c t step (length w) → work ≡ cells c step (t .nodes) (t .count) w → (b : Bool) → row-of b (t .count - 1) * rows c + 0 < length work
+root-inside c t step w ok e b =
+    omega (arith, ap length e ∙ length-rows (rows c) (row-value c step (t .nodes)) (2 * t .count) w, earlier-row (row-of b (t .count - 1)) (2 * t .count) (rows c) (inside b), ok .room, ok .sound .recorded .some-row)
+  where
+    inside : (b : Bool) → row-of b (t .count - 1) < 2 * t .count
+    inside true = omega (arith, ok .sound .ruled .some-node)
+    inside false = omega (arith, ok .sound .ruled .some-node)
+
+-- the answer where no test fails
+pub answer-judged : (n : ℕ) {v v′ : Verdict} {h h′ f f′ : ℤ} → n ≡ 0 → v ≡ v′ → h ≡ h′ → f ≡ f′ → Judged v h f ≡ answered n v′ h′ f′
+answer-judged n e p q r = rw (e, p, q, r) refl
+
+pub done-judged : {X : Type 0} (n : ℕ) (done entry : X) {out : X} → n ≡ 0 → out ≡ done → out ≡ kept-under n done entry
+done-judged n done entry e h = rw e h

@@ -1,0 +1,3 @@
+pub mod Strong
+pub mod Rows
+pub mod Entry

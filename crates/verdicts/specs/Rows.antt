@@ -1,0 +1,60 @@
+-- One row of a verdict's cells: which rows it reads, with which window, and what must stand in the cells before it.
+-- Assumes nothing.
+use mathlib.Core.Path.{_≡_}
+use mathlib.Core.Bool.{Bool, true, false, not}
+use mathlib.Core.List.{List}
+use Prim.Native.Nat.{ℕ, _+_, _*_, _≤_, _<_}
+use lib.ListN.{length}
+use lib.IntN.{ℤ}
+use Rattle.logic.specs.Window.{Window}
+use Rattle.logic.specs.Formula.{Extremum, smallest}
+use Rattle.logic.specs.Negation.{turn}
+use Rattle.logic.specs.Strengthening.{strengthen-window}
+use Rattle.recordings.specs.Card.{Card, rows}
+use Rattle.rows.specs.Cells.{cell}
+use Rattle.tables.specs.declared.Node.{Node}
+use Rattle.tables.specs.declared.Table.{Table}
+use Rattle.tables.specs.Kind.{Operator, constant, named, negated, unknown, joined, binary, unary}
+use Rattle.tables.specs.Tree.{window}
+use Rattle.rules.specs.Refusals.{Sound}
+use Rattle.verdicts.specs.Cells.{row-value}
+
+-- until and eventually contract their windows, release and always expand them; the others have none
+abbrev pub window-extremum : Operator → Extremum
+window-extremum constant = smallest
+window-extremum named = smallest
+window-extremum negated = smallest
+window-extremum unknown = smallest
+window-extremum (joined e) = smallest
+window-extremum (binary d e) = e
+window-extremum (unary d e) = e
+
+abbrev pub strong-window : Bool → ℕ → Operator → Node → Window
+strong-window b step o n = strengthen-window (turn b (window-extremum o)) step (window n)
+
+-- "not" reads its child's other row
+abbrev pub left-sign : Bool → Operator → Bool
+left-sign b constant = b
+left-sign b named = b
+left-sign b negated = not b
+left-sign b unknown = b
+left-sign b (joined e) = b
+left-sign b (binary d e) = b
+left-sign b (unary d e) = b
+
+-- the row of node k, or of its negation
+abbrev pub row-of : Bool → ℕ → ℕ
+row-of true k = 2 * k
+row-of false k = 2 * k + 1
+
+-- what is judged before any row is filled
+pub record Ready (c : Card) (t : Table) (step cells : ℕ) : Type 0 where
+  pub sound : Sound c t
+  pub step-bound : step ≤ 1_000_000_000
+  pub room : 2 * t .count * rows c ≤ cells
+
+-- the rows before row r are filled
+pub record Filled (c : Card) (t : Table) (step : ℕ) (work : List ℤ) (r : ℕ) : Type 0 where
+  pub ready : Ready c t step (length work)
+  pub row-inside : r < 2 * t .count
+  pub done : (q i : ℕ) → q < r → i < rows c → cell work (rows c) q i ≡ row-value c step (t .nodes) q i

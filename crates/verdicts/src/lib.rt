@@ -1,0 +1,196 @@
+// The verdict: hold, fail, and whether the requirement holds, fails or is not shown between the samples.
+ghost use mathlib.Core.Path.{_≡_};
+ghost use Prim.Native.Nat.{_*_, _-_, _≤_};
+ghost use lib.IntN.{pos};
+ghost use lib.Signed.{ltZ};
+ghost use lib.ListN.{length};
+ghost use Rattle.lists.specs.Fill.{fill};
+ghost use Rattle.recordings.specs.Verdict.{decide, hold, fail, verdict};
+ghost use Rattle.rows.specs.Cells.{extremum-of};
+ghost use Rattle.tables.specs.Kind.{operator};
+ghost use Rattle.tables.specs.Tree.{tree};
+ghost use Rattle.tables.specs.Rules.{NodeRules};
+ghost use Rattle.rules.specs.Refusals.{card};
+ghost use Rattle.temporal.specs.Reading.{window-of};
+ghost use Rattle.verdicts.specs.Cells.{row-value, cells};
+ghost use Rattle.verdicts.specs.Rows.{window-extremum, strong-window, left-sign, row-of, Ready, Filled};
+ghost use Rattle.verdicts.specs.Answer.{answered, kept-under};
+ghost use Rattle.verdicts.specs.Refusals.{refusal};
+use recordings::Predicate;
+use recordings::Verdict;
+use tables::Node;
+use tables::Table;
+use temporal::Window;
+
+// What the verdict hands back: the verdict with hold and fail, or the number of a refusal.
+pub enum Answer {
+    Judged(Verdict, i64, i64),
+    Refused(u64),
+}
+
+// The row of node k, or of its negation.
+fn row_for(affirmed: bool, k: usize) -> usize
+    requires { ⌜ k ≤ 64 ⌝ }
+    ensures { λ r. ⌜ r ≡ row-of affirmed k ⌝ }
+{
+    if affirmed { 2 * k } else { 2 * k + 1 }
+}
+
+// Whether a kind's own window contracts.
+fn contracts(kind: u64) -> bool
+    ensures { λ r. ⌜ extremum-of r ≡ window-extremum (operator kind) ⌝ }
+{
+    if kind == 5 {
+        return true;
+    }
+    kind == 7
+}
+
+// The node's window, strengthened; in the negation it is that of the dual operator.
+fn row_window(node: Node, k: usize, affirmed: bool, step: u64) -> Window
+    requires { ⌜ NodeRules node k × (step ≤ 1_000_000_000) ⌝ }
+    ensures { λ r. ⌜ window-of r ≡ strong-window affirmed step (operator (node .kind)) node ⌝ }
+{
+    let own = contracts(node.kind);
+    let plain = windows::plain(node);
+    if affirmed {
+        windows::strengthened(own, step, plain)
+    } else {
+        windows::strengthened(!own, step, plain)
+    }
+}
+
+// The row that a node's left number names: "not" reads its child's other row.
+fn left_row(node: Node, affirmed: bool) -> usize
+    requires { ⌜ node .left ≤ 64 ⌝ }
+    ensures { λ r. ⌜ r ≡ row-of (left-sign affirmed (operator (node .kind))) (node .left) ⌝ }
+{
+    let kind = node.kind;
+    let left = node.left;
+    if kind == 2 {
+        row_for(!affirmed, left)
+    } else {
+        row_for(affirmed, left)
+    }
+}
+
+// Row `row` of the cells, the rows before it being filled.
+fn strong_row(
+    work: &mut [i64],
+    times: &[u64],
+    values: &[i64],
+    channels: usize,
+    predicates: [Predicate; 16],
+    table: Table,
+    step: u64,
+    row: usize,
+)
+    requires { ⌜ Filled (card channels predicates (now times) (now values)) table step (now work) row ⌝ }
+    ensures { λ _. ⌜ now (work .exit) ≡ fill (row * length (now (times .entry))) (length (now (times .entry))) (row-value (card channels predicates (now (times .entry)) (now (values .entry))) step (table .nodes) row) (now (work .entry)) ⌝ }
+{
+    let k = row / 2;
+    let affirmed = row % 2 == 0;
+    let node = table.nodes[k];
+    let window = row_window(node, k, affirmed, step);
+    let left = left_row(node, affirmed);
+    let right = row_for(affirmed, node.right);
+    nodes::node_row(
+        work,
+        times,
+        values,
+        channels,
+        predicates,
+        node,
+        affirmed,
+        window,
+        left,
+        right,
+        row,
+    )
+}
+
+// All rows of the cells.
+fn strong_rows(
+    work: &mut [i64],
+    times: &[u64],
+    values: &[i64],
+    channels: usize,
+    predicates: [Predicate; 16],
+    table: Table,
+    step: u64,
+)
+    requires { ⌜ Ready (card channels predicates (now times) (now values)) table step (length (now work)) ⌝ }
+    ensures { λ _. ⌜ now (work .exit) ≡ cells (card channels predicates (now (times .entry)) (now (values .entry))) step (table .nodes) (table .count) (now (work .entry)) ⌝ }
+{
+    let end = 2 * table.count;
+    let mut row = 0;
+    while row < end {
+        strong_row(
+            work,
+            times,
+            values,
+            channels,
+            predicates,
+            table,
+            step,
+            row,
+        );
+        row += 1;
+    }
+}
+
+// Whether a margin is above the drift.
+fn exceeds(drift: u64, margin: i64) -> bool
+    requires { ⌜ drift ≤ 1_000_000_000 ⌝ }
+    ensures { λ r. ⌜ r ≡ ltZ (pos drift) margin ⌝ }
+{
+    let bound = drift as i64;
+    bound < margin
+}
+
+fn decided(drift: u64, hold: i64, fail: i64) -> Verdict
+    requires { ⌜ drift ≤ 1_000_000_000 ⌝ }
+    ensures { λ r. ⌜ r ≡ decide drift hold fail ⌝ }
+{
+    if exceeds(drift, hold) {
+        return Verdict::Holds;
+    }
+    if exceeds(drift, fail) {
+        return Verdict::Fails;
+    }
+    Verdict::NotShown
+}
+
+// Judges a recording against a requirement table. The work slice gets 2 × n × rows cells; under a refusal it stays as it was.
+pub fn verdict(
+    table: Table,
+    predicates: [Predicate; 16],
+    channels: usize,
+    times: &[u64],
+    values: &[i64],
+    step: u64,
+    drift: u64,
+    work: &mut [i64],
+) -> Answer
+    ensures answer { λ r. ⌜ r ≡ answered (refusal (card channels predicates (now (times .entry)) (now (values .entry))) table step drift (length (now (work .entry)))) (verdict (card channels predicates (now (times .entry)) (now (values .entry))) step drift (tree (table .nodes) (table .count - 1))) (hold (card channels predicates (now (times .entry)) (now (values .entry))) step (tree (table .nodes) (table .count - 1))) (fail (card channels predicates (now (times .entry)) (now (values .entry))) step (tree (table .nodes) (table .count - 1))) ⌝ }
+    ensures cells { λ _. ⌜ now (work .exit) ≡ kept-under (refusal (card channels predicates (now (times .entry)) (now (values .entry))) table step drift (length (now (work .entry)))) (cells (card channels predicates (now (times .entry)) (now (values .entry))) step (table .nodes) (table .count) (now (work .entry))) (now (work .entry)) ⌝ }
+{
+    let early = rules::refusal(table, predicates, channels, times, values);
+    if early != 0 {
+        return Answer::Refused(early);
+    }
+    let count = table.count;
+    let rows = times.len();
+    if work.len() < 2 * count * rows {
+        return Answer::Refused(8);
+    }
+    let late = sampling::refusal(times, values, channels, step, drift);
+    if late != 0 {
+        return Answer::Refused(late);
+    }
+    strong_rows(work, times, values, channels, predicates, table, step);
+    let root = 2 * (count - 1);
+    let hold = rows::cell_at(work, rows, root, 0);
+    let fail = rows::cell_at(work, rows, root + 1, 0);
+    Answer::Judged(decided(drift, hold, fail), hold, fail)
+}

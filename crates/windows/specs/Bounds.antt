@@ -1,0 +1,13 @@
+-- How far a table's windows reach, so that a step can be added to their ends.
+-- Assumes nothing.
+use Prim.Native.Nat.{ℕ, suc, _≤_}
+use Rattle.logic.specs.Window.{Window, Stop, endless, before}
+use Rattle.tables.specs.Tree.{NO-END}
+
+abbrev pub ShortStop : Stop → Type 0
+ShortStop endless = Unit
+ShortStop (before e) = e ≤ suc NO-END
+
+pub record Short (w : Window) : Type 0 where
+  pub from : w .from ≤ NO-END
+  pub stop : ShortStop (w .stop)

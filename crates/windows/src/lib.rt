@@ -1,0 +1,87 @@
+// A node's window as the rows read it, and its strengthening. An end that stands for no end is told apart before anything is added to it.
+ghost use mathlib.Core.Path.{_≡_};
+ghost use Prim.Native.Nat.{_-_, _≤_};
+ghost use Rattle.logic.specs.Strengthening.{contraction, expansion, strengthen-window};
+ghost use Rattle.rows.specs.Cells.{extremum-of};
+ghost use Rattle.temporal.specs.Reading.{window-of};
+ghost use Rattle.tables.specs.Tree.{NO-END, window};
+ghost use Rattle.windows.specs.Bounds.{Short};
+use tables::Node;
+use temporal::Stop;
+use temporal::Window;
+
+// The window from lo to hi, both counted.
+pub fn plain(node: Node) -> Window
+    requires { ⌜ node .hi ≤ NO-END ⌝ }
+    ensures { λ r. ⌜ window-of r ≡ window node ⌝ }
+{
+    let lo = node.lo;
+    let hi = node.hi;
+    if hi == tables::NO_END {
+        return Window {
+            from: lo,
+            stop: Stop::Endless,
+        };
+    }
+    Window {
+        from: lo,
+        stop: Stop::Before(hi + 1),
+    }
+}
+
+// The difference, 0 where it would be negative.
+fn less(a: u64, b: u64) -> u64
+    ensures { λ r. ⌜ r ≡ a - b ⌝ }
+{
+    if a < b { 0 } else { a - b }
+}
+
+// The source's contraction: where the step is longer than the window, nothing is left.
+fn contracted(step: u64, w: Window) -> Window
+    requires { ⌜ Short (window-of w) × (step ≤ NO-END) ⌝ }
+    ensures { λ r. ⌜ window-of r ≡ contraction step (window-of w) ⌝ }
+{
+    let from = w.from + step;
+    let stop = w.stop;
+    match stop {
+        Stop::Endless => Window {
+            from: from,
+            stop: Stop::Endless,
+        },
+        Stop::Before(end) => Window {
+            from: from,
+            stop: Stop::Before(less(end, step)),
+        },
+    }
+}
+
+// The source's expansion, not below 0.
+fn expanded(step: u64, w: Window) -> Window
+    requires { ⌜ Short (window-of w) × (step ≤ NO-END) ⌝ }
+    ensures { λ r. ⌜ window-of r ≡ expansion step (window-of w) ⌝ }
+{
+    let from = less(w.from, step);
+    let stop = w.stop;
+    match stop {
+        Stop::Endless => Window {
+            from: from,
+            stop: Stop::Endless,
+        },
+        Stop::Before(end) => Window {
+            from: from,
+            stop: Stop::Before(end + step),
+        },
+    }
+}
+
+// Until and eventually contract their windows, release and always expand them.
+pub fn strengthened(largest: bool, step: u64, w: Window) -> Window
+    requires { ⌜ Short (window-of w) × (step ≤ NO-END) ⌝ }
+    ensures { λ r. ⌜ window-of r ≡ strengthen-window (extremum-of largest) step (window-of w) ⌝ }
+{
+    if largest {
+        contracted(step, w)
+    } else {
+        expanded(step, w)
+    }
+}
