@@ -52,7 +52,7 @@ gapless-passes c step r =
 
 -- ---- 11
 -- the code compares both differences with 2 × drift
-pub near-both : (drift : ℕ) (a b : ℤ) → near drift a b ≡ (leZ (b -ℤ a) (pos (2 * drift)) && leZ (a -ℤ b) (pos (2 * drift)))
+near-both : (drift : ℕ) (a b : ℤ) → near drift a b ≡ (leZ (b -ℤ a) (pos (2 * drift)) && leZ (a -ℤ b) (pos (2 * drift)))
 unfolding near
 near-both drift a b = same-test
     (λ t. let h = leb→le (natAbs (b -ℤ a)) (2 * drift) t in
@@ -62,6 +62,9 @@ near-both drift a b = same-test
     (λ t. let h = and-yes (leZ (b -ℤ a) (pos (2 * drift))) (leZ (a -ℤ b) (pos (2 * drift))) t in
     le→leb (natAbs (b -ℤ a)) (2 * drift)
     (omega (arith, le-parts (b -ℤ a) (pos (2 * drift)) (h .0), le-parts (a -ℤ b) (pos (2 * drift)) (h .1), abs-parts (b -ℤ a), parts-apart (b -ℤ a), sub-parts a b, sub-parts b a)))
+
+pub near-flags : (drift : ℕ) (a b : ℤ) {u d m : ℤ} → u ≡ b -ℤ a → d ≡ a -ℤ b → m ≡ pos (2 * drift) → (leZ u m && leZ d m) ≡ near drift a b
+near-flags drift a b p q r = rw (p, q, r) (sym (near-both drift a b))
 
 -- the next sample's place is `channels` places on
 next-place : (i ch n : ℕ) → suc i * n + ch ≡ i * n + ch + n

@@ -15,7 +15,7 @@ value-obeys-requires-2 c κs = search needs
 returns : tie.Need-returns
 returns c =
     let s = c .before .before in
-    rw (c .before .value-obeys .ensures, c .value-obeys2 .ensures, back-is (s .fits .lo), back-is (s .fits .hi))
+    simp (c .before .value-obeys .ensures, c .value-obeys2 .ensures, back-is (s .fits .lo), back-is (s .fits .hi))
 
 pub between-obeys-spec : {M : Type 1} → statement M
 between-obeys-spec = tie.close (tie.spec value-obeys-requires value-obeys-requires-2 returns)

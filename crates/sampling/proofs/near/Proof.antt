@@ -1,16 +1,15 @@
 -- Two values in range differ by at most 2,000,000,000, so both differences fit, and so does 2 × drift.
 -- Assumes nothing.
-use mathlib.Core.Path.{_≡_, refl, sym, _∙_}
-use Prim.Native.Nat.{_*_, _<_, _^_}
+use mathlib.Core.Path.{_∙_}
 use native.Mathlib.Omega.{arith}
 use borrow.Author.Needs.{needs}
-use lib.IntN.{pos, _-ℤ_}
+use lib.IntN.{_-ℤ_}
 use mir.Syntax.{w64}
-use mir.Val.{SFits, toZ}
+use mir.Val.{SFits}
 use mir.Facts.{toZ-pos}
 use Rattle.numbers.proofs.Parts.{within-diff, within-fits}
 use Rattle.numbers.proofs.Bits.{back-is, back-ok}
-use Rattle.sampling.proofs.Sampling.{near-both}
+use Rattle.sampling.proofs.Sampling.{near-flags}
 use Rattle.sampling.proofs.near.Statement.{statement}
 use Rattle.sampling.proofs.near.Tie as tie
 
@@ -35,10 +34,9 @@ difference-requires-2 c κs = let s = c .before in rw (back-is (s .fits .from), 
 returns : tie.Need-returns
 returns c =
     let s = c .before .before in
-    let up = rw (back-is (s .fits .to), back-is (s .fits .from)) at (c .before .difference .ensures) in
-    let down = rw (back-is (s .fits .from), back-is (s .fits .to)) at (c .difference2 .ensures) in
-    let most : toZ w64 (2 * s .args .drift) ≡ pos (2 * s .args .drift) = toZ-pos w64 (omega arith) in
-    rw (most, back-ok (c .before .difference .result) (c .before .difference .ok), back-ok (c .difference2 .result) (c .difference2 .ok), up, down) (sym (near-both (s .args .drift) (s .args .from) (s .args .to)))
+    let up = back-ok _ (c .before .difference .ok) ∙ (rw (back-is (s .fits .to), back-is (s .fits .from)) at (c .before .difference .ensures)) in
+    let down = back-ok _ (c .difference2 .ok) ∙ (rw (back-is (s .fits .from), back-is (s .fits .to)) at (c .difference2 .ensures)) in
+    near-flags (s .args .drift) (s .args .from) (s .args .to) up down (toZ-pos w64 (omega arith))
 
 pub near-spec : {M : Type 1} → statement M
 near-spec =
