@@ -1,0 +1,83 @@
+-- What the margin's contract promises, sentence by sentence: which number is answered, what is handed back with it, and what each cell holds.
+-- Assumes nothing.
+use mathlib.Core.Path.{_≡_, refl, sym, _∙_}
+use mathlib.Core.List.{List}
+use Prim.Native.Nat.{ℕ, zero, suc, _*_, _+_, _≤_, _<_}
+use lib.IntN.{ℤ, pos}
+use lib.ListN.{length, getD}
+use Rattle.numbers.specs.Order.{Within}
+use Rattle.lists.specs.Fill.{fill-rows}
+use Rattle.lists.proofs.Filled.{rows-in, rows-out}
+use Rattle.recordings.specs.Distance.{TOP}
+use Rattle.recordings.specs.Card.{Card, rows}
+use Rattle.recordings.specs.Margin.{margin}
+use Rattle.recordings.proofs.Margins.{margin-bounded, margin-not-zero}
+use Rattle.tables.specs.declared.Table.{Table}
+use Rattle.tables.specs.Tree.{tree}
+use Rattle.rules.specs.First.{Refused}
+use Rattle.rules.specs.Refusals.{Sound}
+use Rattle.rules.proofs.First.{refused, first-is}
+use Rattle.rules.proofs.Refusals.{sound-passes}
+use Rattle.margins.specs.Answers.{root, margin-checks, refusal, judged, cells-after, unless-refused}
+use Rattle.margins.proofs.Answers.{accepted, refusal-none}
+
+module _ (c : Card) (t : Table) (cells : ℕ) where
+  -- a number m is answered exactly when its test is the first of the list to fail
+  pub number-refused : (judged c t cells .number ≡ 0 → ⊥) → Refused (margin-checks c t cells) (judged c t cells .number)
+  unfolding judged
+  number-refused h = refused (margin-checks c t cells) h
+
+  pub refused-number : (m : ℕ) → Refused (margin-checks c t cells) m → judged c t cells .number ≡ m
+  unfolding judged
+  refused-number m h = first-is (margin-checks c t cells) h
+
+  -- 0 is answered exactly when none of refusals 3 to 8 applies
+  pub number-none : length (c .predicates) ≤ 16 → judged c t cells .number ≡ 0 → Sound c t × (t .count * rows c ≤ cells)
+  unfolding judged
+  number-none l e = accepted c t cells l e
+
+  pub none-number : Sound c t → t .count * rows c ≤ cells → judged c t cells .number ≡ 0
+  unfolding judged
+  none-number s h = refusal-none c t cells (sound-passes c t s) h
+
+  -- under a refusal the margin is 0
+  pub refused-margin : (judged c t cells .number ≡ 0 → ⊥) → judged c t cells .margin ≡ pos 0
+  unfolding judged
+  refused-margin h = go (refusal c t cells) h
+    where
+      go : (n : ℕ) → (n ≡ 0 → ⊥) → unless-refused n (margin c (root t) 0) (pos 0) ≡ pos 0
+      go zero h = absurd (h refl)
+      go (suc n) h = refl
+
+  -- else it is the root's at sample 0, which is never 0 and never further from it than TOP
+  pub margin-is : judged c t cells .number ≡ 0 → judged c t cells .margin ≡ margin c (root t) 0
+  unfolding judged
+  margin-is e = rw e refl
+
+  pub margin-nonzero : judged c t cells .number ≡ 0 → judged c t cells .margin ≡ pos 0 → ⊥
+  margin-nonzero e h = margin-not-zero c (root t) 0 (sym (margin-is e) ∙ h)
+
+  pub margin-within : length (c .predicates) ≤ 16 → judged c t cells .number ≡ 0 → Within TOP (judged c t cells .margin)
+  margin-within l e = rw (margin-is e) (margin-bounded (number-none l e .0 .recorded) (root t) 0)
+
+module _ (c : Card) (t : Table) (w : List ℤ) where
+  -- nothing lent changes under a refusal
+  pub refused-cells : (judged c t (length w) .number ≡ 0 → ⊥) → cells-after c t w ≡ w
+  unfolding judged cells-after
+  refused-cells h = go (refusal c t (length w)) h
+    where
+      go : (n : ℕ) → (n ≡ 0 → ⊥) → unless-refused n (fill-rows (rows c) (λ k. margin c (tree (t .nodes) k)) (t .count) w) w ≡ w
+      go zero h = absurd (h refl)
+      go (suc n) h = refl
+
+  cells-are : judged c t (length w) .number ≡ 0 → cells-after c t w ≡ fill-rows (rows c) (λ k. margin c (tree (t .nodes) k)) (t .count) w
+  unfolding judged cells-after
+  cells-are e = rw e refl
+
+  -- cell k × rows + i ends as node k's margin at i, whether the root reaches the node or not
+  pub cell-is : length (c .predicates) ≤ 16 → judged c t (length w) .number ≡ 0 → (k i : ℕ) → k < t .count → i < rows c → getD (cells-after c t w) (k * rows c + i) (pos 0) ≡ margin c (tree (t .nodes) k) i
+  cell-is l e k i a b = rw (cells-are e) (rows-in (rows c) (λ q. margin c (tree (t .nodes) q)) (t .count) w k i (pos 0) a b (number-none c t (length w) l e .1))
+
+  -- later cells keep their contents
+  pub later-kept : judged c t (length w) .number ≡ 0 → (m : ℕ) → t .count * rows c ≤ m → getD (cells-after c t w) m (pos 0) ≡ getD w m (pos 0)
+  later-kept e m h = rw (cells-are e) (rows-out (rows c) (λ q. margin c (tree (t .nodes) q)) (t .count) w m (pos 0) h)

@@ -1,0 +1,51 @@
+-- The margin's answer: the recording's margin, or the number of the first refusal that applies; and what the cells hold afterwards.
+-- Assumes nothing.
+use mathlib.Core.List.{List, [], _∷_, _++_}
+use Prim.Native.Nat.{ℕ, zero, suc, _*_, _-_}
+use lib.Dec.{leb}
+use lib.IntN.{ℤ, pos}
+use lib.ListN.{length}
+use Rattle.lists.specs.Fill.{fill-rows}
+use Rattle.logic.specs.Formula.{Formula}
+use Rattle.recordings.specs.Card.{Card, rows}
+use Rattle.recordings.specs.Margin.{margin}
+use Rattle.tables.specs.declared.Table.{Table}
+use Rattle.tables.specs.Tree.{tree}
+use Rattle.rules.specs.First.{Check, first}
+use Rattle.rules.specs.Refusals.{checks}
+use Rattle.margins.specs.declared.Answer.{Answer}
+use Rattle.margins.specs.declared.Answer.the-variants.{Margin, Refused}
+
+-- what document 01 hands back: a number, 0 for no refusal, and a margin, 0 under a refusal
+pub record Outcome : Type 0 where
+  pub number : ℕ
+  pub margin : ℤ
+
+-- the paper's number and margin of each answer
+abbrev pub outcome : Answer → Outcome
+outcome (Margin m) = record { number = 0; margin = m }
+outcome (Refused n) = record { number = n; margin = pos 0 }
+
+-- the root is the last node
+abbrev pub root : Table → Formula ℕ
+root t = tree (t .nodes) (t .count - 1)
+
+-- refusals 3 to 8, in the order in which they count; 8: work shorter than n × rows cells
+abbrev pub margin-checks : Card → Table → ℕ → List Check
+margin-checks c t cells = checks c t ++ (record { number = 8; passes = leb (t .count * rows c) cells } ∷ [])
+
+abbrev pub refusal : Card → Table → ℕ → ℕ
+refusal c t cells = first (margin-checks c t cells)
+
+-- a where there is no refusal, else b
+abbrev pub unless-refused : {A : Type 0} → ℕ → A → A → A
+unless-refused zero a b = a
+unless-refused (suc n) a b = b
+
+-- the recording's margin is the root's at sample 0
+unfoldable pub judged : Card → Table → ℕ → Outcome
+judged c t cells = record { number = refusal c t cells; margin = unless-refused (refusal c t cells) (margin c (root t) 0) (pos 0) }
+
+-- node k owns the cells from k × rows on: cell k × rows + i ends as its margin at i, later cells keep their contents; under a refusal all do
+unfoldable pub cells-after : Card → Table → List ℤ → List ℤ
+cells-after c t w = unless-refused (refusal c t (length w)) (fill-rows (rows c) (λ k. margin c (tree (t .nodes) k)) (t .count) w) w
