@@ -1,19 +1,20 @@
 -- Values and ends lie within 1,000,000,000, so distances lie within TOP: each sum, difference and negative that is taken of them fits 64 bits.
 -- Assumes nothing.
 use mathlib.Core.Path.{_≡_, refl, _∙_}
+use mathlib.Core.Logic.{⊎-elim}
 use mathlib.Core.Bool.{true, false}
 use native.Mathlib.Omega.{arith}
-use lib.IntN.{ℤ, pos, negℤ, sucℤ, _+ℤ_, _-ℤ_}
-use lib.Signed.{ltZ, leZ}
+use lib.IntN.{ℤ, pos, sucℤ, _+ℤ_, _-ℤ_}
+use lib.Signed.{leZ}
 use mir.Syntax.{w64}
 use mir.Val.{SFits}
 use Rattle.numbers.specs.Order.{Within}
-use Rattle.numbers.proofs.Parts.{parts-eq, add-parts, suc-parts, within-neg, within-more, within-diff, within-suc, within-either, within-fits}
+use Rattle.numbers.proofs.Parts.{parts-eq, add-parts, suc-parts, within-more, within-diff, within-suc, within-fits}
 use Rattle.numbers.proofs.Bits.{back, back-is}
 use Rattle.recordings.specs.declared.Range.{Range}
-use Rattle.recordings.specs.declared.Range.the-variants.{Unset, Free, AtLeast, AtMost, Between}
 use Rattle.recordings.specs.Distance.{TOP, clearance, distance}
 use Rattle.recordings.specs.Accepted.{InRange, Ends}
+use Rattle.recordings.proofs.Distances.{Open, distance-small, distance-open}
 
 pub plus-one : (z : ℤ) → z +ℤ pos 1 ≡ sucℤ z
 plus-one z = parts-eq _ _ (omega (arith, add-parts z (pos 1), suc-parts z))
@@ -46,18 +47,7 @@ clearance-back a b h k e = e ∙ rw (back-is (fit h), back-is (fit k)) refl
 pub difference-back : (a b : ℤ) {r : ℤ} → InRange a → InRange b → r ≡ back b -ℤ back a → r ≡ b -ℤ a
 difference-back a b h k e = e ∙ rw (back-is (fit h), back-is (fit k)) refl
 
-clearance-within : {a b : ℤ} → InRange a → InRange b → Within TOP (clearance a b)
-clearance-within {a} {b} h k =
-    within-either (leZ a b) (within-more (omega arith) (within-diff k h)) (within-more (omega arith) (within-suc (within-diff k h)))
-
 -- no distance is further from zero than TOP
 pub distance-within : (r : Range) (v : ℤ) → Ends r → InRange v → Within TOP (distance TOP r v)
-distance-within Unset v e h = record { size = omega arith }
-distance-within Free v e h = record { size = omega arith }
-distance-within (AtLeast lo) v e h = clearance-within e h
-distance-within (AtMost hi) v e h = clearance-within h e
-distance-within (Between lo hi) v e h = within-either (ltZ (clearance v hi) (clearance lo v)) (clearance-within (e .0) h) (clearance-within h (e .1))
-
--- what stands at a value's place, its distance negated
-pub distance-fits : (r : Range) (v : ℤ) {d : ℤ} → Ends r → InRange v → d ≡ distance TOP r v → SFits w64 (negℤ d)
-distance-fits r v e h p = rw p (top-fits (within-neg (distance-within r v e h)))
+distance-within r v e h =
+    ⊎-elim (λ (o : Open r). rw (distance-open TOP r v o) (record { size = omega arith })) (λ w. within-more (omega arith) w) (distance-small TOP r v e h)

@@ -1,0 +1,151 @@
+//! Times the proved margin against plain Rust of the same algorithm, checks that every cell is equal, and prints the ratios.
+
+mod plain;
+use plain::{Node, Predicate, Range, NO_END};
+use std::time::Instant;
+
+extern "C" {
+    fn bench_margin(
+        numbers: *const u64, numbers_len: usize, count: usize,
+        named: *const u64, named_len: usize, ranges: *const i64, ranges_len: usize,
+        channels: usize, times: *const u64, times_len: usize,
+        values: *const i64, values_len: usize, work: *mut i64, work_len: usize,
+    ) -> u64;
+}
+
+/// A table and its predicates as flat numbers.
+struct Flat {
+    numbers: Vec<u64>,
+    named: Vec<u64>,
+    ranges: Vec<i64>,
+}
+
+fn flat(nodes: &[Node], predicates: &[Predicate; 16]) -> Flat {
+    let mut numbers = vec![0; 320];
+    for (k, n) in nodes.iter().enumerate() {
+        numbers[5 * k..5 * k + 5].copy_from_slice(&[n.kind, n.left as u64, n.right as u64, n.lo, n.hi]);
+    }
+    let ranges = predicates.iter().flat_map(|p| match p.range {
+        Range::Unset => [0, 0, 0],
+        Range::Free => [1, 0, 0],
+        Range::AtLeast(lo) => [2, lo, 0],
+        Range::AtMost(hi) => [3, 0, hi],
+        Range::Between(lo, hi) => [4, lo, hi],
+    });
+    Flat { numbers, named: predicates.iter().map(|p| p.channel as u64).collect(), ranges: ranges.collect() }
+}
+
+fn proved(f: &Flat, count: usize, channels: usize, times: &[u64], values: &[i64], work: &mut [i64]) -> Option<i64> {
+    // the function asks nothing of its caller but that the slices are what their lengths say
+    let number = unsafe {
+        bench_margin(
+            f.numbers.as_ptr(), f.numbers.len(), count,
+            f.named.as_ptr(), f.named.len(), f.ranges.as_ptr(), f.ranges.len(),
+            channels, times.as_ptr(), times.len(), values.as_ptr(), values.len(), work.as_mut_ptr(), work.len(),
+        )
+    };
+    if number == 0 { Some(work[(count - 1) * times.len()]) } else { None }
+}
+
+struct Random(u64);
+
+impl Random {
+    fn next(&mut self, bound: u64) -> u64 {
+        self.0 = self.0.wrapping_mul(6364136223846793005).wrapping_add(1442695040888963407);
+        (self.0 >> 33) % bound
+    }
+    fn value(&mut self) -> i64 {
+        self.next(2_000_000_001) as i64 - 1_000_000_000
+    }
+}
+
+/// Seconds for one call, from a run of calls that lasts some milliseconds.
+fn seconds(mut call: impl FnMut()) -> f64 {
+    let (began, mut calls) = (Instant::now(), 0u32);
+    while calls == 0 || began.elapsed().as_secs_f64() < 0.003 {
+        call();
+        calls += 1;
+    }
+    began.elapsed().as_secs_f64() / f64::from(calls)
+}
+
+/// Best times of the proved margin and of plain Rust, taken in turn.
+fn compare(nodes: &[Node], predicates: &[Predicate; 16], times: &[u64], values: &[i64]) -> (f64, f64) {
+    let f = flat(nodes, predicates);
+    let mut a = vec![0; nodes.len() * times.len() + 3];
+    let mut b = a.clone();
+    let (mut ours, mut theirs) = (f64::MAX, f64::MAX);
+    for _ in 0..9 {
+        let (mut x, mut y) = (None, None);
+        ours = ours.min(seconds(|| x = proved(&f, nodes.len(), 2, times, values, &mut a)));
+        theirs = theirs.min(seconds(|| y = plain::margin(nodes, predicates, 2, times, values, &mut b)));
+        assert!(x.is_some() && x == y && a == b, "results differ");
+    }
+    (ours, theirs)
+}
+
+fn node(kind: u64, left: usize, right: usize, lo: u64, hi: u64) -> Node {
+    Node { kind, left, right, lo, hi }
+}
+
+/// 64 nodes: four predicates, and over them every kind in turn with random children and short windows.
+fn large_table(random: &mut Random) -> Vec<Node> {
+    let mut nodes: Vec<Node> = (0..4).map(|p| node(1, p, 0, 0, 0)).collect();
+    for k in 4..64 {
+        let (kind, left, right) = (2 + k as u64 % 7, random.next(k as u64) as usize, random.next(k as u64) as usize);
+        let lo = random.next(20);
+        nodes.push(match kind {
+            2 => node(2, left, 0, 0, 0),
+            3 | 4 => node(kind, left, right, 0, 0),
+            5 | 6 => node(kind, left, right, lo, lo + random.next(100)),
+            _ => node(kind, left, 0, lo, lo + random.next(100)),
+        });
+    }
+    nodes
+}
+
+fn main() {
+    let mut random = Random(12345);
+    let mut predicates = [Predicate { channel: 0, range: Range::Unset }; 16];
+    predicates[0] = Predicate { channel: 0, range: Range::AtLeast(3) };
+    predicates[1] = Predicate { channel: 1, range: Range::AtMost(6) };
+    predicates[2] = Predicate { channel: 0, range: Range::Between(-400_000_000, 400_000_000) };
+    predicates[3] = Predicate { channel: 1, range: Range::Free };
+    let large = large_table(&mut random);
+    let mut worst = 0f64;
+    let mut show = |name: &str, rows: usize, nodes: &[Node], times: &[u64], values: &[i64]| {
+        let (ours, theirs) = compare(nodes, &predicates, times, values);
+        worst = worst.max(ours / theirs);
+        println!("{name:<34} {rows:>5} rows: {:>9.3} ms, plain Rust {:>9.3} ms, ratio {:.2}", ours * 1e3, theirs * 1e3, ours / theirs);
+        ours
+    };
+    let mut growth = Vec::new();
+    for equal in [true, false] {
+        for (kind, letter) in [(5, "p0U"), (6, "p0R"), (7, "F"), (8, "G")] {
+            for (lo, hi) in [(0, NO_END), (10, 600), (0, 0)] {
+                let mut taken = [0f64; 2];
+                for (at, rows) in [2048usize, 4096].into_iter().enumerate() {
+                    let times: Vec<u64> = (0..rows as u64).collect();
+                    let values: Vec<i64> = (0..2 * rows).map(|_| if equal { 7 } else { random.value() }).collect();
+                    let (left, right) = if kind <= 6 { (0, 1) } else { (1, 0) };
+                    let nodes = [node(1, 0, 0, 0, 0), node(1, 1, 0, 0, 0), node(kind, left, right, lo, hi)];
+                    let end = if hi == NO_END { "*".to_string() } else { hi.to_string() };
+                    let name = format!("{letter}[{lo},{end}]p1, {} values", if equal { "equal" } else { "random" });
+                    taken[at] = show(&name, rows, &nodes, &times, &values);
+                }
+                if equal && hi == NO_END && kind <= 6 {
+                    growth.push((letter, taken[1] / taken[0]));
+                }
+            }
+        }
+    }
+    for rows in [2048usize, 4096] {
+        let times: Vec<u64> = (0..rows as u64).collect();
+        let values: Vec<i64> = (0..2 * rows).map(|_| random.value()).collect();
+        show("64 nodes, random values", rows, &large, &times, &values);
+    }
+    for (letter, times) in growth {
+        println!("{letter}[0,*]p1, equal values: 4096 rows take {times:.2} times as long as 2048 (at most 4.5 wanted)");
+    }
+    println!("largest ratio to plain Rust: {worst:.2} (at most 1.1 wanted)");
+}
