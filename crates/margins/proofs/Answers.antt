@@ -7,7 +7,6 @@ use Prim.Native.Nat.{ℕ, zero, suc, _*_, _+_, _-_, _≤_, _<_}
 use native.Mathlib.Omega.{arith}
 use native.Mathlib.Nat.{mul-le-mul-right}
 use native.Mathlib.Decide.{decLe, ℕ-discrete}
-use lib.Dec.{leb}
 use lib.IntN.{ℤ, pos}
 use lib.ListN.{length, getD}
 use borrow.Author.Tests.{lt-leb, le-leb}
@@ -16,27 +15,24 @@ use Rattle.lists.proofs.Filled.{rows-in}
 use Rattle.recordings.specs.Card.{Card, rows}
 use Rattle.recordings.specs.Margin.{margin}
 use Rattle.tables.specs.declared.Table.{Table}
-use Rattle.tables.specs.Tree.{tree}
-use Rattle.rules.specs.First.{Check, first}
+use Rattle.tables.specs.Tree.{tree, root}
+use Rattle.rules.specs.First.{first}
 use Rattle.rules.specs.Refusals.{checks, Sound}
 use Rattle.rules.proofs.First.{first-append, first-stays, first-passes, first-fails}
 use Rattle.rules.proofs.Refusals.{sound}
 use Rattle.margins.specs.declared.Answer.the-variants.{Margin, Refused}
-use Rattle.margins.specs.Answers.{outcome, root, refusal, judged, cells-after}
+use Rattle.margins.specs.Answers.{outcome, room-check, refusal, judged, cells-after}
 
 module _ (c : Card) (t : Table) (cells : ℕ) where
-  abbrev room : Check
-  room = record { number = 8; passes = leb (t .count * rows c) cells }
-
   pub refusal-early : (first (checks c t) ≡ 0 → ⊥) → refusal c t cells ≡ first (checks c t)
-  refusal-early h = first-stays (checks c t) (room ∷ []) h
+  refusal-early h = first-stays (checks c t) (room-check c t cells ∷ []) h
 
   pub refusal-room : first (checks c t) ≡ 0 → cells < t .count * rows c → refusal c t cells ≡ 8
-  refusal-room e h = first-append (checks c t) (room ∷ []) tt e ∙ first-fails room [] (lt-leb (t .count * rows c) cells h)
+  refusal-room e h = first-append (checks c t) (room-check c t cells ∷ []) tt e ∙ first-fails (room-check c t cells) [] (lt-leb (t .count * rows c) cells h)
 
   pub refusal-none : first (checks c t) ≡ 0 → t .count * rows c ≤ cells → refusal c t cells ≡ 0
   unfolding first
-  refusal-none e h = first-append (checks c t) (room ∷ []) tt e ∙ first-passes room [] (le-leb (t .count * rows c) cells h)
+  refusal-none e h = first-append (checks c t) (room-check c t cells ∷ []) tt e ∙ first-passes (room-check c t cells) [] (le-leb (t .count * rows c) cells h)
 
   -- number 0 says that none of refusals 3 to 8 applies
   pub accepted : length (c .predicates) ≤ 16 → refusal c t cells ≡ 0 → Sound c t × (t .count * rows c ≤ cells)

@@ -1,8 +1,9 @@
 -- What the margin's contract promises, sentence by sentence: which number is answered, what is handed back with it, and what each cell holds.
 -- Assumes nothing.
 use mathlib.Core.Path.{_≡_, refl, sym, _∙_}
-use mathlib.Core.List.{List}
+use mathlib.Core.List.{List, [], _∷_}
 use Prim.Native.Nat.{ℕ, zero, suc, _*_, _+_, _≤_, _<_}
+use lib.Dec.{leb→le, le→leb}
 use lib.IntN.{ℤ, pos}
 use lib.ListN.{length, getD}
 use Rattle.numbers.specs.Order.{Within}
@@ -13,32 +14,36 @@ use Rattle.recordings.specs.Card.{Card, rows}
 use Rattle.recordings.specs.Margin.{margin}
 use Rattle.recordings.proofs.Margins.{margin-bounded, margin-not-zero}
 use Rattle.tables.specs.declared.Table.{Table}
-use Rattle.tables.specs.Tree.{tree}
-use Rattle.rules.specs.First.{Refused}
-use Rattle.rules.specs.Refusals.{Sound}
-use Rattle.rules.proofs.First.{refused, first-is}
-use Rattle.rules.proofs.Refusals.{sound-passes}
-use Rattle.margins.specs.Answers.{root, margin-checks, refusal, judged, cells-after, unless-refused}
+use Rattle.tables.specs.Tree.{tree, root}
+use Rattle.rules.specs.First.{AllExact, Refused, unless-refused}
+use Rattle.rules.specs.Refusals.{checks, Sound}
+use Rattle.rules.proofs.First.{refused, first-is, exact-append}
+use Rattle.rules.proofs.Refusals.{exact, sound-passes}
+use Rattle.margins.specs.Answers.{room-check, margin-checks, refusal, judged, cells-after}
 use Rattle.margins.proofs.Answers.{accepted, refusal-none}
 
-module _ (c : Card) (t : Table) (cells : ℕ) where
-  -- a number m is answered exactly when its test is the first of the list to fail
+module _ (c : Card) (t : Table) (cells : ℕ) (few : length (c .predicates) ≤ 16) where
+  -- each test of the list holds exactly where its sentence does
+  exact-checks : AllExact (margin-checks c t cells)
+  exact-checks = exact-append (checks c t) (room-check c t cells ∷ []) (exact c t few) (λ _. (record { sound = leb→le _ _; complete = le→leb _ _ }, λ _. tt))
+
+  -- a number m is answered exactly when its condition applies and no earlier one does
   pub number-refused : (judged c t cells .number ≡ 0 → ⊥) → Refused (margin-checks c t cells) (judged c t cells .number)
   unfolding judged
-  number-refused h = refused (margin-checks c t cells) h
+  number-refused h = refused (margin-checks c t cells) exact-checks h
 
   pub refused-number : (m : ℕ) → Refused (margin-checks c t cells) m → judged c t cells .number ≡ m
   unfolding judged
-  refused-number m h = first-is (margin-checks c t cells) h
+  refused-number m h = first-is (margin-checks c t cells) exact-checks h
 
   -- 0 is answered exactly when none of refusals 3 to 8 applies
-  pub number-none : length (c .predicates) ≤ 16 → judged c t cells .number ≡ 0 → Sound c t × (t .count * rows c ≤ cells)
+  pub number-none : judged c t cells .number ≡ 0 → Sound c t × (t .count * rows c ≤ cells)
   unfolding judged
-  number-none l e = accepted c t cells l e
+  number-none e = accepted c t cells few e
 
   pub none-number : Sound c t → t .count * rows c ≤ cells → judged c t cells .number ≡ 0
   unfolding judged
-  none-number s h = refusal-none c t cells (sound-passes c t s) h
+  none-number s h = refusal-none c t cells (sound-passes c t few s) h
 
   -- under a refusal the margin is 0
   pub refused-margin : (judged c t cells .number ≡ 0 → ⊥) → judged c t cells .margin ≡ pos 0
@@ -57,8 +62,8 @@ module _ (c : Card) (t : Table) (cells : ℕ) where
   pub margin-nonzero : judged c t cells .number ≡ 0 → judged c t cells .margin ≡ pos 0 → ⊥
   margin-nonzero e h = margin-not-zero c (root t) 0 (sym (margin-is e) ∙ h)
 
-  pub margin-within : length (c .predicates) ≤ 16 → judged c t cells .number ≡ 0 → Within TOP (judged c t cells .margin)
-  margin-within l e = rw (margin-is e) (margin-bounded (number-none l e .0 .recorded) (root t) 0)
+  pub margin-within : judged c t cells .number ≡ 0 → Within TOP (judged c t cells .margin)
+  margin-within e = rw (margin-is e) (margin-bounded (number-none e .0 .recorded) (root t) 0)
 
 module _ (c : Card) (t : Table) (w : List ℤ) where
   -- nothing lent changes under a refusal

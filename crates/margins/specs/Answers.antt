@@ -1,7 +1,7 @@
 -- The margin's answer: the recording's margin, or the number of the first refusal that applies; and what the cells hold afterwards.
 -- Assumes nothing.
 use mathlib.Core.List.{List, [], _∷_, _++_}
-use Prim.Native.Nat.{ℕ, zero, suc, _*_, _-_}
+use Prim.Native.Nat.{ℕ, _*_, _≤_}
 use lib.Dec.{leb}
 use lib.IntN.{ℤ, pos}
 use lib.ListN.{length}
@@ -10,8 +10,8 @@ use Rattle.logic.specs.Formula.{Formula}
 use Rattle.recordings.specs.Card.{Card, rows}
 use Rattle.recordings.specs.Margin.{margin}
 use Rattle.tables.specs.declared.Table.{Table}
-use Rattle.tables.specs.Tree.{tree}
-use Rattle.rules.specs.First.{Check, first}
+use Rattle.tables.specs.Tree.{tree, root}
+use Rattle.rules.specs.First.{Check, first, unless-refused}
 use Rattle.rules.specs.Refusals.{checks}
 use Rattle.margins.specs.declared.Answer.{Answer}
 use Rattle.margins.specs.declared.Answer.the-variants.{Margin, Refused}
@@ -26,21 +26,16 @@ abbrev pub outcome : Answer → Outcome
 outcome (Margin m) = record { number = 0; margin = m }
 outcome (Refused n) = record { number = n; margin = pos 0 }
 
--- the root is the last node
-abbrev pub root : Table → Formula ℕ
-root t = tree (t .nodes) (t .count - 1)
+-- 8: work shorter than n × rows cells
+abbrev pub room-check : Card → Table → ℕ → Check
+room-check c t cells = record { number = 8; sentence = t .count * rows c ≤ cells; passes = leb (t .count * rows c) cells }
 
--- refusals 3 to 8, in the order in which they count; 8: work shorter than n × rows cells
+-- refusals 3 to 8, in the order in which they count
 abbrev pub margin-checks : Card → Table → ℕ → List Check
-margin-checks c t cells = checks c t ++ (record { number = 8; passes = leb (t .count * rows c) cells } ∷ [])
+margin-checks c t cells = checks c t ++ (room-check c t cells ∷ [])
 
 abbrev pub refusal : Card → Table → ℕ → ℕ
 refusal c t cells = first (margin-checks c t cells)
-
--- a where there is no refusal, else b
-abbrev pub unless-refused : {A : Type 0} → ℕ → A → A → A
-unless-refused zero a b = a
-unless-refused (suc n) a b = b
 
 -- the recording's margin is the root's at sample 0
 unfoldable pub judged : Card → Table → ℕ → Outcome

@@ -45,7 +45,7 @@ pub passed : (cs : List Check) → T (numbered cs) → AllExact cs → first cs 
 passed [] n x e = record { each = λ j h. absurd (omega arith) }
 passed (c ∷ cs) n x e = elim (either (c .passes)) [
   | inl p ↦
-      let r = passed cs (tail-numbered c cs n) (x .1) (sym (first-passes c cs p) ∙ e) in
+      let r = passed cs (tail-numbered c cs n) (x .1 (x .0 .sound (holds p))) (sym (first-passes c cs p) ∙ e) in
       record { each = λ j. elim j [ zero ↦ λ h. x .0 .sound (holds p) | suc i ↦ λ h. r .each i (le-of-suc-le-suc h) ] }
   | inr p ↦ absurd (omega (arith, head-numbered c cs n, sym (first-fails c cs p) ∙ e))
 ]
@@ -55,7 +55,7 @@ unfolding first
 none-fails [] x r = refl
 none-fails (c ∷ cs) x r =
     first-passes c cs (answers (x .0 .complete (r .each 0 (omega arith))))
-    ∙ none-fails cs (x .1) (record { each = λ j h. r .each (suc j) (omega arith) })
+    ∙ none-fails cs (x .1 (r .each 0 (omega arith))) (record { each = λ j h. r .each (suc j) (omega arith) })
 
 -- ---- m exactly when condition m does not hold and every earlier one does
 pub refused : (cs : List Check) → AllExact cs → (first cs ≡ 0 → ⊥) → Refused cs (first cs)
@@ -64,7 +64,7 @@ refused [] x h = absurd (h refl)
 refused (c ∷ cs) x h = elim (either (c .passes)) [
   | inl p ↦
       let e = first-passes c cs p in
-      let r = refused cs (x .1) (λ z. h (e ∙ z)) in
+      let r = refused cs (x .1 (x .0 .sound (holds p))) (λ z. h (e ∙ z)) in
       record {
         place = suc (r .place);
         listed = omega (arith, r .listed);
@@ -86,7 +86,7 @@ at-place [] m place x l n f e = absurd (omega arith)
 at-place (c ∷ cs) m zero x l n f e = first-fails c cs (refutes (λ t. f (x .0 .sound t))) ∙ n
 at-place (c ∷ cs) m (suc p) x l n f e =
     first-passes c cs (answers (x .0 .complete (e 0 (omega arith))))
-    ∙ at-place cs m p (x .1) (le-of-suc-le-suc l) n f (λ j k. e (suc j) (omega arith))
+    ∙ at-place cs m p (x .1 (e 0 (omega arith))) (le-of-suc-le-suc l) n f (λ j k. e (suc j) (omega arith))
 
 pub first-is : (cs : List Check) {m : ℕ} → AllExact cs → Refused cs m → first cs ≡ m
 first-is cs {m} x r = at-place cs m (r .place) x (r .listed) (r .number) (r .fails) (r .earlier)
@@ -118,6 +118,7 @@ first-of-whole (c ∷ cs) ds n e = elim (either (c .passes)) [
   | inr p ↦ absurd (omega (arith, head-numbered c cs n, sym (first-fails c (cs ++ ds) p) ∙ e))
 ]
 
-pub exact-append : (cs ds : List Check) → AllExact cs → AllExact ds → AllExact (cs ++ ds)
-exact-append [] ds x y = y
-exact-append (c ∷ cs) ds x y = (x .0, exact-append cs ds (x .1) y)
+-- the second part's tests are exact where the whole first part holds
+pub exact-append : (cs ds : List Check) → AllExact cs → (Passed cs → AllExact ds) → AllExact (cs ++ ds)
+exact-append [] ds x y = y (record { each = λ j h. absurd (omega arith) })
+exact-append (c ∷ cs) ds x y = (x .0, λ s. exact-append cs ds (x .1 s) (λ p. y (record { each = λ j. elim j [ zero ↦ λ h. s | suc i ↦ λ h. p .each i (le-of-suc-le-suc h) ] })))

@@ -37,7 +37,7 @@ recorded h l t v = record {
 -- sixteen predicates are all there are
 pub exact : (c : Card) (t : Table) → length (c .predicates) ≤ 16 → AllExact (checks c t)
 unfolding requirement-obeys
-exact c t l = (three, (record { sound = channels-are c l; complete = channels-pass c }, (record { sound = lengths-are c; complete = lengths-pass c }, (record { sound = times-are c; complete = times-pass c }, (record { sound = values-are c; complete = values-pass c }, tt)))))
+exact c t l = (three, λ _. (record { sound = channels-are c l; complete = channels-pass c }, λ _. (record { sound = lengths-are c; complete = lengths-pass c }, λ _. (record { sound = times-are c; complete = times-pass c }, λ _. (record { sound = values-are c; complete = values-pass c }, λ _. tt)))))
   where
     three : Exact (check-at (checks c t) 0)
     three = record {
@@ -46,14 +46,15 @@ exact c t l = (three, (record { sound = channels-are c l; complete = channels-pa
     }
 
 -- the number is 0 exactly when the table is ruled, what it names is set, and the recording is as the semantics ask
+pub passed-sound : {c : Card} {t : Table} → Passed (checks c t) → Sound c t
+passed-sound p = record {
+  ruled = p .each 0 (omega arith) .0;
+  named = p .each 0 (omega arith) .1;
+  recorded = recorded (p .each 1 (omega arith)) (p .each 2 (omega arith)) (p .each 3 (omega arith)) (p .each 4 (omega arith));
+}
+
 pub sound : (c : Card) (t : Table) → length (c .predicates) ≤ 16 → first (checks c t) ≡ 0 → Sound c t
-sound c t l e =
-    let p = passed (checks c t) tt (exact c t l) e in
-    record {
-      ruled = p .each 0 (omega arith) .0;
-      named = p .each 0 (omega arith) .1;
-      recorded = recorded (p .each 1 (omega arith)) (p .each 2 (omega arith)) (p .each 3 (omega arith)) (p .each 4 (omega arith));
-    }
+sound c t l e = passed-sound (passed (checks c t) tt (exact c t l) e)
 
 pub sound-passes : (c : Card) (t : Table) → length (c .predicates) ≤ 16 → Sound c t → first (checks c t) ≡ 0
 sound-passes c t l s = none-fails (checks c t) (exact c t l) (record { each = each })

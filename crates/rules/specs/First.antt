@@ -3,7 +3,7 @@
 use mathlib.Core.Path.{_≡_}
 use mathlib.Core.Bool.{Bool, true, cond, _&&_}
 use mathlib.Core.List.{List, [], _∷_}
-use Prim.Native.Nat.{ℕ, _<_}
+use Prim.Native.Nat.{ℕ, zero, suc, _<_}
 use lib.Dec.{T, leb}
 use lib.ListN.{length, getD}
 
@@ -18,15 +18,17 @@ unfoldable pub first : List Check → ℕ
 first [] = 0
 first (c ∷ cs) = cond (c .passes) (first cs) (c .number)
 
--- each test holds exactly where its sentence does; and 0 is the number of no refusal
+-- a test holds exactly where its sentence does
 pub record Exact (c : Check) : Type 0 where
   pub sound : T (c .passes) → c .sentence
   pub complete : c .sentence → T (c .passes)
 
+-- of a list, each where the sentences before it hold: a test is asked only then
 abbrev pub AllExact : List Check → Type 0
 AllExact [] = Unit
-AllExact (c ∷ cs) = Exact c × AllExact cs
+AllExact (c ∷ cs) = Exact c × (c .sentence → AllExact cs)
 
+-- 0 is the number of no refusal
 abbrev pub numbered : List Check → Bool
 numbered [] = true
 numbered (c ∷ cs) = leb 1 (c .number) && numbered cs
@@ -45,3 +47,8 @@ pub record Refused (cs : List Check) (m : ℕ) : Type 0 where
 -- every condition holds
 pub record Passed (cs : List Check) : Type 0 where
   pub each : (j : ℕ) → j < length cs → check-at cs j .sentence
+
+-- what is handed back: a where no refusal applies, else b
+abbrev pub unless-refused : {X : Type 0} → ℕ → X → X → X
+unless-refused zero a b = a
+unless-refused (suc n) a b = b

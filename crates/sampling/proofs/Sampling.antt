@@ -104,7 +104,7 @@ pub measured : {c : Card} → Recorded c → Measured (c .channels) (c .times) (
 measured {c} r = record { some-row = r .some-row; some-values = omega (arith, r .all-values, mul-le-mul-right (c .channels) (r .some-row)); in-range = r .in-range }
 
 pub exact : (c : Card) (step drift : ℕ) → Recorded c → AllExact (checks c step drift)
-exact c step drift r = (record { sound = step-is step drift; complete = step-passes step drift }, (record { sound = gapless c step; complete = gapless-passes c step }, (eleven, tt)))
+exact c step drift r = (record { sound = step-is step drift; complete = step-passes step drift }, λ _. (record { sound = gapless c step; complete = gapless-passes c step }, λ _. (eleven, λ _. tt)))
   where
     eleven : Exact (check-at (checks c step drift) 2)
     eleven = record { sound = steady c drift (r .all-values); complete = steady-passes c drift (r .some-channel) (r .all-values) }

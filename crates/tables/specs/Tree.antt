@@ -2,12 +2,13 @@
 -- Assumes nothing.
 use mathlib.Core.Bool.{cond}
 use mathlib.Core.List.{List, [], _∷_, _++_}
-use Prim.Native.Nat.{ℕ, zero, suc}
+use Prim.Native.Nat.{ℕ, zero, suc, _-_}
 use lib.Dec.{eqb}
 use lib.ListN.{getD}
 use Rattle.logic.specs.Window.{Window, endless, before}
 use Rattle.logic.specs.Formula.{Formula, truth, atom, negation, junction, temporal, Extremum, largest, smallest}
 use Rattle.tables.specs.declared.Node.{Node}
+use Rattle.tables.specs.declared.Table.{Table}
 use Rattle.tables.specs.Kind.{Operator, constant, named, negated, unknown, joined, binary, unary, operator}
 
 -- hi for a window without end
@@ -41,6 +42,10 @@ unfoldable pub trees : List Node → ℕ → List (Formula ℕ)
 trees ns zero = []
 trees ns (suc k) = trees ns k ++ (formula (operator (node-at ns k .kind)) (node-at ns k) (λ child. getD (trees ns k) child truth) ∷ [])
 
--- the requirement of node k; the root is the last node
+-- the requirement of node k
 unfoldable pub tree : List Node → ℕ → Formula ℕ
 tree ns k = getD (trees ns (suc k)) k truth
+
+-- the root is the last node
+abbrev pub root : Table → Formula ℕ
+root t = tree (t .nodes) (t .count - 1)

@@ -6,14 +6,16 @@ use mathlib.Core.List.{List, _∷_}
 use Prim.Native.Nat.{ℕ, zero, suc, _+_, _*_, _-_, _≤_, _<_}
 use native.Mathlib.Omega.{arith}
 use native.Mathlib.Nat.{mul-le-mul-right}
-use lib.Dec.{T}
+use native.Mathlib.Decide.{decLe}
 use borrow.Author.Tests.{le-leb, lt-leb}
 use lib.IntN.{ℤ}
 use lib.ListN.{length}
 use Rattle.lists.proofs.Filled.{rows-in, length-rows, earlier-row}
 use Rattle.recordings.specs.declared.Verdict.{Verdict}
 use Rattle.recordings.specs.Card.{Card, rows}
+use Rattle.recordings.specs.Verdict.{hold, fail, verdict}
 use Rattle.tables.specs.declared.Table.{Table}
+use Rattle.tables.specs.Tree.{root}
 use Rattle.rows.specs.Cells.{cell}
 use Rattle.rules.specs.First.{first}
 use Rattle.rules.specs.Refusals.{checks, Sound}
@@ -23,8 +25,7 @@ use Rattle.verdicts.specs.declared.Answer.{Answer}
 use Rattle.verdicts.specs.declared.Answer.the-variants.{Judged, Refused}
 use Rattle.verdicts.specs.Cells.{strong, row-value, cells}
 use Rattle.verdicts.specs.Rows.{row-of, Ready}
-use Rattle.verdicts.specs.Answer.{answered, kept-under}
-use Rattle.verdicts.specs.Refusals.{room-check, refusal}
+use Rattle.verdicts.specs.Answer.{outcome, room-check, refusal, judged, cells-after}
 use Rattle.verdicts.proofs.Rows.{row-value-of}
 
 module _ (c : Card) (t : Table) (step drift size : ℕ) where
@@ -44,14 +45,32 @@ module _ (c : Card) (t : Table) (step drift size : ℕ) where
       first-append (checks c t) (room-check c t size ∷ sampling-checks c step drift) tt e
       ∙ first-passes (room-check c t size) (sampling-checks c step drift) (le-leb _ _ h)
 
--- under a number other than 0 the answer is that number, and what was lent stays
-pub answer-refused : (n m : ℕ) (v : Verdict) (h f : ℤ) → n ≡ m → (m ≡ 0 → ⊥) → Refused m ≡ answered n v h f
-answer-refused zero m v h f e g = absurd (g (sym e))
-answer-refused (suc n) m v h f e g = ap Refused (sym e)
+  -- number 0 of what stands behind refusals 3 to 7
+  pub after-room : first (room-check c t size ∷ sampling-checks c step drift) ≡ 0 → (2 * t .count * rows c ≤ size) × (first (sampling-checks c step drift) ≡ 0)
+  after-room e = elim (decLe (2 * t .count * rows c) size) [
+    | yes h ↦ (h, sym (first-passes (room-check c t size) (sampling-checks c step drift) (le-leb _ _ h)) ∙ e)
+    | no h ↦ absurd (omega (arith, sym (first-fails (room-check c t size) (sampling-checks c step drift) (lt-leb (2 * t .count * rows c) size (omega arith))) ∙ e))
+  ]
 
-pub kept-refused : {X : Type 0} (n m : ℕ) (done entry : X) → n ≡ m → (m ≡ 0 → ⊥) → entry ≡ kept-under n done entry
-kept-refused zero m done entry e g = absurd (g (sym e))
-kept-refused (suc n) m done entry e g = refl
+  -- ---- the answer: under a number other than 0 that number, and what was lent stays
+  pub refused-outcome : (m : ℕ) → refusal c t step drift size ≡ m → (m ≡ 0 → ⊥) → outcome (Refused m) ≡ judged c t step drift size
+  unfolding judged
+  refused-outcome zero e h = absurd (h refl)
+  refused-outcome (suc m) e h = rw e refl
+
+  pub judged-outcome : {v : Verdict} {h f : ℤ} → refusal c t step drift size ≡ 0 → v ≡ verdict c step drift (root t) → h ≡ hold c step (root t) → f ≡ fail c step (root t) → outcome (Judged v h f) ≡ judged c t step drift size
+  unfolding judged
+  judged-outcome e p q r = rw (e, p, q, r) refl
+
+module _ (c : Card) (t : Table) (step drift : ℕ) (w : List ℤ) where
+  pub cells-kept : (m : ℕ) → refusal c t step drift (length w) ≡ m → (m ≡ 0 → ⊥) → w ≡ cells-after c t step drift w
+  unfolding cells-after
+  cells-kept zero e h = absurd (h refl)
+  cells-kept (suc m) e h = rw e refl
+
+  pub cells-filled : {l : List ℤ} → refusal c t step drift (length w) ≡ 0 → l ≡ cells c step (t .nodes) (t .count) w → l ≡ cells-after c t step drift w
+  unfolding cells-after
+  cells-filled e f = f ∙ (rw e refl)
 
 pub few-cells : (n r : ℕ) → n ≤ 64 → r ≤ 4_096 → 2 * n * r ≤ 524_288
 few-cells n r h k = let l : 2 * n ≤ 128 = omega arith in omega (arith, mul-le-mul-right r l)
@@ -73,10 +92,3 @@ root-inside c t step w ok e b =
     inside : (b : Bool) → row-of b (t .count - 1) < 2 * t .count
     inside true = omega (arith, ok .sound .ruled .some-node)
     inside false = omega (arith, ok .sound .ruled .some-node)
-
--- the answer where no test fails
-pub answer-judged : (n : ℕ) {v v′ : Verdict} {h h′ f f′ : ℤ} → n ≡ 0 → v ≡ v′ → h ≡ h′ → f ≡ f′ → Judged v h f ≡ answered n v′ h′ f′
-answer-judged n e p q r = rw (e, p, q, r) refl
-
-pub done-judged : {X : Type 0} (n : ℕ) (done entry : X) {out : X} → n ≡ 0 → out ≡ done → out ≡ kept-under n done entry
-done-judged n done entry e h = rw e h

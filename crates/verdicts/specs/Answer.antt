@@ -1,35 +1,53 @@
--- What the verdict hands back, case by case, in document 01's numbers and values.
+-- The verdict's answer in document 01's numbers and values, and what the cells hold afterwards.
 -- Assumes nothing.
-use Prim.Native.Nat.{ℕ, zero, suc}
+use mathlib.Core.List.{List, [], _∷_, _++_}
+use Prim.Native.Nat.{ℕ, _*_, _≤_}
+use lib.Dec.{leb}
 use lib.IntN.{ℤ, pos}
+use lib.ListN.{length}
 use Rattle.recordings.specs.declared.Verdict.{Verdict}
 use Rattle.recordings.specs.declared.Verdict.the-variants.{NotShown}
+use Rattle.recordings.specs.Card.{Card, rows}
+use Rattle.recordings.specs.Verdict.{hold, fail, verdict}
+use Rattle.tables.specs.declared.Table.{Table}
+use Rattle.tables.specs.Tree.{root}
+use Rattle.rules.specs.First.{Check, first, unless-refused}
+use Rattle.rules.specs.Refusals.{checks}
+use Rattle.sampling.specs.Sampling.{checks as sampling-checks}
 use Rattle.verdicts.specs.declared.Answer.{Answer}
 use Rattle.verdicts.specs.declared.Answer.the-variants.{Judged, Refused}
+use Rattle.verdicts.specs.Cells.{cells}
 
--- 0, or the refusal's number; under a refusal the verdict is "not shown", hold 0 and fail 0
-abbrev pub number-of : Answer → ℕ
-number-of (Judged v h f) = 0
-number-of (Refused m) = m
+-- what document 01 hands back: a number, 0 for no refusal; the verdict, hold and fail, under a refusal "not shown", 0, 0
+pub record Outcome : Type 0 where
+  pub number : ℕ
+  pub verdict : Verdict
+  pub hold : ℤ
+  pub fail : ℤ
 
-abbrev pub verdict-of : Answer → Verdict
-verdict-of (Judged v h f) = v
-verdict-of (Refused m) = NotShown
+abbrev pub outcome : Answer → Outcome
+outcome (Judged v h f) = record { number = 0; verdict = v; hold = h; fail = f }
+outcome (Refused n) = record { number = n; verdict = NotShown; hold = pos 0; fail = pos 0 }
 
-abbrev pub hold-of : Answer → ℤ
-hold-of (Judged v h f) = h
-hold-of (Refused m) = pos 0
+-- 8: work shorter than 2 × n × rows cells
+abbrev pub room-check : Card → Table → ℕ → Check
+room-check c t size = record { number = 8; sentence = 2 * t .count * rows c ≤ size; passes = leb (2 * t .count * rows c) size }
 
-abbrev pub fail-of : Answer → ℤ
-fail-of (Judged v h f) = f
-fail-of (Refused m) = pos 0
+-- refusals 3 to 11, in the order in which they count
+abbrev pub verdict-checks : Card → Table → ℕ → ℕ → ℕ → List Check
+verdict-checks c t step drift size = checks c t ++ (room-check c t size ∷ sampling-checks c step drift)
 
--- the answer under a refusal's number, 0 for none
-abbrev pub answered : ℕ → Verdict → ℤ → ℤ → Answer
-answered zero v h f = Judged v h f
-answered (suc m) v h f = Refused (suc m)
+unfoldable pub refusal : Card → Table → ℕ → ℕ → ℕ → ℕ
+refusal c t step drift size = first (verdict-checks c t step drift size)
 
--- what a lent slice holds: under a refusal, what it held
-abbrev pub kept-under : {X : Type 0} → ℕ → X → X → X
-kept-under zero done entry = done
-kept-under (suc m) done entry = entry
+unfoldable pub judged : Card → Table → ℕ → ℕ → ℕ → Outcome
+judged c t step drift size = record {
+  number = refusal c t step drift size;
+  verdict = unless-refused (refusal c t step drift size) (verdict c step drift (root t)) NotShown;
+  hold = unless-refused (refusal c t step drift size) (hold c step (root t)) (pos 0);
+  fail = unless-refused (refusal c t step drift size) (fail c step (root t)) (pos 0);
+}
+
+-- under a refusal the cells keep their contents
+unfoldable pub cells-after : Card → Table → ℕ → ℕ → List ℤ → List ℤ
+cells-after c t step drift w = unless-refused (refusal c t step drift (length w)) (cells c step (t .nodes) (t .count) w) w

@@ -1,5 +1,4 @@
--- In the order of document 01's "Strengthening and the verdict": the cells, what is handed back, and when it is refused.
+-- In the order of document 01's "Strengthening and the verdict": the cells, one row of them, and what is handed back, refusals included.
 pub mod Cells
 pub mod Rows
 pub mod Answer
-pub mod Refusals

@@ -1,21 +1,19 @@
 // The verdict: hold, fail, and whether the requirement holds, fails or is not shown between the samples.
 ghost use mathlib.Core.Path.{_≡_};
-ghost use Prim.Native.Nat.{_*_, _-_, _≤_};
+ghost use Prim.Native.Nat.{_*_, _≤_};
 ghost use lib.IntN.{pos};
 ghost use lib.Signed.{ltZ};
 ghost use lib.ListN.{length};
 ghost use Rattle.lists.specs.Fill.{fill};
-ghost use Rattle.recordings.specs.Verdict.{decide, hold, fail, verdict};
+ghost use Rattle.recordings.specs.Verdict.{decide};
 ghost use Rattle.rows.specs.Cells.{extremum-of};
 ghost use Rattle.tables.specs.Kind.{operator};
-ghost use Rattle.tables.specs.Tree.{tree};
 ghost use Rattle.tables.specs.Rules.{NodeRules};
 ghost use Rattle.rules.specs.Refusals.{card};
 ghost use Rattle.temporal.specs.Reading.{window-of};
 ghost use Rattle.verdicts.specs.Cells.{row-value, cells};
 ghost use Rattle.verdicts.specs.Rows.{window-extremum, strong-window, left-sign, row-of, Ready, Filled};
-ghost use Rattle.verdicts.specs.Answer.{answered, kept-under};
-ghost use Rattle.verdicts.specs.Refusals.{refusal};
+ghost use Rattle.verdicts.specs.Answer.{outcome, judged, cells-after};
 use recordings::Predicate;
 use recordings::Verdict;
 use tables::Node;
@@ -172,8 +170,8 @@ pub fn verdict(
     drift: u64,
     work: &mut [i64],
 ) -> Answer
-    ensures answer { λ r. ⌜ r ≡ answered (refusal (card channels predicates (now (times .entry)) (now (values .entry))) table step drift (length (now (work .entry)))) (verdict (card channels predicates (now (times .entry)) (now (values .entry))) step drift (tree (table .nodes) (table .count - 1))) (hold (card channels predicates (now (times .entry)) (now (values .entry))) step (tree (table .nodes) (table .count - 1))) (fail (card channels predicates (now (times .entry)) (now (values .entry))) step (tree (table .nodes) (table .count - 1))) ⌝ }
-    ensures cells { λ _. ⌜ now (work .exit) ≡ kept-under (refusal (card channels predicates (now (times .entry)) (now (values .entry))) table step drift (length (now (work .entry)))) (cells (card channels predicates (now (times .entry)) (now (values .entry))) step (table .nodes) (table .count) (now (work .entry))) (now (work .entry)) ⌝ }
+    ensures answer { λ r. ⌜ outcome r ≡ judged (card channels predicates (now (times .entry)) (now (values .entry))) table step drift (length (now (work .entry))) ⌝ }
+    ensures cells { λ _. ⌜ now (work .exit) ≡ cells-after (card channels predicates (now (times .entry)) (now (values .entry))) table step drift (now (work .entry)) ⌝ }
 {
     let early = rules::refusal(table, predicates, channels, times, values);
     if early != 0 {

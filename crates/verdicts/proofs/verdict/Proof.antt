@@ -19,8 +19,8 @@ use Rattle.sampling.specs.Sampling.{checks as sampling-checks}
 use Rattle.sampling.proofs.Sampling.{measured, accepted, first-alone}
 use Rattle.verdicts.specs.Cells.{strong}
 use Rattle.verdicts.specs.Rows.{Ready}
-use Rattle.verdicts.specs.Refusals.{refusal}
-use Rattle.verdicts.proofs.Entry.{refused-early, refused-room, refused-late, answer-refused, kept-refused, answer-judged, done-judged, few-cells, root-cell, root-inside}
+use Rattle.verdicts.specs.Answer.{refusal}
+use Rattle.verdicts.proofs.Entry.{refused-early, refused-room, refused-late, refused-outcome, judged-outcome, cells-kept, cells-filled, few-cells, root-cell, root-inside}
 use Rattle.verdicts.proofs.verdict.Statement.{statement}
 use Rattle.verdicts.proofs.verdict.Tie as tie
 use Rattle.verdicts.proofs.verdict.Reads as reads
@@ -58,7 +58,7 @@ returns c =
     let e = c .before .refusal .ensures in
     let n : first (checks (card-of s) (s .args .table)) ≡ 0 → ⊥ = λ z. c .if1 .taken (e ∙ z) in
     let r : refusal (card-of s) (s .args .table) (s .args .step) (s .args .drift) (length (s .args .work .now)) ≡ c .before .refusal .result = refused-early (card-of s) (s .args .table) (s .args .step) (s .args .drift) (length (s .args .work .now)) n ∙ sym e in
-    (answer-refused _ _ _ _ _ r (c .if1 .taken), kept-refused _ _ _ _ r (c .if1 .taken))
+    (refused-outcome (card-of s) (s .args .table) (s .args .step) (s .args .drift) (length (s .args .work .now)) _ r (c .if1 .taken), cells-kept (card-of s) (s .args .table) (s .args .step) (s .args .drift) (s .args .work .now) _ r (c .if1 .taken))
 
 mul-if2 : tie.Need-mul-if2
 mul-if2 c = omega (arith, sound-at c .ruled .few-nodes)
@@ -71,7 +71,7 @@ returns-2 c =
     let s = c .before .before .before .before in
     let r = refused-room (card-of s) (s .args .table) (s .args .step) (s .args .drift) (length (s .args .work .now)) (early-zero (c .before)) (c .if2 .taken) in
     let n : _≡_ {A = ℕ} 8 0 → ⊥ = λ z. omega arith in
-    (answer-refused _ _ _ _ _ r n, kept-refused _ _ _ _ r n)
+    (refused-outcome (card-of s) (s .args .table) (s .args .step) (s .args .drift) (length (s .args .work .now)) _ r n, cells-kept (card-of s) (s .args .table) (s .args .step) (s .args .drift) (s .args .work .now) _ r n)
 
 refusal-requires-2 : tie.Need-refusal-requires-2
 refusal-requires-2 c κs = measured (sound-at (c .before) .recorded)
@@ -80,7 +80,7 @@ returns-3 : tie.Need-returns-3
 returns-3 c =
     let s = c .before .before .before .before .before .before in
     let r = refused-late (card-of s) (s .args .table) (s .args .step) (s .args .drift) (length (s .args .work .now)) (early-zero (c .before .before .before)) (c .before .before .if2 .left) ∙ (sym (first-alone (card-of s) (s .args .step) (s .args .drift)) ∙ sym (c .before .refusal2 .ensures)) in
-    (answer-refused _ _ _ _ _ r (c .if3 .taken), kept-refused _ _ _ _ r (c .if3 .taken))
+    (refused-outcome (card-of s) (s .args .table) (s .args .step) (s .args .drift) (length (s .args .work .now)) _ r (c .if3 .taken), cells-kept (card-of s) (s .args .table) (s .args .step) (s .args .drift) (s .args .work .now) _ r (c .if3 .taken))
 
 strong-rows-requires : tie.Need-strong-rows-requires
 strong-rows-requires c κs = ready-at (c .before)
@@ -117,7 +117,7 @@ returns-4 c =
     let f = c .before .cell-at2 .ensures ∙ root-cell (card-of s) (s .args .table) (s .args .step) (s .args .work .now) (ready-at q) w false in
     let bh = back-ok _ (c .before .before .before .cell-at .ok) ∙ h in
     let bf = back-ok _ (c .before .cell-at2 .ok) ∙ f in
-    (answer-judged _ r (c .decided .ensures ∙ ap₂ (decide (s .args .drift)) bh bf) bh bf, done-judged _ _ _ r w)
+    (judged-outcome (card-of s) (s .args .table) (s .args .step) (s .args .drift) (length (s .args .work .now)) r (c .decided .ensures ∙ ap₂ (decide (s .args .drift)) bh bf) bh bf, cells-filled (card-of s) (s .args .table) (s .args .step) (s .args .drift) (s .args .work .now) r w)
 
 pub verdict-spec : {M : Type 1} → statement M
 verdict-spec =
