@@ -5,10 +5,17 @@ use mathlib.Core.List.{List, [], _∷_, map}
 use Prim.Native.Nat.{ℕ, zero, suc}
 use lib.ListN.{getD}
 use Rattle.recordings.specs.Margin.{robustness}
+use Rattle.tables.specs.Tree.{trees, tree}
+use Rattle.tables.specs.Rules.{node-obeys, nodes-obey, table-obeys}
+use Rattle.predicates.specs.Predicates.{names-set, all-named, requirement-obeys, value-obeys, predicate-obeys, predicates-obey, channels-obey}
+use Rattle.rules.specs.First.{first}
+use Rattle.rules.specs.Recording.{lengths-obey, all-rising, all-early, times-obey, all-in-range, values-obey}
+use Rattle.sampling.specs.Sampling.{step-obeys, all-close, times-close, near, all-near, values-near}
+use Rattle.verdicts.specs.Answer.{refusal, judged}
 use Rattle.bench_readings.specs.Readings.{Question, Answer, answer, Reading, readings}
 
 table : map (λ (r : Reading). map answer (r .asked)) readings ≡ map (λ (r : Reading). r .answered) readings
-unfolding robustness
+unfolding robustness judged refusal first tree trees requirement-obeys table-obeys nodes-obey node-obeys all-named names-set channels-obey predicates-obey predicate-obeys value-obeys times-obey all-rising all-early lengths-obey values-obey all-in-range step-obeys times-close all-close values-near all-near near
 table = refl
 
 mapped : {X Y : Type 0} (f : X → Y) (xs : List X) (k : ℕ) (d : X) → getD (map f xs) k (f d) ≡ f (getD xs k d)

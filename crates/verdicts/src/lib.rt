@@ -123,16 +123,7 @@ fn strong_rows(
     let end = 2 * table.count;
     let mut row = 0;
     while row < end {
-        strong_row(
-            work,
-            times,
-            values,
-            channels,
-            predicates,
-            table,
-            step,
-            row,
-        );
+        strong_row(work, times, values, channels, predicates, table, step, row);
         row += 1;
     }
 }

@@ -16,7 +16,7 @@ use Rattle.verdicts.proofs.strong_rows.Statement.{statement}
 use Rattle.verdicts.proofs.strong_rows.Tie as tie
 
 abbrev Inv-loop : tie.InvT-loop
-Inv-loop work₀ times values channels predicates table step end row₀ work row = 
+Inv-loop work₀ times values channels predicates table step end row₀ work row =
     (end ≡ 2 * table .count) × (row ≤ end) × (work ≡ fill-rows (length times) (row-value (card channels predicates times values) step (table .nodes)) row work₀)
 
 abbrev μ-loop : tie.MeasureT-loop
