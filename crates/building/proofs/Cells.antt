@@ -1,0 +1,94 @@
+-- Nodes as cells: five numbers to a node, written in one run, and read back as the table of the nodes.
+-- Assumes nothing.
+use mathlib.Core.Path.{_≡_, refl, sym, ap, _∙_}
+use mathlib.Core.List.{List, [], _∷_, _++_, append-assoc, append-nil}
+use Prim.Native.Nat.{ℕ, zero, suc, _+_, _-_, _*_, _≤_, _<_}
+use native.Mathlib.Nat.{add-zero}
+use native.Mathlib.Numerals.{add-one, towards-suc}
+use native.Mathlib.Omega.{arith}
+use lib.ListN.{length, getD, take, set, replicate, length-append, length-take, List·getD-append}
+use lib.Seq.{sets, sets-eq, set-at, take-suc, take-all}
+use Rattle.tables.specs.declared.Node.{Node}
+use Rattle.grammar.specs.Tree.{Tree, truth, predicate, one, two, size}
+use Rattle.building.specs.Nodes.{node, emptyNode, nodesOf}
+use Rattle.building.specs.Storing.{cellsOf, nodeAt, nodesFrom}
+
+-- ---- counts
+
+pub size-some : (a : Tree) → 1 ≤ size a
+unfolding size
+size-some truth = omega arith
+size-some (predicate p) = omega arith
+size-some (one k w a) = omega arith
+size-some (two k w a b) = omega arith
+
+pub length-nodes : (o : ℕ) (a : Tree) → length (nodesOf o a) ≡ size a
+unfolding nodesOf size
+length-nodes o truth = refl
+length-nodes o (predicate p) = refl
+length-nodes o (one k w a) = rw (length-append, length-nodes o a)
+length-nodes o (two k w a b) =
+    rw (length-append, length-nodes o a) (rw (length-append, length-nodes (o + size a) b) (omega arith))
+
+pub length-cells : (xs : List Node) → length (cellsOf xs) ≡ 5 * length xs
+unfolding cellsOf
+length-cells [] = refl
+length-cells (x ∷ xs) = let h : length (cellsOf xs) ≡ 5 * length xs = length-cells xs in omega arith
+
+pub cells-append : (xs ys : List Node) → cellsOf (xs ++ ys) ≡ cellsOf xs ++ cellsOf ys
+unfolding cellsOf
+cells-append [] ys = refl
+cells-append (x ∷ xs) ys = rw (cells-append xs ys)
+
+-- ---- writing
+
+pub sets-append : (l : List ℕ) (i : ℕ) (vs ws : List ℕ) → sets l i (vs ++ ws) ≡ sets (sets l i vs) (i + length vs) ws
+sets-append l i [] ws = rw add-zero
+sets-append l i (v ∷ vs) ws = let e : i + suc (length vs) ≡ suc i + length vs = omega arith in rw (e, sets-append (set l i v) (suc i) vs ws)
+
+-- five stores are one run
+pub sets-five : (l : List ℕ) (i a b c d e : ℕ)
+    → set (set (set (set (set l i a) (i + 1) b) (i + 2) c) (i + 3) d) (i + 4) e ≡ sets l i (a ∷ b ∷ c ∷ d ∷ e ∷ [])
+sets-five l i a b c d e = simp towards-suc
+
+-- nodes after nodes
+pub sets-nodes : (l : List ℕ) (o m : ℕ) (xs ys : List Node) → length xs ≡ m
+    → sets (sets l (5 * o) (cellsOf xs)) (5 * (o + m)) (cellsOf ys) ≡ sets l (5 * o) (cellsOf (xs ++ ys))
+sets-nodes l o m xs ys e =
+    let n : 5 * (o + m) ≡ 5 * o + length (cellsOf xs) = rw (length-cells xs) (omega arith) in
+    sym (rw (cells-append xs ys, sets-append l (5 * o) (cellsOf xs) (cellsOf ys), n))
+
+-- ---- reading back
+
+-- the node at a number of cells that nodes begin
+node-back : (xs : List Node) (r : List ℕ) (k : ℕ) → k < length xs → nodeAt (cellsOf xs ++ r) k ≡ getD xs k emptyNode
+unfolding cellsOf
+node-back [] r k l = absurd (omega arith)
+node-back (x ∷ xs) r zero l = refl
+node-back (x ∷ xs) r (suc k) l =
+    let e : 5 * suc k ≡ suc (suc (suc (suc (suc (5 * k))))) = omega arith in
+    let i1 : 5 * suc k + 1 ≡ suc (suc (suc (suc (suc (5 * k + 1))))) = omega arith in
+    let i2 : 5 * suc k + 2 ≡ suc (suc (suc (suc (suc (5 * k + 2))))) = omega arith in
+    let i3 : 5 * suc k + 3 ≡ suc (suc (suc (suc (suc (5 * k + 3))))) = omega arith in
+    let i4 : 5 * suc k + 4 ≡ suc (suc (suc (suc (suc (5 * k + 4))))) = omega arith in
+    rw (i1, i2, i3, i4, e) (node-back xs r k (omega arith))
+
+-- the table of the first n of the nodes
+nodes-back : (xs : List Node) (r : List ℕ) (n : ℕ) → n ≤ length xs → length xs ≤ 64
+    → nodesFrom (cellsOf xs ++ r) n ≡ take n xs ++ replicate (64 - n) emptyNode
+unfolding nodesFrom
+nodes-back xs r zero l m = refl
+nodes-back xs r (suc n) l m =
+    let e : 64 - n ≡ suc (64 - suc n) = omega arith in
+    let f : length (take n xs) ≡ n = rw length-take (omega arith) in
+    rw (nodes-back xs r n (omega arith) m, node-back xs r n (omega arith), e, set-at (take n xs) emptyNode (replicate (64 - suc n) emptyNode) (getD xs n emptyNode) n f, take-suc xs n emptyNode)
+    (sym (append-assoc (take n xs) (getD xs n emptyNode ∷ []) (replicate (64 - suc n) emptyNode)))
+
+-- a table that was written from number 0 on is read back
+abbrev pub zeros : List ℕ
+zeros = replicate 320 0
+
+pub table-back : (xs : List Node) → length xs ≤ 64 → nodesFrom (sets zeros 0 (cellsOf xs)) (length xs) ≡ xs ++ replicate (64 - length xs) emptyNode
+table-back xs l =
+    let e : 0 + length (cellsOf xs) ≤ length zeros = rw (length-cells xs) (omega arith) in
+    rw (sets-eq (cellsOf xs) zeros 0 e, nodes-back xs _ (length xs) (omega arith) l, take-all (length xs) xs (omega arith))

@@ -1,0 +1,73 @@
+-- `building::table_from` meets its contract: after k turns the nodes are `nodesFrom` at k.
+-- Assumes nothing.
+use Prim.Native.Nat.{_-_, _≤_}
+use mathlib.Core.Path.{_≡_, ap, _∙_}
+use mathlib.Core.List.{List}
+use denote.Ref.{now}
+use Rattle.tables.specs.declared.Node.{Node}
+use Rattle.tables.specs.declared.Table.{Table}
+use native.Mathlib.Numerals.{add-one}
+use native.Mathlib.Omega.{arith}
+use borrow.Author.Needs.{needs}
+use lib.ListN.{length}
+use Rattle.building.specs.Storing.{nodesFrom}
+use Rattle.building.proofs.table_from.Statement.{statement}
+use Rattle.building.proofs.table_from.Tie as tie
+use Rattle.building.proofs.table_from.Reads as reads
+use Rattle.building.proofs.table_from.Lts as lts
+use Rattle.building.proofs.empty_table.Reads as empty-table-reads
+use Rattle.building.proofs.node_at.Reads as node-at-reads
+
+abbrev Inv-loop : tie.InvT-loop
+Inv-loop cells count table₀ k₀ table k = (k ≤ count) × (table .nodes ≡ nodesFrom cells k)
+
+abbrev μ-loop : tie.MeasureT-loop
+μ-loop cells count table₀ k₀ table k = count - k
+
+empty-table-requires : tie.Need-empty-table-requires Inv-loop μ-loop
+empty-table-requires c κs = search needs
+
+loop-holds : tie.Need-loop-holds Inv-loop μ-loop
+unfolding nodesFrom
+loop-holds c = (omega arith, ap (λ (t : Table). t .nodes) (c .empty-table .ensures))
+
+node-at-requires : tie.Need-node-at-requires Inv-loop μ-loop
+node-at-requires c κs = search needs
+
+mul-t8 : tie.Need-mul-t8 Inv-loop μ-loop
+mul-t8 c = search needs
+
+element-set-from-table : tie.Need-element-set-from-table Inv-loop μ-loop
+element-set-from-table c = search needs
+
+add-k : tie.Need-add-k Inv-loop μ-loop
+add-k c = search needs
+
+loop-less : tie.Need-loop-less Inv-loop μ-loop
+loop-less c = search needs
+
+loop-again : tie.Need-loop-again Inv-loop μ-loop
+unfolding nodesFrom
+loop-again c = (search needs, rw (add-one, c .before .before .loop .inv .1, c .node-at .ensures))
+
+returns : tie.Need-returns Inv-loop μ-loop
+returns c =
+    let a = c .before .before .before .args in
+    let e : c .before .loop .k ≡ a .count = omega arith in
+    ap {B = Table} (λ (ns : List Node). record { nodes = ns; count = a .count }) (c .before .loop .inv .1 ∙ ap (nodesFrom (now (a .cells))) e)
+
+pub table-from-spec : {M : Type 1} → statement M
+table-from-spec =
+    tie.close
+    (tie.spec
+    Inv-loop
+    μ-loop
+    empty-table-requires
+    loop-holds
+    node-at-requires
+    mul-t8
+    element-set-from-table
+    add-k
+    loop-less
+    loop-again
+    returns)

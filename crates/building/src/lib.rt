@@ -1,0 +1,157 @@
+// Where a requirement's nodes are kept while they are read: five cells a node, so that a deep text costs no copy of the table.
+use grammar::Span;
+use tables::Node;
+use tables::Table;
+use text::Field;
+use text::Mark;
+ghost use mathlib.Core.Path.{_≡_};
+ghost use Prim.Native.Nat.{_<_, _≤_};
+ghost use Rattle.grammar.specs.Reading.{leafAt};
+ghost use Rattle.building.specs.Nodes.{emptyTable};
+ghost use Rattle.building.specs.Storing.{Done, pushedStep, pushedCells, parentStep, wrapCells, joinCells, closedStep, nodeAt, tableFrom};
+
+// Cells for 64 nodes.
+pub const CELLS: usize = 320;
+
+// What reading a part of the grammar gives: the place after it, its root's number and the next free number; or a refusal.
+pub enum Step {
+    Read(usize, usize, usize),
+    Refused,
+}
+
+// One node more, which is the root; refused where 64 stand.
+pub fn push(at: usize, free: usize, x: Node, cells: &mut [u64; CELLS]) -> Step
+    ensures step { λ r. ⌜ r ≡ pushedStep free at ⌝ }
+    ensures cells { λ r. ⌜ now (cells .exit) ≡ pushedCells free x (now (cells .entry)) ⌝ }
+{
+    if 64 <= free {
+        return Step::Refused;
+    }
+    let first = 5 * free;
+    cells[first] = x.kind;
+    cells[first + 1] = x.left as u64;
+    cells[first + 2] = x.right as u64;
+    cells[first + 3] = x.lo;
+    cells[first + 4] = x.hi;
+    Step::Read(at, free, free + 1)
+}
+
+// The parent of one reading.
+pub fn wrap(kind: u64, span: Span, inner: Step, cells: &mut [u64; CELLS]) -> Step
+    ensures step { λ r. ⌜ r ≡ parentStep inner ⌝ }
+    ensures cells { λ r. ⌜ now (cells .exit) ≡ wrapCells kind span inner (now (cells .entry)) ⌝ }
+{
+    let Step::Read(at, root, free) = inner else {
+        return Step::Refused;
+    };
+    let x = Node {
+        kind: kind,
+        left: root,
+        right: 0,
+        lo: span.lo,
+        hi: span.hi,
+    };
+    push(at, free, x, cells)
+}
+
+// The parent of the root `left` and of the reading after it.
+pub fn join(kind: u64, span: Span, left: usize, inner: Step, cells: &mut [u64; CELLS]) -> Step
+    ensures step { λ r. ⌜ r ≡ parentStep inner ⌝ }
+    ensures cells { λ r. ⌜ now (cells .exit) ≡ joinCells kind span left inner (now (cells .entry)) ⌝ }
+{
+    let Step::Read(at, root, free) = inner else {
+        return Step::Refused;
+    };
+    let x = Node {
+        kind: kind,
+        left: left,
+        right: root,
+        lo: span.lo,
+        hi: span.hi,
+    };
+    push(at, free, x, cells)
+}
+
+// A reading and the parenthesis that closes it.
+pub fn close(s: &[u8], inner: Step) -> Step
+    ensures { λ r. ⌜ r ≡ closedStep (now (s .entry)) inner ⌝ }
+{
+    let Step::Read(at, root, free) = inner else {
+        return Step::Refused;
+    };
+    let Mark::Next(next) = text::read_mark(s, at, b")") else {
+        return Step::Refused;
+    };
+    Step::Read(next, root, free)
+}
+
+pub fn empty_table() -> Table
+    ensures { λ r. ⌜ r ≡ emptyTable ⌝ }
+{
+    let none = Node {
+        kind: 0,
+        left: 0,
+        right: 0,
+        lo: 0,
+        hi: 0,
+    };
+    let nodes = [none; 64];
+    Table {
+        nodes: nodes,
+        count: 0,
+    }
+}
+
+fn node_at(cells: &[u64; CELLS], k: usize) -> Node
+    requires { ⌜ k < 64 ⌝ }
+    ensures { λ r. ⌜ r ≡ nodeAt (now (cells .entry)) k ⌝ }
+{
+    let first = 5 * k;
+    Node {
+        kind: cells[first],
+        left: cells[first + 1] as usize,
+        right: cells[first + 2] as usize,
+        lo: cells[first + 3],
+        hi: cells[first + 4],
+    }
+}
+
+// The table of the first `count` nodes.
+pub fn table_from(cells: &[u64; CELLS], count: usize) -> Table
+    requires { ⌜ count ≤ 64 ⌝ }
+    ensures { λ r. ⌜ r ≡ tableFrom (now (cells .entry)) count ⌝ }
+{
+    let mut table = empty_table();
+    for k in 0..count {
+        table.nodes[k] = node_at(cells, k);
+    }
+    table.count = count;
+    table
+}
+
+// True, or a predicate with 0 to 15.
+pub fn read_leaf(s: &[u8], at: usize, free: usize, cells: &mut [u64; CELLS]) -> Step
+    ensures { λ r. ⌜ Done free (leafAt (now (s .entry)) at) r (now (cells .entry)) (now (cells .exit)) ⌝ }
+{
+    if let Mark::Next(next) = operators::read_letter(s, at, operators::TRUE) {
+        let x = Node {
+            kind: operators::TRUE,
+            left: 0,
+            right: 0,
+            lo: 0,
+            hi: 0,
+        };
+        return push(next, free, x, cells);
+    }
+    let Field::Number(value, next) = text::read_field(s, at, b"p", 15) else {
+        return Step::Refused;
+    };
+    let x = Node {
+        kind: operators::PREDICATE,
+        left: value as usize,
+        right: 0,
+        lo: 0,
+        hi: 0,
+    };
+    push(next, free, x, cells)
+}

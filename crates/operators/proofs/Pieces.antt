@@ -1,0 +1,23 @@
+-- The pieces that hold no other requirement: a letter is a part of the table of letters, and two kinds tried in turn are the list of both.
+-- Assumes nothing.
+use mathlib.Core.Path.{_≡_, refl, sym, ap, _∙_}
+use mathlib.Core.List.{List, [], _∷_}
+use Prim.Native.Nat.{ℕ, zero, suc, _+_, _-_, _<_}
+use native.Mathlib.Omega.{arith}
+use lib.ListN.{length, getD, take, drop}
+use lib.Seq.{drop-cons}
+use Rattle.grammar.specs.declared.Operator.{Operator}
+use Rattle.grammar.specs.declared.Operator.the-variants.{Absent, Over, Bad}
+use Rattle.grammar.specs.Reading.{timedAt, timedAmong, orElse}
+
+pub take-one : (l : List ℕ) (k : ℕ) → k < length l → take (k + 1 - k) (drop k l) ≡ getD l k 0 ∷ []
+take-one l k h = let e : k + 1 - k ≡ suc zero = omega arith in rw (e, drop-cons l k 0)
+
+or-absent : (x : Operator) → orElse x Absent ≡ x
+or-absent Absent = refl
+or-absent (Over k r n) = refl
+or-absent Bad = refl
+
+pub two-kinds : (j k : ℕ) (s : List ℕ) (at : ℕ) → orElse (timedAt j s at) (timedAt k s at) ≡ timedAmong (j ∷ k ∷ []) s at
+unfolding timedAmong
+two-kinds j k s at = ap (orElse (timedAt j s at)) (sym (or-absent (timedAt k s at)))

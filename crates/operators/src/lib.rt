@@ -1,0 +1,120 @@
+// The pieces of a requirement text that hold no other requirement: letters, windows, operators and leaves.
+use grammar::Operator;
+use grammar::Span;
+use grammar::Window;
+use text::Field;
+use text::Mark;
+ghost use mathlib.Core.Path.{_≡_};
+ghost use Prim.Native.Nat.{_<_};
+ghost use mathlib.Core.List.{[], _∷_};
+ghost use lib.ListN.{length, getD};
+ghost use Rattle.text.specs.Mark.{markAt};
+ghost use Rattle.grammar.specs.Operators.{letters, letter};
+ghost use Rattle.grammar.specs.Reading.{windowAt, overWindow, timedAt, orElse, binderAt, prefixAt};
+
+// The kinds that stand alone in a production; kinds with a window have their numbers where they are read.
+pub const TRUE: u64 = 0;
+
+pub const PREDICATE: u64 = 1;
+
+pub const NOT: u64 = 2;
+
+pub const AND: u64 = 3;
+
+pub const OR: u64 = 4;
+
+fn read_among(s: &[u8], at: usize, letters: &[u8], kind: u64) -> Mark
+    requires { ⌜ kind < length (now letters) ⌝ }
+    ensures { λ r. ⌜ r ≡ markAt (getD (now (letters .entry)) kind 0 ∷ []) (now (s .entry)) at ⌝ }
+{
+    let from = kind as usize;
+    let to = from + 1;
+    text::read_mark(s, at, &letters[from..to])
+}
+
+// The letter of a kind, which stands at the kind's place of the one table of letters.
+pub fn read_letter(s: &[u8], at: usize, kind: u64) -> Mark
+    requires { ⌜ kind < length letters ⌝ }
+    ensures { λ r. ⌜ r ≡ markAt (letter kind) (now (s .entry)) at ⌝ }
+{
+    read_among(s, at, b"Tp!&|URFG", kind)
+}
+
+// A window, `[lo,hi]` or `[lo,*]`.
+fn read_window(s: &[u8], at: usize) -> Window
+    ensures { λ r. ⌜ r ≡ windowAt (now (s .entry)) at ⌝ }
+{
+    let Field::Number(lo, comma) = text::read_field(s, at, b"[", 1_000_000_000) else {
+        return Window::Bad;
+    };
+    let Mark::Next(end) = text::read_mark(s, comma, b",") else {
+        return Window::Bad;
+    };
+    if let Mark::Next(past) = text::read_mark(s, end, b"*]") {
+        return Window::Ends(
+            Span {
+                lo: lo,
+                hi: 4_294_967_295,
+            },
+            past,
+        );
+    }
+    let Field::Number(hi, close) = text::read_number(s, end, 1_000_000_000) else {
+        return Window::Bad;
+    };
+    let Mark::Next(next) = text::read_mark(s, close, b"]") else {
+        return Window::Bad;
+    };
+    if hi < lo {
+        return Window::Bad;
+    }
+    Window::Ends(Span { lo: lo, hi: hi }, next)
+}
+
+fn over(kind: u64, w: Window) -> Operator
+    ensures { λ r. ⌜ r ≡ overWindow kind w ⌝ }
+{
+    match w {
+        Window::Ends(span, next) => Operator::Over(kind, span, next),
+        Window::Bad => Operator::Bad,
+    }
+}
+
+// The letter of a kind and its window.
+fn read_timed(s: &[u8], at: usize, kind: u64) -> Operator
+    requires { ⌜ kind < length letters ⌝ }
+    ensures { λ r. ⌜ r ≡ timedAt kind (now (s .entry)) at ⌝ }
+{
+    let Mark::Next(next) = read_letter(s, at, kind) else {
+        return Operator::Absent;
+    };
+    over(kind, read_window(s, next))
+}
+
+// The first operator, or the second where that is absent.
+fn or_else(first: Operator, second: Operator) -> Operator
+    ensures { λ r. ⌜ r ≡ orElse first second ⌝ }
+{
+    match first {
+        Operator::Absent => second,
+        Operator::Over(kind, span, next) => Operator::Over(kind, span, next),
+        Operator::Bad => Operator::Bad,
+    }
+}
+
+// What binds a unary to the one before it: until or release.
+pub fn read_binder(s: &[u8], at: usize) -> Operator
+    ensures { λ r. ⌜ r ≡ binderAt (now (s .entry)) at ⌝ }
+{
+    or_else(read_timed(s, at, 5), read_timed(s, at, 6))
+}
+
+// What a unary begins with, where it is an operator: not, eventually or always.
+pub fn read_prefix(s: &[u8], at: usize) -> Operator
+    ensures { λ r. ⌜ r ≡ prefixAt (now (s .entry)) at ⌝ }
+{
+    if let Mark::Next(next) = read_letter(s, at, NOT) {
+        return Operator::Over(NOT, Span { lo: 0, hi: 0 }, next);
+    }
+    or_else(read_timed(s, at, 7), read_timed(s, at, 8))
+}

@@ -1,0 +1,66 @@
+-- The form of a sheet's predicate lines: `p= ch= lo= hi=`, in any order, each number once, perhaps none.
+-- Assumes nothing.
+use Prim.Native.Nat.{ℕ, _≤_}
+use mathlib.Core.Path.{_≡_}
+use mathlib.Core.Bool.{Bool, true, false}
+use mathlib.Core.List.{List, [], _∷_, _++_}
+use lib.ListN.{getD, set, replicate}
+use lib.IntN.{ℤ}
+use Rattle.text.specs.Bytes.{bytes}
+use Rattle.text.specs.Number.{largest}
+use Rattle.text.specs.Numeral.{Numeral}
+use Rattle.row_lines.specs.Form.{Signed}
+use Rattle.recordings.specs.declared.Predicate.{Predicate}
+use Rattle.recordings.specs.declared.Range.{Range}
+use Rattle.recordings.specs.declared.Range.the-variants.{Unset, Free, AtLeast, AtMost, Between}
+use Rattle.predicate_lines.specs.declared.Bound.{Bound}
+use Rattle.predicate_lines.specs.declared.Bound.the-variants.{Missing, At}
+
+-- the bytes of an end: `*` for a missing one
+pub data End : List ℕ → Bound → Type 0 where
+  star : End (bytes "*") Missing
+  number : {w : List ℕ} {v : ℤ} → Signed w v → End w (At v)
+
+-- the range that two ends make; without an end it is free
+abbrev pub rangeOf : Bound → Bound → Range
+rangeOf Missing Missing = Free
+rangeOf (At lo) Missing = AtLeast lo
+rangeOf Missing (At hi) = AtMost hi
+rangeOf (At lo) (At hi) = Between lo hi
+
+-- a predicate's line: its number is 0 to 15
+pub record Line (line : List ℕ) (number : ℕ) (predicate : Predicate) : Type 0 where
+  pub p : List ℕ
+  pub ch : List ℕ
+  pub lo : List ℕ
+  pub hi : List ℕ
+  pub named : Numeral p number
+  pub known : number ≤ 15
+  pub channel : Numeral ch (predicate .channel)
+  pub bound : predicate .channel ≤ largest
+  pub low : Bound
+  pub high : Bound
+  pub from : End lo low
+  pub to : End hi high
+  pub range : predicate .range ≡ rangeOf low high
+  pub written : line ≡ bytes "p=" ++ p ++ bytes " ch=" ++ ch ++ bytes " lo=" ++ lo ++ bytes " hi=" ++ hi ++ bytes "\n"
+
+abbrev pub none : Predicate
+none = record { channel = 0; range = Unset }
+
+-- sixteen predicates, none of them set
+abbrev pub unset : List Predicate
+unset = replicate 16 none
+
+abbrev pub isUnset : Range → Bool
+isUnset Unset = true
+isUnset Free = false
+isUnset (AtLeast lo) = false
+isUnset (AtMost hi) = false
+isUnset (Between lo hi) = false
+
+-- lines that set predicates, one after the other: each number once
+pub data Lines : List Predicate → List (List ℕ) → List Predicate → Type 0 where
+  over : {ps : List Predicate} → Lines ps [] ps
+  more : {l : List ℕ} {ls : List (List ℕ)} {ps qs : List Predicate} {number : ℕ} {predicate : Predicate}
+      → Line l number predicate → isUnset (getD ps number none .range) ≡ true → Lines (set ps number predicate) ls qs → Lines ps (l ∷ ls) qs

@@ -1,0 +1,189 @@
+// Reads the predicate lines of a sheet's head, `p= ch= lo= hi=`: in any order, each number once, perhaps none.
+use recordings::Predicate;
+use recordings::Range;
+use text::Field;
+use text::Mark;
+use text::signed;
+ghost use mathlib.Core.Path.{_≡_};
+ghost use Prim.Native.Nat.{_<_};
+ghost use Rattle.text.specs.Bytes.{bytes};
+ghost use Rattle.text.specs.Mark.{keyAt};
+ghost use Rattle.predicate_lines.specs.Form.{rangeOf, isUnset, unset};
+ghost use Rattle.predicate_lines.specs.Lines.{endAt, lineAt, brokenSet, storedIn, withLine, linesFrom, linesAt};
+
+// An end of a range; a missing one is written `*`.
+pub enum Bound {
+    Missing,
+    At(i64),
+}
+
+// An end and the place after it.
+pub enum End {
+    Read(Bound, usize),
+    Bad,
+}
+
+// A predicate's number, the predicate and the place of the next line.
+pub enum Line {
+    Set(usize, Predicate, usize),
+    Bad,
+}
+
+// The predicates of the lines before a place. Where a line was refused, ok is false and nothing is set.
+pub struct Predicates {
+    pub ok: bool,
+    pub next: usize,
+    pub all: [Predicate; 16],
+}
+
+fn read_end(s: &[u8], at: usize, key: &[u8]) -> End
+    ensures { λ r. ⌜ r ≡ endAt (now (key .entry)) (now (s .entry)) at ⌝ }
+{
+    let Mark::Next(start) = text::read_mark(s, at, key) else {
+        return End::Bad;
+    };
+    if let Mark::Next(after) = text::read_mark(s, start, b"*") {
+        return End::Read(Bound::Missing, after);
+    }
+    let signed::Field::Number(value, next) = signed::read_number(s, start) else {
+        return End::Bad;
+    };
+    End::Read(Bound::At(value), next)
+}
+
+fn range_of(lo: Bound, hi: Bound) -> Range
+    ensures { λ r. ⌜ r ≡ rangeOf lo hi ⌝ }
+{
+    match lo {
+        Bound::Missing => match hi {
+            Bound::Missing => Range::Free,
+            Bound::At(high) => Range::AtMost(high),
+        },
+        Bound::At(low) => match hi {
+            Bound::Missing => Range::AtLeast(low),
+            Bound::At(high) => Range::Between(low, high),
+        },
+    }
+}
+
+// The predicate line at a place.
+fn read_line(s: &[u8], at: usize) -> Line
+    ensures { λ r. ⌜ r ≡ lineAt (now (s .entry)) at ⌝ }
+{
+    let Field::Number(number, a) = text::read_field(s, at, b"p=", 15) else {
+        return Line::Bad;
+    };
+    let Field::Number(channel, b) = text::read_field(s, a, b" ch=", text::LARGEST) else {
+        return Line::Bad;
+    };
+    let End::Read(lo, c) = read_end(s, b, b" lo=") else {
+        return Line::Bad;
+    };
+    let End::Read(hi, d) = read_end(s, c, b" hi=") else {
+        return Line::Bad;
+    };
+    let Mark::Next(next) = text::read_mark(s, d, b"\n") else {
+        return Line::Bad;
+    };
+    let predicate = Predicate {
+        channel: channel as usize,
+        range: range_of(lo, hi),
+    };
+    Line::Set(number as usize, predicate, next)
+}
+
+fn is_unset(range: Range) -> bool
+    ensures { λ r. ⌜ r ≡ isUnset range ⌝ }
+{
+    match range {
+        Range::Unset => true,
+        Range::Free => false,
+        Range::AtLeast(_) => false,
+        Range::AtMost(_) => false,
+        Range::Between(_, _) => false,
+    }
+}
+
+// No predicate set.
+pub fn unset_predicates() -> [Predicate; 16]
+    ensures { λ r. ⌜ r ≡ unset ⌝ }
+{
+    let none = Predicate {
+        channel: 0,
+        range: Range::Unset,
+    };
+    [none; 16]
+}
+
+fn broken() -> Predicates
+    ensures { λ r. ⌜ r ≡ brokenSet ⌝ }
+{
+    let all = unset_predicates();
+    Predicates {
+        ok: false,
+        next: 0,
+        all: all,
+    }
+}
+
+// One predicate more, where its number is not set yet.
+fn store(ps: Predicates, number: usize, predicate: Predicate, next: usize) -> Predicates
+    requires { ⌜ number < 16 ⌝ }
+    ensures { λ r. ⌜ r ≡ storedIn ps number predicate next ⌝ }
+{
+    let old = ps.all[number];
+    let range = old.range;
+    if !is_unset(range) {
+        return broken();
+    }
+    let mut all = ps.all;
+    all[number] = predicate;
+    Predicates {
+        ok: true,
+        next: next,
+        all: all,
+    }
+}
+
+// The predicates with those of the next line.
+fn with_line(s: &[u8], ps: Predicates) -> Predicates
+    ensures { λ r. ⌜ r ≡ withLine (now (s .entry)) ps ⌝ }
+{
+    let at = ps.next;
+    let Line::Set(number, predicate, next) = read_line(s, at) else {
+        return broken();
+    };
+    store(ps, number, predicate, next)
+}
+
+// Whether a predicate line is due at a place.
+fn is_due(s: &[u8], at: usize) -> bool
+    ensures { λ r. ⌜ r ≡ keyAt (bytes "p=") (now (s .entry)) at ⌝ }
+{
+    text::key_at(s, at, b"p=")
+}
+
+// The predicates of the lines from a place on, of which there are at most sixteen.
+pub fn read_predicates(s: &[u8], at: usize) -> Predicates
+    ensures { λ r. ⌜ r ≡ linesAt (now (s .entry)) at ⌝ }
+{
+    let none = unset_predicates();
+    let mut ps = Predicates {
+        ok: true,
+        next: at,
+        all: none,
+    };
+    let mut turn: usize = 0;
+    while turn < 16 {
+        let next = ps.next;
+        if !is_due(s, next) {
+            return ps;
+        }
+        ps = with_line(s, ps);
+        if !ps.ok {
+            return ps;
+        }
+        turn += 1;
+    }
+    ps
+}

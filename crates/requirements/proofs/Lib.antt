@@ -1,0 +1,5 @@
+pub mod Readers
+pub mod Wholes
+pub mod Answers
+pub mod Rules
+pub mod Examples

@@ -1,0 +1,94 @@
+-- Worked texts: what document 01's grammar says of each, written out by hand.
+use Prim.Native.Nat.{ℕ, zero, suc}
+use Prim.Native.String.{String}
+use mathlib.Core.List.{List, [], _∷_, _++_}
+use Rattle.text.specs.Bytes.{bytes}
+use Rattle.grammar.specs.Operators.{notKind, andKind, orKind}
+use Rattle.grammar.specs.Tree.{Tree, truth, predicate, one, two, span, noSpan, noEnd}
+use Rattle.requirements.specs.declared.Requirement.{Requirement}
+use Rattle.requirements.specs.Requirement.{accepted, refused}
+
+pub record Example : Type 0 where
+  pub text : List ℕ
+  pub answer : Requirement
+
+abbrev pub says : List ℕ → Tree → Example
+says t a = record { text = t; answer = accepted a }
+
+abbrev pub isNone : List ℕ → Example
+isNone t = record { text = t; answer = refused }
+
+-- a text n times
+abbrev pub times : ℕ → String → List ℕ
+times zero t = []
+times (suc n) t = bytes t ++ times n t
+
+-- trees by the operators' names
+abbrev pub p : ℕ → Tree
+p n = predicate n
+
+abbrev pub no : Tree → Tree
+no a = one notKind noSpan a
+
+abbrev pub and : Tree → Tree → Tree
+and a b = two andKind noSpan a b
+
+abbrev pub or : Tree → Tree → Tree
+or a b = two orKind noSpan a b
+
+abbrev pub until : ℕ → ℕ → Tree → Tree → Tree
+until lo hi a b = two 5 (span lo hi) a b
+
+abbrev pub release : ℕ → ℕ → Tree → Tree → Tree
+release lo hi a b = two 6 (span lo hi) a b
+
+abbrev pub eventually : ℕ → ℕ → Tree → Tree
+eventually lo hi a = one 7 (span lo hi) a
+
+abbrev pub always : ℕ → ℕ → Tree → Tree
+always lo hi a = one 8 (span lo hi) a
+
+-- a tree under n times `not`, and n times `and T` after it
+abbrev pub nots : ℕ → Tree → Tree
+nots zero a = a
+nots (suc n) a = no (nots n a)
+
+abbrev pub ands : ℕ → Tree → Tree
+ands zero a = a
+ands (suc n) a = ands n (and a truth)
+
+abbrev pub examples : List Example
+examples =
+    -- `&` before `|`, U and R before `&`, and one unary before each of them
+    says (bytes "p0|p1&p2") (or (p 0) (and (p 1) (p 2)))
+    ∷ says (bytes "p0&p1U[0,1]p2") (and (p 0) (until 0 1 (p 1) (p 2)))
+    ∷ says (bytes "!p0U[0,1]p1") (until 0 1 (no (p 0)) (p 1))
+    ∷ says (bytes "G[0,1]p0R[2,*]p1") (release 2 noEnd (always 0 1 (p 0)) (p 1))
+    -- grouped to the left, unless parentheses say otherwise; a bind is not repeated
+    ∷ says (bytes "p0|p1|p2") (or (or (p 0) (p 1)) (p 2))
+    ∷ says (bytes "p0&(p1&p2)") (and (p 0) (and (p 1) (p 2)))
+    ∷ isNone (bytes "p0U[0,1]p1U[0,1]p2")
+    ∷ says (bytes "p0U[0,1](p1U[0,1]p2)") (until 0 1 (p 0) (until 0 1 (p 1) (p 2)))
+    -- numbers
+    ∷ says (bytes "F[0,1000000000]p15") (eventually 0 1_000_000_000 (p 15))
+    ∷ isNone (bytes "p16")
+    ∷ isNone (bytes "p01")
+    ∷ isNone (bytes "G[0,4294967295]p0")
+    ∷ isNone (bytes "G[0,1000000001]p0")
+    ∷ isNone (bytes "G[5,2]p0")
+    -- nothing else may stand there
+    ∷ isNone []
+    ∷ isNone (bytes "p0 ")
+    ∷ isNone (bytes "\0")
+    ∷ isNone (255 ∷ [])
+    ∷ isNone (bytes "(p0")
+    ∷ isNone (bytes "p0|")
+    -- 32 enclosings and 33, of both sorts
+    ∷ says (times 32 "(" ++ (bytes "T" ++ times 32 ")")) truth
+    ∷ isNone (times 33 "(" ++ (bytes "T" ++ times 33 ")"))
+    ∷ says (times 32 "!" ++ bytes "T") (nots 32 truth)
+    ∷ isNone (times 33 "!" ++ bytes "T")
+    -- 64 nodes and 65
+    ∷ says (bytes "!T" ++ times 31 "&T") (ands 31 (no truth))
+    ∷ isNone (bytes "!!T" ++ times 31 "&T")
+    ∷ []

@@ -1,0 +1,2 @@
+pub mod Requirement
+pub mod Examples

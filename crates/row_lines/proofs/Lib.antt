@@ -1,0 +1,7 @@
+-- What is read is what is written (`Fields`, `Written`, `Lines`, `Exact`), and the loops of the code (`Steps`, `Counting`).
+pub mod Fields
+pub mod Written
+pub mod Lines
+pub mod Exact
+pub mod Steps
+pub mod Counting

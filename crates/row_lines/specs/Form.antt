@@ -1,0 +1,65 @@
+-- The form of a sheet's rows, in the order of document 01: lines, signed numbers, the fields of a row, a row, rows.
+-- Assumes nothing.
+use Prim.Native.Nat.{ℕ, suc, _+_, _≤_, _<_}
+use mathlib.Core.Path.{_≡_}
+use mathlib.Core.Bool.{Bool, true, false}
+use mathlib.Core.List.{List, [], _∷_, _++_}
+use lib.ListN.{length}
+use lib.IntN.{ℤ, pos, negℤ}
+use lib.Dec.{eqb}
+use Rattle.text.specs.Bytes.{bytes}
+use Rattle.text.specs.Number.{largest, largestSigned}
+use Rattle.text.specs.Numeral.{Numeral}
+
+-- a text cut after each line feed; what follows the last one is a line too, which no form has
+abbrev pub cut : ℕ → Bool → List (List ℕ) → List (List ℕ)
+cut b true ls = (b ∷ []) ∷ ls
+cut b false [] = (b ∷ []) ∷ []
+cut b false (l ∷ ls) = (b ∷ l) ∷ ls
+
+unfoldable pub lines : List ℕ → List (List ℕ)
+lines [] = []
+lines (b ∷ s) = cut b (eqb b 10) (lines s)
+
+-- how many bytes lines have together
+unfoldable pub size : List (List ℕ) → ℕ
+size [] = 0
+size (l ∷ ls) = length l + size ls
+
+-- the bytes of a signed number: `-` before it or not, and no `-0`
+pub data Signed : List ℕ → ℤ → Type 0 where
+  plain : {w : List ℕ} {v : ℕ} → Numeral w v → v ≤ largestSigned → Signed w (pos v)
+  minus : {w : List ℕ} {v : ℕ} → Numeral w v → 0 < v → v ≤ largestSigned → Signed (bytes "-" ++ w) (negℤ (pos v))
+
+-- the fields ` v0=`, ` v1=` and so on: of k channels, from channel c on
+pub data Values : ℕ → ℕ → List ℕ → List ℤ → Type 0 where
+  none : {c : ℕ} → Values c 0 [] []
+  next : {c k : ℕ} {n w ws : List ℕ} {v : ℤ} {vs : List ℤ} → c ≤ largest → Numeral n c → Signed w v → Values (c + 1) k ws vs
+      → Values c (suc k) (bytes " v" ++ n ++ bytes "=" ++ w ++ ws) (v ∷ vs)
+
+-- `src` is `m` (measured) or `f` (filled)
+abbrev pub source : Bool → List ℕ
+source true = bytes "m"
+source false = bytes "f"
+
+-- a row's line: `t= src= v0= v1=` and so on, with exactly the v fields of the channels
+pub record Row (channels : ℕ) (line : List ℕ) (measured : Bool) (time : ℕ) (values : List ℤ) : Type 0 where
+  pub digits : List ℕ
+  pub fields : List ℕ
+  pub numeral : Numeral digits time
+  pub bound : time ≤ largest
+  pub valued : Values 0 channels fields values
+  pub written : line ≡ bytes "t=" ++ digits ++ bytes " src=" ++ source measured ++ fields ++ bytes "\n"
+
+-- a measured row
+pub record Sample : Type 0 where
+  pub time : ℕ
+  pub values : List ℤ
+
+-- lines that are rows: the measured ones in sheet order, and the count of the filled ones, of which nothing else is kept
+pub data Rows (channels : ℕ) : List (List ℕ) → List Sample → ℕ → Type 0 where
+  none : Rows channels [] [] 0
+  measured : {l : List ℕ} {ls : List (List ℕ)} {t : ℕ} {vs : List ℤ} {samples : List Sample} {filled : ℕ}
+      → Row channels l true t vs → Rows channels ls samples filled → Rows channels (l ∷ ls) (record { time = t; values = vs } ∷ samples) filled
+  filled : {l : List ℕ} {ls : List (List ℕ)} {t : ℕ} {vs : List ℤ} {samples : List Sample} {filled : ℕ}
+      → Row channels l false t vs → Rows channels ls samples filled → Rows channels (l ∷ ls) samples (suc filled)

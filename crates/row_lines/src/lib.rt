@@ -1,0 +1,118 @@
+// Reads the line of a row, `t= src= v0= v1=` and so on, and counts the rows of a text. Nothing is stored here.
+use text::Field;
+use text::Mark;
+use text::signed;
+ghost use mathlib.Core.Path.{_≡_};
+ghost use Rattle.row_lines.specs.Rows.{channelsInRange, valueAt, valuesFrom, endOf, restAt, rowAt, rowsOf, counts};
+
+// The longest text that is read.
+pub const LIMIT: usize = 65_536;
+
+// A row's line: of a measured row its time, the place of its values and that of the next line; of a filled row that of the next line alone.
+pub enum Row {
+    Measured(u64, usize, usize),
+    Filled(usize),
+    Bad,
+}
+
+// How many rows are measured and how many are filled, where every line has the form.
+pub enum Counts {
+    Rows(usize, usize),
+    Bad,
+}
+
+// Whether a sheet's channel count is one that a recording can have. Rows are read only then.
+pub fn channels_in_range(channels: usize) -> bool
+    ensures { λ r. ⌜ r ≡ channelsInRange channels ⌝ }
+{
+    if channels < 1 { false } else { channels <= 8 }
+}
+
+// The value of a channel: ` v`, the channel's number, `=` and a signed number.
+pub fn read_value(s: &[u8], at: usize, channel: usize) -> signed::Field
+    ensures { λ r. ⌜ r ≡ valueAt (now (s .entry)) at channel ⌝ }
+{
+    let Field::Number(number, next) = text::read_field(s, at, b" v", text::LARGEST) else {
+        return signed::Field::Bad;
+    };
+    if number as usize != channel {
+        return signed::Field::Bad;
+    }
+    signed::read_field(s, next, b"=")
+}
+
+// The place after the values of all channels.
+fn read_values(s: &[u8], at: usize, channels: usize) -> Mark
+    ensures { λ r. ⌜ r ≡ endOf (valuesFrom channels 0 (now (s .entry)) at) ⌝ }
+{
+    let mut next = at;
+    let mut channel: usize = 0;
+    while channel < channels {
+        let signed::Field::Number(_, end) = read_value(s, next, channel) else {
+            return Mark::Bad;
+        };
+        next = end;
+        channel += 1;
+    }
+    Mark::Next(next)
+}
+
+// The place after a row's values and its line feed.
+fn read_rest(s: &[u8], at: usize, channels: usize) -> Mark
+    ensures { λ r. ⌜ r ≡ restAt (now (s .entry)) at channels ⌝ }
+{
+    let Mark::Next(end) = read_values(s, at, channels) else {
+        return Mark::Bad;
+    };
+    text::read_mark(s, end, b"\n")
+}
+
+// The row whose line begins at a place.
+pub fn read_row(s: &[u8], at: usize, channels: usize) -> Row
+    ensures { λ r. ⌜ r ≡ rowAt (now (s .entry)) at channels ⌝ }
+{
+    let Field::Number(time, end) = text::read_field(s, at, b"t=", text::LARGEST) else {
+        return Row::Bad;
+    };
+    let Mark::Next(source) = text::read_mark(s, end, b" src=") else {
+        return Row::Bad;
+    };
+    if let Mark::Next(values) = text::read_mark(s, source, b"m") {
+        let Mark::Next(next) = read_rest(s, values, channels) else {
+            return Row::Bad;
+        };
+        return Row::Measured(time, values, next);
+    }
+    let Mark::Next(values) = text::read_mark(s, source, b"f") else {
+        return Row::Bad;
+    };
+    let Mark::Next(skipped) = read_rest(s, values, channels) else {
+        return Row::Bad;
+    };
+    Row::Filled(skipped)
+}
+
+// The counts of the rows of a text, all of which is read.
+pub fn count_rows(s: &[u8], channels: usize) -> Counts
+    ensures { λ r. ⌜ r ≡ counts (rowsOf channels (now (s .entry))) ⌝ }
+{
+    let mut at: usize = 0;
+    let mut rows: usize = 0;
+    let mut filled: usize = 0;
+    while at < s.len() {
+        match read_row(s, at, channels) {
+            Row::Measured(_, _, next) => {
+                rows += 1;
+                at = next;
+            }
+            Row::Filled(next) => {
+                filled += 1;
+                at = next;
+            }
+            Row::Bad => {
+                return Counts::Bad;
+            }
+        }
+    }
+    Counts::Rows(rows, filled)
+}

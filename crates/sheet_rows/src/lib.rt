@@ -1,0 +1,112 @@
+// The row reader: the measured rows of a sheet's part behind its head, into lent slices. It checks and counts the whole part first and stores only what fits, so that
+// nothing is stored under a refusal.
+use row_lines::Counts;
+use row_lines::Row;
+use text::signed;
+ghost use mathlib.Core.Path.{_≡_};
+ghost use Prim.Native.Nat.{_≤_};
+ghost use lib.ListN.{length};
+ghost use lib.Seq.{sets};
+ghost use Rattle.row_lines.specs.Rows.{valuesFrom, allOf, rowsOf};
+ghost use Rattle.sheet_rows.specs.Answer.{tooMany, none, answerOf, timesOf, valuesOf, inFront, after};
+ghost use Rattle.sheet_rows.specs.Room.{Storable, Fitting};
+
+// Document 01's number, 0 where no refusal applies, and the counts of measured and of filled rows.
+pub struct Answer {
+    pub number: u64,
+    pub rows: usize,
+    pub filled: usize,
+}
+
+fn refused(number: u64) -> Answer
+    ensures { λ r. ⌜ r ≡ none number ⌝ }
+{
+    Answer {
+        number: number,
+        rows: 0,
+        filled: 0,
+    }
+}
+
+// Whether measured rows are too many for a recording or for the slices.
+fn too_many(rows: usize, channels: usize, times: usize, values: usize) -> bool
+    requires { ⌜ channels ≤ 8 ⌝ }
+    ensures { λ r. ⌜ r ≡ tooMany rows channels times values ⌝ }
+{
+    if 4_096 < rows {
+        return true;
+    }
+    if times < rows {
+        return true;
+    }
+    values < rows * channels
+}
+
+// Stores the values of a measured row from a place of the slice on.
+fn store_values(s: &[u8], at: usize, channels: usize, values: &mut [i64], place: usize)
+    requires { ⌜ Storable (now s) at channels place (length (now values)) ⌝ }
+    ensures { λ _. ⌜ now (values .exit) ≡ sets (now (values .entry)) place (allOf (valuesFrom channels 0 (now (s .entry)) at)) ⌝ }
+{
+    let mut next = at;
+    let mut channel: usize = 0;
+    while channel < channels {
+        let signed::Field::Number(value, end) = row_lines::read_value(s, next, channel) else {
+            return;
+        };
+        values[place + channel] = value;
+        next = end;
+        channel += 1;
+    }
+}
+
+// Stores the measured rows of a text that was counted and fits, in sheet order.
+fn store_rows(s: &[u8], channels: usize, times: &mut [u64], values: &mut [i64])
+    requires { ⌜ Fitting (now s) channels (length (now times)) (length (now values)) ⌝ }
+    ensures times { λ _. ⌜ now (times .exit) ≡ inFront (timesOf (rowsOf channels (now (s .entry)))) (now (times .entry)) ⌝ }
+    ensures values { λ _. ⌜ now (values .exit) ≡ inFront (valuesOf (rowsOf channels (now (s .entry)))) (now (values .entry)) ⌝ }
+{
+    let mut at: usize = 0;
+    let mut rows: usize = 0;
+    while at < s.len() {
+        match row_lines::read_row(s, at, channels) {
+            Row::Measured(time, fields, next) => {
+                times[rows] = time;
+                store_values(s, fields, channels, values, rows * channels);
+                rows += 1;
+                at = next;
+            }
+            Row::Filled(next) => {
+                at = next;
+            }
+            Row::Bad => {
+                return;
+            }
+        }
+    }
+}
+
+// Reads the rows of a text, all of it. Times and values are stored from the slices' front on; places beyond the measured rows keep their contents.
+pub fn read_rows(s: &[u8], channels: usize, times: &mut [u64], values: &mut [i64]) -> Answer
+    ensures answer { λ r. ⌜ r ≡ answerOf (now (s .entry)) channels (length (now (times .entry))) (length (now (values .entry))) ⌝ }
+    ensures times { λ r. ⌜ now (times .exit) ≡ after (r .number) (timesOf (rowsOf channels (now (s .entry)))) (now (times .entry)) ⌝ }
+    ensures values { λ r. ⌜ now (values .exit) ≡ after (r .number) (valuesOf (rowsOf channels (now (s .entry)))) (now (values .entry)) ⌝ }
+{
+    if row_lines::LIMIT < s.len() {
+        return refused(1);
+    }
+    if !row_lines::channels_in_range(channels) {
+        return refused(4);
+    }
+    let Counts::Rows(rows, filled) = row_lines::count_rows(s, channels) else {
+        return refused(1);
+    };
+    if too_many(rows, channels, times.len(), values.len()) {
+        return refused(5);
+    }
+    store_rows(s, channels, times, values);
+    Answer {
+        number: 0,
+        rows: rows,
+        filled: filled,
+    }
+}

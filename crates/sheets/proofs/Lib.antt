@@ -1,0 +1,4 @@
+pub mod Steps
+pub mod Written
+pub mod Chain
+pub mod Exact

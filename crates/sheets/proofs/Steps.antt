@@ -1,0 +1,52 @@
+-- The search for a line feed, the test of the rows, and where a read line ends.
+-- Assumes nothing.
+use mathlib.Core.Path.{_≡_, refl}
+use mathlib.Core.List.{List}
+use mathlib.Core.Bool.{true, false}
+use Prim.Native.Nat.{ℕ, suc, _+_, _-_, _≤_, _<_}
+use native.Mathlib.Numerals.{add-one}
+use native.Mathlib.Omega.{arith}
+use lib.ListN.{length, getD, take, drop, drop-of-length-le, length-drop}
+use lib.Seq.{take-all, drop-cons}
+use borrow.Author.Tests.{eq-eqb, ne-eqb}
+use Rattle.row_lines.specs.declared.Counts.the-variants.{Rows as Counts·Rows, Bad as Counts·Bad}
+use Rattle.row_lines.specs.Rows.{channelsInRange, Listing, listed, broken, isBroken, rowsOf, counts}
+use Rattle.sheets.specs.Sheets.{untilFeed, rowsKept}
+
+-- ---- the search for a line feed
+module _ (s : List ℕ) (at : ℕ) where
+  pub feed-over : length s ≤ at → length (untilFeed (drop at s)) ≡ 0
+  unfolding untilFeed
+  feed-over l = rw (drop-of-length-le s l)
+
+  module _ (l : at < length s) where
+    pub feed-here : getD s at 0 ≡ 10 → length (untilFeed (drop at s)) ≡ 0
+    unfolding untilFeed
+    feed-here h = rw (drop-cons s at 0, eq-eqb _ _ h)
+
+    pub feed-next : (getD s at 0 ≡ 10 → ⊥) → length (untilFeed (drop at s)) ≡ suc (length (untilFeed (drop (at + 1) s)))
+    unfolding untilFeed
+    feed-next h = rw (add-one, drop-cons s at 0, ne-eqb _ _ h)
+
+-- ---- the rows behind the head
+whole : (s : List ℕ) (at : ℕ) → take (length s - at) (drop at s) ≡ drop at s
+whole s at = take-all (length s - at) (drop at s) (rw length-drop (omega arith))
+
+some-counted : (x : Listing) (m k : ℕ) → counts x ≡ Counts·Rows m k → isBroken x ≡ false
+some-counted (listed xs j) m k h = refl
+some-counted broken m k h = let z : _≡_ {A = ℕ} 0 1 = cc in absurd (omega arith)
+
+none-counted : (x : Listing) → counts x ≡ Counts·Bad → isBroken x ≡ true
+none-counted (listed xs k) h = let z : _≡_ {A = ℕ} 0 1 = cc in absurd (omega arith)
+none-counted broken h = refl
+
+module _ (s : List ℕ) (at ch : ℕ) where
+  pub kept-unread : channelsInRange ch ≡ false → true ≡ rowsKept s at ch
+  kept-unread w = rw w
+
+  module _ (w : channelsInRange ch ≡ true) where
+    pub kept-rows : (m k : ℕ) → counts (rowsOf ch (take (length s - at) (drop at s))) ≡ Counts·Rows m k → true ≡ rowsKept s at ch
+    kept-rows m k h = rw (w, some-counted (rowsOf ch (drop at s)) m k (rw whole at h))
+
+    pub kept-broken : counts (rowsOf ch (take (length s - at) (drop at s))) ≡ Counts·Bad → false ≡ rowsKept s at ch
+    kept-broken h = rw (w, none-counted (rowsOf ch (drop at s)) (rw whole at h))

@@ -1,0 +1,183 @@
+-- A line of the head is read exactly where it is written.
+-- Assumes nothing.
+use mathlib.Core.Path.{_≡_, refl, sym, ap, _∙_}
+use mathlib.Core.List.{List, [], _∷_, _++_, append-assoc}
+use mathlib.Core.Bool.{Bool, true, false}
+use Prim.Native.Nat.{ℕ, _+_, _-_, _≤_, _<_}
+use native.Mathlib.Nat.{zero-add}
+use native.Mathlib.Omega.{arith}
+use lib.ListN.{length, drop, length-drop, length-append}
+use lib.Seq.{drop-drop}
+use lib.Dec.{eqb}
+use Rattle.text.specs.Bytes.{bytes}
+use Rattle.text.specs.Mark.{markAt}
+use Rattle.text.specs.Number.{largest, fieldAt}
+use Rattle.text.specs.declared.Mark.the-variants.{Next}
+use Rattle.text.specs.declared.Field.{Field}
+use Rattle.text.specs.declared.Field.the-variants.{Number, Bad as Field·Bad}
+use Rattle.text.proofs.Tests.{by-test}
+use Rattle.text.proofs.Places.{Between, between-both, after-bytes}
+use Rattle.text.proofs.Answers.{mark-is, field-is}
+use Rattle.row_lines.specs.Form.{cut, lines}
+use Rattle.row_lines.proofs.Fields.{mark-case, number-case, mark-taken, field-taken}
+use Rattle.row_lines.proofs.Lines.{lines-split, count, count-append, numeral-count, Fed}
+use Rattle.sheets.specs.declared.Requirement.{Requirement}
+use Rattle.sheets.specs.declared.Requirement.the-variants.{At, Bad}
+use Rattle.sheets.specs.Form.{NumberLine}
+use Rattle.sheets.specs.Sheets.{numberAt, untilFeed, requirementAt}
+
+-- where a line that was read ends
+pub place-of : (s : List ℕ) (at n : ℕ) (l r : List ℕ) → drop at s ≡ l ++ r → drop n s ≡ r → at ≤ length s → n ≤ length s → n ≡ at + length l
+place-of s at n l r e f p q =
+    let a : length s - at ≡ length l + length r = sym (length-drop at s) ∙ (ap length e ∙ length-append l r) in
+    let b : length s - n ≡ length r = sym (length-drop n s) ∙ ap length f in
+    omega arith
+
+-- ---- a key and a number
+
+abbrev NumberHere : List ℕ → List ℕ → ℕ → Field → Type 0
+NumberHere key s at (Number v n) = (l : List ℕ) × Between s at n l × NumberLine key l v
+NumberHere key s at Field·Bad = Unit
+
+number-here : (key s : List ℕ) (at : ℕ) → NumberHere key s at (numberAt key s at)
+unfolding numberAt
+number-here key s at =
+    number-case (NumberHere key s at) (fieldAt key s at largest) _ _
+    (λ v e h. mark-case (NumberHere key s at) (markAt (bytes "\n") s e) _ _
+    (λ n k. let a = field-is key s at largest v e h in (
+      key ++ a .2 .written ++ bytes "\n",
+      between-both (between-both (a .1) (a .2 .between)) (mark-is (bytes "\n") s e n k),
+      record { digits = a .2 .written; numeral = a .2 .numeral; bound = a .2 .bound; written = refl },
+    ))
+    (λ k. tt))
+    (λ h. tt)
+
+pub number-line-is : (key s : List ℕ) (at v n : ℕ) → numberAt key s at ≡ Number v n → (l : List ℕ) × Between s at n l × NumberLine key l v
+number-line-is key s at v n h = rw h at (number-here key s at)
+
+-- the lines from a place on are not empty, so the place is inside
+pub line-inside : (s : List ℕ) (at : ℕ) (l r : List ℕ) → drop at s ≡ l ++ r → 0 < length l → at ≤ length s
+line-inside s at l r e p = let a : length s - at ≡ length l + length r = sym (length-drop at s) ∙ (ap length e ∙ length-append l r) in omega arith
+
+pub number-line-taken : (key s : List ℕ) (at : ℕ) {l : List ℕ} {v : ℕ} (ls : List (List ℕ)) → 0 < length key → NumberLine key l v → lines (drop at s) ≡ l ∷ ls
+    → (n : ℕ) × (numberAt key s at ≡ Number v n) × (lines (drop n s) ≡ ls) × (n ≡ at + length l)
+unfolding numberAt
+number-line-taken key s at {l} {v} ls p f h =
+    let t = lines-split (drop at s) l ls h in
+    let r : List ℕ = t .0 in
+    let g : drop at s ≡ key ++ (f .digits ++ (bytes "\n" ++ r)) = simp append-assoc at (t .1 ∙ ap (λ (x : List ℕ). x ++ r) (f .written)) in
+    let k = field-taken s at (bytes "\n" ++ r) refl key p largest g (f .numeral) (f .bound) (omega arith) in
+    let n = mark-taken s (k .0) r (bytes "\n") (omega arith) (k .2) in
+    let i : n .0 ≤ length s = mark-is (bytes "\n") s (k .0) (n .0) (n .1) .inside in
+    let w : length l ≡ length (key ++ f .digits) + 1 = ap length (f .written) ∙ length-append (key ++ f .digits) (bytes "\n") in
+    (n .0, rw (k .1, n .1), rw (n .2) (t .2), place-of s at (n .0) l r (t .1) (n .2) (line-inside s at l r (t .1) (omega arith)) i)
+
+pub number-line-fed : {key l : List ℕ} {v : ℕ} → count 10 key ≡ 0 → NumberLine key l v → Fed l
+number-line-fed {key} c f =
+    record {
+      body = key ++ f .digits;
+      ends = f .written;
+      clear = count-append 10 key (f .digits) ∙ omega (arith, numeral-count 10 refl (f .numeral));
+    }
+
+-- ---- the requirement
+
+until-split : (s : List ℕ) → s ≡ untilFeed s ++ drop (length (untilFeed s)) s
+unfolding untilFeed
+until-split [] = refl
+until-split (b ∷ s) = by-test (eqb b 10) (λ t. rw t) (λ t. rw (t, ← until-split s))
+
+until-clear : (s : List ℕ) → count 10 (untilFeed s) ≡ 0
+unfolding untilFeed count
+until-clear [] = refl
+until-clear (b ∷ s) = by-test (eqb b 10) (λ t. rw t) (λ t. rw (t, t, until-clear s))
+
+until-feed : (w r : List ℕ) → count 10 w ≡ 0 → untilFeed (w ++ (10 ∷ r)) ≡ w
+unfolding untilFeed count
+until-feed [] r h = refl
+until-feed (b ∷ w) r h = by-test (eqb b 10) (λ t. absurd (full (rw t at h))) (λ t. rw (t, until-feed w r (rw (t, zero-add) at h)))
+  where
+    full : 1 + count 10 w ≡ 0 → ⊥
+    full g = omega arith
+
+pub record RequirementIs (s : List ℕ) (at from to n : ℕ) : Type 0 where
+  pub requirement : List ℕ
+  pub between : Between s at n (bytes "req=" ++ requirement ++ bytes "\n")
+  pub clear : count 10 requirement ≡ 0
+  pub starts : from ≡ at + 4
+  pub ends : to ≡ from + length requirement
+  pub next : n ≡ to + 1
+
+abbrev RequirementHere : List ℕ → ℕ → Requirement → Type 0
+RequirementHere s at (At from to n) = RequirementIs s at from to n
+RequirementHere s at Bad = Unit
+
+requirement-here : (s : List ℕ) (at : ℕ) → RequirementHere s at (requirementAt s at)
+unfolding requirementAt
+requirement-here s at =
+    mark-case (RequirementHere s at) (markAt (bytes "req=") s at) _ _
+    (λ from e. mark-case (RequirementHere s at) (markAt (bytes "\n") s (from + length (untilFeed (drop from s)))) _ _ (λ n f. is from n e f) (λ f. tt))
+    (λ e. tt)
+  where
+    is : (from n : ℕ) → markAt (bytes "req=") s at ≡ Next from → markAt (bytes "\n") s (from + length (untilFeed (drop from s))) ≡ Next n
+        → RequirementIs s at from (from + length (untilFeed (drop from s))) n
+    is from n e f =
+        let a = mark-is (bytes "req=") s at from e in
+        let b = mark-is (bytes "\n") s (from + length (untilFeed (drop from s))) n f in
+        let w : Between s from (from + length (untilFeed (drop from s))) (untilFeed (drop from s)) =
+        record {
+          bytes = rw (← drop-drop (length (untilFeed (drop from s))) from s) (until-split (drop from s));
+          end = refl;
+          inside = omega (arith, b .inside, b .end);
+        } in
+        record {
+          requirement = untilFeed (drop from s);
+          between = between-both (between-both a w) b;
+          clear = until-clear (drop from s);
+          starts = a .end;
+          ends = refl;
+          next = b .end;
+        }
+
+pub requirement-is : (s : List ℕ) (at from to n : ℕ) → requirementAt s at ≡ At from to n → RequirementIs s at from to n
+requirement-is s at from to n h = rw h at (requirement-here s at)
+
+requirement-of : (s : List ℕ) (at from n : ℕ) (w r : List ℕ) → markAt (bytes "req=") s at ≡ Next from → drop from s ≡ w ++ (10 ∷ r) → count 10 w ≡ 0
+    → markAt (bytes "\n") s (from + length w) ≡ Next n → requirementAt s at ≡ At from (from + length w) n
+unfolding requirementAt
+requirement-of s at from n w r e f c g =
+    let h : untilFeed (drop from s) ≡ w = ap untilFeed f ∙ until-feed w r c in
+    rw (e, h, g)
+
+pub requirement-taken : (s : List ℕ) (at : ℕ) (w r : List ℕ) → drop at s ≡ bytes "req=" ++ w ++ bytes "\n" ++ r → count 10 w ≡ 0
+    → (n : ℕ) × (requirementAt s at ≡ At (at + 4) (at + 4 + length w) n) × (drop n s ≡ r) × (n ≡ at + 4 + length w + 1)
+requirement-taken s at w r e c =
+    let g : drop at s ≡ bytes "req=" ++ (w ++ (bytes "\n" ++ r)) = simp append-assoc at e in
+    let k = mark-taken s at (w ++ (bytes "\n" ++ r)) (bytes "req=") (omega arith) g in
+    let p : k .0 ≡ at + 4 = mark-is (bytes "req=") s at (k .0) (k .1) .end in
+    let f : drop (at + 4) s ≡ w ++ (bytes "\n" ++ r) = rw p at (k .2) in
+    let n = mark-taken s (at + 4 + length w) r (bytes "\n") (omega arith) (after-bytes s (at + 4) w (bytes "\n" ++ r) f) in
+    (n .0, requirement-of s at (at + 4) (n .0) w r (rw p at (k .1)) f c (n .1), n .2, mark-is (bytes "\n") s (at + 4 + length w) (n .0) (n .1) .end)
+
+-- what stands before the line feed of a text's line has none
+pub lines-clear : (s w : List ℕ) (ls : List (List ℕ)) → lines s ≡ (w ++ bytes "\n") ∷ ls → count 10 w ≡ 0
+unfolding lines count
+lines-clear [] w ls h = let z : _≡_ {A = ℕ} 0 1 = cc in absurd (omega arith)
+lines-clear (b ∷ s) w ls h = go (eqb b 10) refl (lines s) refl w h (λ v ks. lines-clear s v ks)
+  where
+    go : (t : Bool) → eqb b 10 ≡ t → (x : List (List ℕ)) → lines s ≡ x → (w : List ℕ) → cut b t x ≡ (w ++ bytes "\n") ∷ ls
+        → ((v : List ℕ) (ks : List (List ℕ)) → lines s ≡ (v ++ bytes "\n") ∷ ks → count 10 v ≡ 0) → count 10 w ≡ 0
+    go t e x f [] g more = refl
+    go true e x f (c ∷ w) g more =
+        let h : b ∷ [] ≡ c ∷ (w ++ bytes "\n") = cc in
+        let i : [] ≡ w ++ bytes "\n" = cc in
+        absurd (omega (arith, ap length i, length-append w (bytes "\n")))
+    go false e [] f (c ∷ w) g more =
+        let h : b ∷ [] ≡ c ∷ (w ++ bytes "\n") = cc in
+        let i : [] ≡ w ++ bytes "\n" = cc in
+        absurd (omega (arith, ap length i, length-append w (bytes "\n")))
+    go false e (k ∷ ks) f (c ∷ w) g more =
+        let h : b ∷ k ≡ c ∷ (w ++ bytes "\n") = cc in
+        let i : k ≡ w ++ bytes "\n" = cc in
+        let j : b ≡ c = cc in
+        rw (← j, e, more w ks (f ∙ ap (λ (y : List ℕ). y ∷ ks) i))

@@ -1,0 +1,47 @@
+-- The form of a sheet, in document 01's order: `chan=`, predicate lines, `step=`, `drift=`, `req=`, then rows.
+-- Assumes nothing.
+use Prim.Native.Nat.{ℕ, _+_, _≤_}
+use mathlib.Core.Path.{_≡_}
+use mathlib.Core.Bool.{true}
+use mathlib.Core.List.{List, _∷_, _++_}
+use lib.ListN.{length}
+use Rattle.text.specs.Bytes.{bytes}
+use Rattle.text.specs.Number.{largest}
+use Rattle.text.specs.Numeral.{Numeral}
+use Rattle.row_lines.specs.Form.{lines, size, Sample, Rows}
+use Rattle.row_lines.specs.Rows.{limit, channelsInRange}
+use Rattle.predicate_lines.specs.Form.{unset, Lines}
+use Rattle.sheets.specs.declared.Sheet.{Sheet}
+
+-- a line of a key and a number
+pub record NumberLine (key line : List ℕ) (value : ℕ) : Type 0 where
+  pub digits : List ℕ
+  pub numeral : Numeral digits value
+  pub bound : value ≤ largest
+  pub written : line ≡ key ++ digits ++ bytes "\n"
+
+-- a text of the form, and the sheet that it gives
+pub record Form (text : List ℕ) (sheet : Sheet) : Type 0 where
+  pub chan : List ℕ
+  pub ps : List (List ℕ)
+  pub step : List ℕ
+  pub drift : List ℕ
+  pub requirement : List ℕ
+  pub rows : List (List ℕ)
+  pub short : length text ≤ limit
+  pub cuts : lines text ≡ chan ∷ (ps ++ (step ∷ drift ∷ (bytes "req=" ++ requirement ++ bytes "\n") ∷ rows))
+  pub channels : NumberLine (bytes "chan=") chan (sheet .channels)
+  pub predicates : Lines unset ps (sheet .predicates)
+  pub steps : NumberLine (bytes "step=") step (sheet .step)
+  pub drifts : NumberLine (bytes "drift=") drift (sheet .drift)
+  -- the requirement is what follows the equals sign
+  pub from : sheet .from ≡ length chan + size ps + length step + length drift + 4
+  pub to : sheet .to ≡ sheet .from + length requirement
+  pub behind : sheet .rows ≡ sheet .to + 1
+  -- rows are read only where the channels are 1 to 8
+  pub listed : channelsInRange (sheet .channels) ≡ true → (samples : List Sample) × (filled : ℕ) × Rows (sheet .channels) rows samples filled
+  pub number : sheet .number ≡ 0
+
+-- no sheet
+abbrev pub blank : Sheet
+blank = record { number = 1; channels = 0; predicates = unset; step = 0; drift = 0; from = 0; to = 0; rows = 0 }
