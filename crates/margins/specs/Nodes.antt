@@ -17,7 +17,7 @@ use Rattle.rules.specs.Refusals.{Sound}
 use Rattle.rows.specs.Cells.{cell, Bounded}
 
 -- the node may stand at place k, what it names is set, its row lies in the cells, and earlier rows hold margins
-pub record NodeAsks (c : Card) (n : Node) (k : ℕ) (work : List ℤ) : Type 0 where
+pub record RowAsks (c : Card) (n : Node) (k : ℕ) (work : List ℤ) : Type 0 where
   pub ruled : NodeRules n k
   pub named : n .kind ≡ 1 → predicate c (n .left) .range ≡ Unset → ⊥
   pub recorded : Recorded c

@@ -46,8 +46,8 @@ mul-node c = search needs
 array-copy-out-node : tie.Need-array-copy-out-node Inv-loop μ-loop
 array-copy-out-node c = omega (arith, c .before .before .before .before .pre .judged .ruled .few-nodes)
 
-node-row-requires : tie.Need-node-row-requires Inv-loop μ-loop
-node-row-requires c κs =
+margin-row-requires : tie.Need-margin-row-requires Inv-loop μ-loop
+margin-row-requires c κs =
     let l = c .before .before .before in
     let s = start l in
     let t = c .before .before .loop-test .taken in
@@ -74,8 +74,8 @@ loop-again c =
     let t = c .before .before .before .before .loop-test .taken in
     let k = l .loop .k in (
       omega arith,
-      filled-next (card-of s) (s .args .table .nodes) k (s .args .work .now) (s .pre .judged .ruled .each k t) (l .loop .inv .1) (c .before .node-row .ensures (tree (s .args .table .nodes)) (hold l t)),
-      c .before .node-row .kept .0 ∙ l .loop .inv .2,
+      filled-next (card-of s) (s .args .table .nodes) k (s .args .work .now) (s .pre .judged .ruled .each k t) (l .loop .inv .1) (c .before .margin-row .ensures (tree (s .args .table .nodes)) (hold l t)),
+      c .before .margin-row .kept .0 ∙ l .loop .inv .2,
     )
 
 same-length : tie.Need-same-length Inv-loop μ-loop
@@ -96,7 +96,7 @@ fill-margins-spec =
     loop-holds
     mul-node
     array-copy-out-node
-    node-row-requires
+    margin-row-requires
     add-k
     loop-less
     loop-again

@@ -1,0 +1,87 @@
+-- "Not" negates its child's row; every other kind is the node's own row, whose values are the margins of the node over its children's.
+-- Assumes nothing.
+use mathlib.Core.Path.{_≡_, ap, _∙_, subst}
+use mathlib.Core.Bool.{true}
+use Prim.Native.Nat.{ℕ, _*_, _<_}
+use native.Mathlib.Omega.{arith}
+use borrow.Author.Needs.{needs}
+use lib.ListN.{length}
+use Rattle.lists.specs.Fill.{fill}
+use Rattle.logic.specs.Window.{Window}
+use Rattle.recordings.specs.Card.{Card}
+use Rattle.tables.specs.Kind.{negated, operator}
+use Rattle.tables.specs.Rules.{Used, left-use, right-use, timed}
+use Rattle.rules.specs.Refusals.{card}
+use Rattle.rows.specs.Cells.{cell}
+use Rattle.nodes.specs.Values.{node-value}
+use Rattle.margins.proofs.Nodes.{other-kind, end-known, used-earlier, value-filled, negation-filled}
+use Rattle.margins.proofs.margin_row.Statement.{statement}
+use Rattle.margins.proofs.margin_row.Tie as tie
+
+abbrev card-of : tie.Start → Card
+card-of s = card (s .args .channels) (s .args .predicates) (s .args .times .now) (s .args .values .now)
+
+-- the child of "not"
+child : (s : tie.Start) → s .args .node .kind ≡ 2 → s .args .node .left < s .args .k
+child s e = subst (λ (x : ℕ). Used (left-use (operator x)) (s .args .k) (s .args .node .left)) e (s .pre .ruled .left)
+
+negated-row-requires : tie.Need-negated-row-requires
+negated-row-requires c κs =
+    let s = c .before .before .before .before in
+    let h = child s (c .before .if1 .taken) in
+    (record { earlier = h; room = s .pre .room }, s .pre .bounded _ h)
+
+plain-requires : tie.Need-plain-requires
+plain-requires c κs =
+    let s = c .before .before .before in
+    end-known (timed (operator (s .args .node .kind))) (s .args .node .lo) _ (s .pre .ruled .ends)
+
+node-row-requires : tie.Need-node-row-requires
+node-row-requires c κs =
+    let s = c .before .before .before .before .before in
+    let n = s .args .node in
+    let r = s .pre .ruled in
+    record {
+      recorded = s .pre .recorded;
+      known = omega (arith, r .known);
+      left-earlier = used-earlier (left-use (operator (n .kind))) (s .args .k) (n .left) (r .left);
+      right-earlier = used-earlier (right-use (operator (n .kind))) (s .args .k) (n .right) (r .right);
+      numbered = λ e. subst (λ (x : ℕ). Used (left-use (operator x)) (s .args .k) (n .left)) e (r .left);
+      set = s .pre .named;
+      room = s .pre .room;
+      bounded = s .pre .bounded;
+    }
+
+same-length : tie.Need-same-length
+same-length c = search needs
+
+returns : tie.Need-returns
+returns c =
+    λ φ H.
+    let s = c .before .before .before .before .before .before in
+    let e = c .before .before .before .if1 .taken in
+    negation-filled (card-of s) (s .args .work .now) (s .args .k) φ H (s .args .node) (ap operator e) (child s e) (c .before .negated-row .ensures)
+
+same-length-2 : tie.Need-same-length-2
+same-length-2 c = search needs
+
+returns-2 : tie.Need-returns-2
+returns-2 c =
+    λ φ H.
+    let s = c .before .before .before .before .before .before .before in
+    let n = s .args .node in
+    let rows = length (s .args .times .now) in
+    let seen = ap (λ (v : Window). fill (s .args .k * rows) rows (node-value (card-of s) true v (operator (n .kind)) n (cell (s .args .work .now) rows (n .left)) (cell (s .args .work .now) rows (n .right))) (s .args .work .now)) (c .before .before .before .plain .ensures) in
+    value-filled (card-of s) (s .args .work .now) (s .args .k) φ H n (s .pre .ruled) (other-kind (n .kind) (c .before .before .before .before .if1 .left)) (c .before .node-row .ensures ∙ seen)
+
+pub margin-row-spec : {M : Type 1} → statement M
+margin-row-spec =
+    tie.close
+    (tie.spec
+    negated-row-requires
+    plain-requires
+    node-row-requires
+    same-length
+    returns
+    same-length-2
+    returns-2)
