@@ -79,4 +79,4 @@ nodesFrom cells zero = emptyTable .nodes
 nodesFrom cells (suc k) = set (nodesFrom cells k) k (nodeAt cells k)
 
 abbrev pub tableFrom : List ℕ → ℕ → Table
-tableFrom cells count = record { nodes = nodesFrom cells count; count = count }
+tableFrom cells count = cond (leb count 64) (record { nodes = nodesFrom cells count; count = count }) emptyTable

@@ -5,7 +5,7 @@ use tables::Table;
 use text::Field;
 use text::Mark;
 ghost use mathlib.Core.Path.{_≡_};
-ghost use Prim.Native.Nat.{_<_, _≤_};
+ghost use Prim.Native.Nat.{_<_};
 ghost use Rattle.grammar.specs.Reading.{leafAt};
 ghost use Rattle.building.specs.Nodes.{emptyTable};
 ghost use Rattle.building.specs.Storing.{Done, pushedStep, pushedCells, parentStep, wrapCells, joinCells, closedStep, nodeAt, tableFrom};
@@ -116,11 +116,13 @@ fn node_at(cells: &[u64; CELLS], k: usize) -> Node
     }
 }
 
-// The table of the first `count` nodes.
+// The table of the first `count` nodes; the empty one where there cannot be so many.
 pub fn table_from(cells: &[u64; CELLS], count: usize) -> Table
-    requires { ⌜ count ≤ 64 ⌝ }
     ensures { λ r. ⌜ r ≡ tableFrom (now (cells .entry)) count ⌝ }
 {
+    if 64 < count {
+        return empty_table();
+    }
     let mut table = empty_table();
     for k in 0..count {
         table.nodes[k] = node_at(cells, k);

@@ -2,12 +2,13 @@
 -- Assumes nothing.
 use mathlib.Core.Path.{_≡_, refl, sym, ap, _∙_}
 use mathlib.Core.List.{List, [], _∷_}
-use Prim.Native.Nat.{ℕ, zero, suc, _+_, _-_, _<_}
+use Prim.Native.Nat.{ℕ, zero, suc, _+_, _-_, _≤_, _<_}
 use native.Mathlib.Omega.{arith}
-use lib.ListN.{length, getD, take, drop}
+use lib.ListN.{length, getD, take, drop, List·getD-eq-default}
 use lib.Seq.{drop-cons}
 use Rattle.grammar.specs.declared.Operator.{Operator}
 use Rattle.grammar.specs.declared.Operator.the-variants.{Absent, Over, Bad}
+use Rattle.grammar.specs.Operators.{letters, letter}
 use Rattle.grammar.specs.Reading.{timedAt, timedAmong, orElse}
 
 pub take-one : (l : List ℕ) (k : ℕ) → k < length l → take (k + 1 - k) (drop k l) ≡ getD l k 0 ∷ []
@@ -21,3 +22,7 @@ or-absent Bad = refl
 pub two-kinds : (j k : ℕ) (s : List ℕ) (at : ℕ) → orElse (timedAt j s at) (timedAt k s at) ≡ timedAmong (j ∷ k ∷ []) s at
 unfolding timedAmong
 two-kinds j k s at = ap (orElse (timedAt j s at)) (sym (or-absent (timedAt k s at)))
+
+-- a kind past the table has no letter
+pub no-letter : (k : ℕ) → length letters ≤ k → 0 ∷ [] ≡ letter k
+no-letter k h = rw (List·getD-eq-default letters 0 h)

@@ -9,7 +9,7 @@ ghost use Prim.Native.Nat.{_<_};
 ghost use mathlib.Core.List.{[], _∷_};
 ghost use lib.ListN.{length, getD};
 ghost use Rattle.text.specs.Mark.{markAt};
-ghost use Rattle.grammar.specs.Operators.{letters, letter};
+ghost use Rattle.grammar.specs.Operators.{letter};
 ghost use Rattle.grammar.specs.Reading.{windowAt, overWindow, timedAt, orElse, binderAt, prefixAt};
 
 // The kinds that stand alone in a production; kinds with a window have their numbers where they are read.
@@ -32,12 +32,15 @@ fn read_among(s: &[u8], at: usize, letters: &[u8], kind: u64) -> Mark
     text::read_mark(s, at, &letters[from..to])
 }
 
-// The letter of a kind, which stands at the kind's place of the one table of letters.
+// The letter of a kind, which stands at the kind's place of the one table of letters. A kind without one has NUL, which no text has.
 pub fn read_letter(s: &[u8], at: usize, kind: u64) -> Mark
-    requires { ⌜ kind < length letters ⌝ }
     ensures { λ r. ⌜ r ≡ markAt (letter kind) (now (s .entry)) at ⌝ }
 {
-    read_among(s, at, b"Tp!&|URFG", kind)
+    if kind < 9 {
+        read_among(s, at, b"Tp!&|URFG", kind)
+    } else {
+        text::read_mark(s, at, b"\0")
+    }
 }
 
 // A window, `[lo,hi]` or `[lo,*]`.
@@ -82,7 +85,6 @@ fn over(kind: u64, w: Window) -> Operator
 
 // The letter of a kind and its window.
 fn read_timed(s: &[u8], at: usize, kind: u64) -> Operator
-    requires { ⌜ kind < length letters ⌝ }
     ensures { λ r. ⌜ r ≡ timedAt kind (now (s .entry)) at ⌝ }
 {
     let Mark::Next(next) = read_letter(s, at, kind) else {

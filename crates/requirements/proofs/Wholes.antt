@@ -39,7 +39,7 @@ module _ (s : List ℕ) (p : Step) (cells : List ℕ) (u : Done 0 (alternativeAt
     whole-read : ReadIs 0 (alternativeAt 32 s 0) e r f
     whole-read = read-is 0 (alternativeAt 32 s 0) e r f (sym (u .step) ∙ q)
 
-    pub whole-fits : f ≤ 64
+    whole-fits : f ≤ 64
     whole-fits = let i = whole-read in let a = i .fits in let b = i .free in omega arith
 
     pub whole-part : (e ≡ length s → ⊥) → refused ≡ requirementOf s
@@ -58,7 +58,7 @@ module _ (s : List ℕ) (p : Step) (cells : List ℕ) (u : Done 0 (alternativeAt
         let ns : nodesFrom cells f ≡ nodesOf 0 a ++ replicate (64 - size a) emptyNode =
         ap (λ (x : List ℕ). nodesFrom x f) c
         ∙ (ap (nodesFrom (sets zeros 0 (cellsOf (nodesOf 0 a)))) n ∙ (table-back (nodesOf 0 a) l ∙ ap (λ (m : ℕ). nodesOf 0 a ++ replicate (64 - m) emptyNode) (length-nodes 0 a))) in
-        same (nodesFrom cells f) (nodesOf 0 a ++ replicate (64 - size a) emptyNode) f (size a) ns (i .free ∙ zero-add (size a))
+        rw (le-leb f 64 whole-fits) (same (nodesFrom cells f) (nodesOf 0 a ++ replicate (64 - size a) emptyNode) f (size a) ns (i .free ∙ zero-add (size a)))
       where
         same : (xs ys : List Node) (m n : ℕ) → xs ≡ ys → m ≡ n → _≡_ {A = Table} (record { nodes = xs; count = m }) (record { nodes = ys; count = n })
         same xs ys m n g h = rw (g, h)

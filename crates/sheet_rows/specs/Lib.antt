@@ -1,3 +1,4 @@
--- The answer and the slices (`Answer`), and what is asked before anything is stored (`Room`).
+-- The answer and the slices (`Answer`), what is asked before anything is stored (`Room`), and examples (`Examples`).
 pub mod Answer
 pub mod Room
+pub mod Examples

@@ -1,3 +1,4 @@
--- The form of a sheet (`Form`), and its reading line by line (`Sheets`).
+-- The form of a sheet (`Form`), its reading line by line (`Sheets`), and examples (`Examples`).
 pub mod Form
 pub mod Sheets
+pub mod Examples

@@ -8,39 +8,30 @@ use Rattle.building.proofs.close.Reads as reads
 use Rattle.building.proofs.close.Lts as lts
 use Rattle.text.proofs.read_mark.Reads as read-mark-reads
 
--- src/store.rt:77:20
 enum-known-inner : tie.Need-enum-known-inner
 enum-known-inner c = search needs
 
--- src/store.rt:78:9
 enum-told : tie.Need-enum-told
 enum-told c = search needs
 
--- src/store.rt:78:9
 returns : tie.Need-returns
 returns c = search needs
 
--- src/store.rt:80:51
 slice-aggregate-read-mark : tie.Need-slice-aggregate-read-mark
 slice-aggregate-read-mark c = search needs
 
--- src/store.rt:80:28
 read-mark-requires : tie.Need-read-mark-requires
 read-mark-requires c κs = search needs
 
--- src/store.rt:80:20
 enum-known-next : tie.Need-enum-known-next
 enum-known-next c = search needs
 
--- src/store.rt:81:9
 enum-told-2 : tie.Need-enum-told-2
 enum-told-2 c = search needs
 
--- src/store.rt:81:9
 returns-2 : tie.Need-returns-2
 returns-2 c = rw (c .before .before .before .before .before .inner .given .1, sym (c .before .before .read-mark .ensures) ∙ c .enum-told2 .given .1)
 
--- src/store.rt:74:1
 returns-3 : tie.Need-returns-3
 returns-3 c = rw (c .before .before .before .before .before .before .inner .given .1, sym (c .before .before .before .read-mark .ensures) ∙ c .before .next .given .1)
 

@@ -8,23 +8,18 @@ use Rattle.building.proofs.join.Reads as reads
 use Rattle.building.proofs.join.Lts as lts
 use Rattle.building.proofs.push.Reads as push-reads
 
--- src/store.rt:60:20
 enum-known-inner : tie.Need-enum-known-inner
 enum-known-inner c = search needs
 
--- src/store.rt:61:9
 enum-told : tie.Need-enum-told
 enum-told c = search needs
 
--- src/store.rt:61:9
 returns : tie.Need-returns
 returns c = search needs
 
--- src/store.rt:70:5
 push-requires : tie.Need-push-requires
 push-requires c κs = search needs
 
--- src/store.rt:56:1
 returns-2 : tie.Need-returns-2
 returns-2 c = rw (c .before .before .before .inner .given .1) (c .push .ensures)
 

@@ -10,75 +10,57 @@ use Rattle.building.proofs.push.Tie as tie
 use Rattle.building.proofs.push.Reads as reads
 use Rattle.building.proofs.push.Lts as lts
 
--- src/store.rt:26:9
 returns : tie.Need-returns
 returns c = (rw (le-leb 64 _ (c .if1 .taken)), rw (le-leb 64 _ (c .if1 .taken)))
 
--- src/store.rt:28:17
 mul-first : tie.Need-mul-first
 mul-first c = search needs
 
--- src/store.rt:29:5
 mul-cells : tie.Need-mul-cells
 mul-cells c = search needs
 
--- src/store.rt:29:5
 element-write-cells : tie.Need-element-write-cells
 element-write-cells c = search needs
 
--- src/store.rt:30:11
 add-cells : tie.Need-add-cells
 add-cells c = search needs
 
--- src/store.rt:30:5
 mul-cells-2 : tie.Need-mul-cells-2
 mul-cells-2 c = search needs
 
--- src/store.rt:30:5
 element-write-cells-2 : tie.Need-element-write-cells-2
 element-write-cells-2 c = search needs
 
--- src/store.rt:31:11
 add-cells-2 : tie.Need-add-cells-2
 add-cells-2 c = search needs
 
--- src/store.rt:31:5
 mul-cells-3 : tie.Need-mul-cells-3
 mul-cells-3 c = search needs
 
--- src/store.rt:31:5
 element-write-cells-3 : tie.Need-element-write-cells-3
 element-write-cells-3 c = search needs
 
--- src/store.rt:32:11
 add-cells-3 : tie.Need-add-cells-3
 add-cells-3 c = search needs
 
--- src/store.rt:32:5
 mul-cells-4 : tie.Need-mul-cells-4
 mul-cells-4 c = search needs
 
--- src/store.rt:32:5
 element-write-cells-4 : tie.Need-element-write-cells-4
 element-write-cells-4 c = search needs
 
--- src/store.rt:33:11
 add-cells-4 : tie.Need-add-cells-4
 add-cells-4 c = search needs
 
--- src/store.rt:33:5
 mul-cells-5 : tie.Need-mul-cells-5
 mul-cells-5 c = search needs
 
--- src/store.rt:33:5
 element-write-cells-5 : tie.Need-element-write-cells-5
 element-write-cells-5 c = search needs
 
--- src/store.rt:34:26
 add-t11 : tie.Need-add-t11
 add-t11 c = search needs
 
--- src/store.rt:21:1
 returns-2 : tie.Need-returns-2
 returns-2 c = (rw (lt-leb 64 _ (c .if1 .left)), rw (lt-leb 64 _ (c .if1 .left)) (let a = c .before .args in sets-five (now (a .cells)) (5 * a .free) (a .x .kind) (a .x .left) (a .x .right) (a .x .lo) (a .x .hi)))
 

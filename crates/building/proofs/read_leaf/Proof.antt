@@ -12,19 +12,15 @@ use Rattle.operators.proofs.read_letter.Reads as read-letter-reads
 use Rattle.building.proofs.push.Reads as push-reads
 use Rattle.text.proofs.read_field.Reads as read-field-reads
 
--- src/parts.rt:130:31
 read-letter-requires : tie.Need-read-letter-requires
 read-letter-requires c κs = search needs
 
--- src/parts.rt:130:23
 enum-known-next : tie.Need-enum-known-next
 enum-known-next c = search needs
 
--- src/parts.rt:138:9
 push-requires : tie.Need-push-requires
 push-requires c κs = search needs
 
--- src/parts.rt:138:9
 returns : tie.Need-returns
 returns c =
     true-done _ _ _ _ _ _ _ (sym (c .before .before .before .before .before .read-letter .ensures) ∙ c .before .before .before .next .given .1) (c .push .ensures .0) (c .push .ensures .1)
@@ -32,33 +28,26 @@ returns c =
 enum-told : tie.Need-enum-told
 enum-told c = search needs
 
--- src/parts.rt:140:62
 slice-aggregate-read-field : tie.Need-slice-aggregate-read-field
 slice-aggregate-read-field c = search needs
 
--- src/parts.rt:140:38
 read-field-requires : tie.Need-read-field-requires
 read-field-requires c κs = search needs
 
--- src/parts.rt:140:23
 enum-known-value : tie.Need-enum-known-value
 enum-known-value c = search needs
 
--- src/parts.rt:141:9
 enum-told-2 : tie.Need-enum-told-2
 enum-told-2 c = search needs
 
--- src/parts.rt:141:9
 returns-2 : tie.Need-returns-2
 returns-2 c =
     leaf-refused _ _ _ Refused _ _ (sym (c .before .before .before .before .before .before .read-letter .ensures) ∙ c .before .before .before .before .enum-told .given .1)
     (sym (c .before .before .read-field .ensures) ∙ c .enum-told2 .given .1)
 
--- src/parts.rt:150:5
 push-requires-2 : tie.Need-push-requires-2
 push-requires-2 c κs = search needs
 
--- src/parts.rt:127:1
 returns-3 : tie.Need-returns-3
 returns-3 c =
     predicate-done _ _ _ _ _ _ _ _ (sym (c .before .before .before .before .before .before .before .before .before .read-letter .ensures) ∙ c .before .before .before .before .before .before .before .enum-told .given .1)

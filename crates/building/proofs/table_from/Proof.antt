@@ -8,6 +8,7 @@ use Rattle.tables.specs.declared.Node.{Node}
 use Rattle.tables.specs.declared.Table.{Table}
 use native.Mathlib.Numerals.{add-one}
 use native.Mathlib.Omega.{arith}
+use borrow.Author.Tests.{le-leb, lt-leb}
 use borrow.Author.Needs.{needs}
 use lib.ListN.{length}
 use Rattle.building.specs.Storing.{nodesFrom}
@@ -27,15 +28,21 @@ abbrev μ-loop : tie.MeasureT-loop
 empty-table-requires : tie.Need-empty-table-requires Inv-loop μ-loop
 empty-table-requires c κs = search needs
 
+returns : tie.Need-returns Inv-loop μ-loop
+returns c = rw (lt-leb _ 64 (c .before .if1 .taken)) (c .empty-table .ensures)
+
+empty-table-requires-2 : tie.Need-empty-table-requires-2 Inv-loop μ-loop
+empty-table-requires-2 c κs = search needs
+
 loop-holds : tie.Need-loop-holds Inv-loop μ-loop
 unfolding nodesFrom
-loop-holds c = (omega arith, ap (λ (t : Table). t .nodes) (c .empty-table .ensures))
+loop-holds c = (omega arith, ap (λ (t : Table). t .nodes) (c .empty-table2 .ensures))
 
 node-at-requires : tie.Need-node-at-requires Inv-loop μ-loop
 node-at-requires c κs = search needs
 
-mul-t8 : tie.Need-mul-t8 Inv-loop μ-loop
-mul-t8 c = search needs
+mul-t9 : tie.Need-mul-t9 Inv-loop μ-loop
+mul-t9 c = search needs
 
 element-set-from-table : tie.Need-element-set-from-table Inv-loop μ-loop
 element-set-from-table c = search needs
@@ -50,11 +57,12 @@ loop-again : tie.Need-loop-again Inv-loop μ-loop
 unfolding nodesFrom
 loop-again c = (search needs, rw (add-one, c .before .before .loop .inv .1, c .node-at .ensures))
 
-returns : tie.Need-returns Inv-loop μ-loop
-returns c =
-    let a = c .before .before .before .args in
+returns-2 : tie.Need-returns-2 Inv-loop μ-loop
+returns-2 c =
+    let a = c .before .before .before .before .args in
     let e : c .before .loop .k ≡ a .count = omega arith in
-    ap {B = Table} (λ (ns : List Node). record { nodes = ns; count = a .count }) (c .before .loop .inv .1 ∙ ap (nodesFrom (now (a .cells))) e)
+    rw (le-leb (a .count) 64 (c .before .before .before .if1 .left))
+    (ap {B = Table} (λ (ns : List Node). record { nodes = ns; count = a .count }) (c .before .loop .inv .1 ∙ ap (nodesFrom (now (a .cells))) e))
 
 pub table-from-spec : {M : Type 1} → statement M
 table-from-spec =
@@ -63,11 +71,13 @@ table-from-spec =
     Inv-loop
     μ-loop
     empty-table-requires
+    returns
+    empty-table-requires-2
     loop-holds
     node-at-requires
-    mul-t8
+    mul-t9
     element-set-from-table
     add-k
     loop-less
     loop-again
-    returns)
+    returns-2)

@@ -7,27 +7,21 @@ use Rattle.operators.proofs.or_else.Tie as tie
 use Rattle.operators.proofs.or_else.Reads as reads
 use Rattle.operators.proofs.or_else.Lts as lts
 
--- src/parts.rt:103:29
 enum-told : tie.Need-enum-told
 enum-told c = search needs
 
--- src/parts.rt:104:24
 enum-known-first : tie.Need-enum-known-first
 enum-known-first c = search needs
 
--- src/parts.rt:105:26
 enum-told-2 : tie.Need-enum-told-2
 enum-told-2 c = search needs
 
--- src/parts.rt:99:1
 returns : tie.Need-returns
 returns c = search needs
 
--- src/parts.rt:99:1
 returns-2 : tie.Need-returns-2
 returns-2 c = rw (c .before .first .given .1)
 
--- src/parts.rt:99:1
 returns-3 : tie.Need-returns-3
 returns-3 c = search needs
 

@@ -7,19 +7,15 @@ use Rattle.operators.proofs.over.Tie as tie
 use Rattle.operators.proofs.over.Reads as reads
 use Rattle.operators.proofs.over.Lts as lts
 
--- src/parts.rt:82:22
 enum-known-w : tie.Need-enum-known-w
 enum-known-w c = search needs
 
--- src/parts.rt:83:24
 enum-told : tie.Need-enum-told
 enum-told c = search needs
 
--- src/parts.rt:78:1
 returns : tie.Need-returns
 returns c = rw (c .before .w .given .1)
 
--- src/parts.rt:78:1
 returns-2 : tie.Need-returns-2
 returns-2 c = search needs
 

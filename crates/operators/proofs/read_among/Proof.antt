@@ -13,27 +13,21 @@ use Rattle.operators.proofs.read_among.Reads as reads
 use Rattle.operators.proofs.read_among.Lts as lts
 use Rattle.text.proofs.read_mark.Reads as read-mark-reads
 
--- src/parts.rt:35:14
 add-to : tie.Need-add-to
 add-to c = search needs
 
--- src/parts.rt:36:28
 sub-read-mark : tie.Need-sub-read-mark
 sub-read-mark c = search needs
 
--- src/parts.rt:36:28
 part-read-mark-start : tie.Need-part-read-mark-start
 part-read-mark-start c = search needs
 
--- src/parts.rt:36:28
 part-read-mark-end : tie.Need-part-read-mark-end
 part-read-mark-end c = search needs
 
--- src/parts.rt:36:5
 read-mark-requires : tie.Need-read-mark-requires
 read-mark-requires c κs = search needs
 
--- src/parts.rt:30:1
 returns : tie.Need-returns
 returns c =
     let a = c .before .before .before .before .args in

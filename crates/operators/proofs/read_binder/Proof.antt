@@ -10,19 +10,15 @@ use Rattle.operators.proofs.read_binder.Lts as lts
 use Rattle.operators.proofs.or_else.Reads as or-else-reads
 use Rattle.operators.proofs.read_timed.Reads as read-timed-reads
 
--- src/parts.rt:113:13
 read-timed-requires : tie.Need-read-timed-requires
 read-timed-requires c κs = search needs
 
--- src/parts.rt:113:35
 read-timed-requires-2 : tie.Need-read-timed-requires-2
 read-timed-requires-2 c κs = search needs
 
--- src/parts.rt:113:5
 or-else-requires : tie.Need-or-else-requires
 or-else-requires c κs = search needs
 
--- src/parts.rt:110:1
 returns : tie.Need-returns
 returns c = (rw (c .before .before .read-timed .ensures, c .before .read-timed2 .ensures) at (c .or-else .ensures)) ∙ two-kinds _ _ _ _
 

@@ -11,34 +11,27 @@ use Rattle.operators.proofs.or_else.Reads as or-else-reads
 use Rattle.operators.proofs.read_letter.Reads as read-letter-reads
 use Rattle.operators.proofs.read_timed.Reads as read-timed-reads
 
--- src/parts.rt:120:31
 read-letter-requires : tie.Need-read-letter-requires
 read-letter-requires c κs = search needs
 
--- src/parts.rt:120:23
 enum-known-next : tie.Need-enum-known-next
 enum-known-next c = search needs
 
--- src/parts.rt:121:9
 returns : tie.Need-returns
 returns c = rw (sym (c .before .before .before .read-letter .ensures) ∙ c .before .next .given .1)
 
 enum-told : tie.Need-enum-told
 enum-told c = search needs
 
--- src/parts.rt:123:13
 read-timed-requires : tie.Need-read-timed-requires
 read-timed-requires c κs = search needs
 
--- src/parts.rt:123:35
 read-timed-requires-2 : tie.Need-read-timed-requires-2
 read-timed-requires-2 c κs = search needs
 
--- src/parts.rt:123:5
 or-else-requires : tie.Need-or-else-requires
 or-else-requires c κs = search needs
 
--- src/parts.rt:117:1
 returns-2 : tie.Need-returns-2
 returns-2 c = rw (sym (c .before .before .before .before .before .read-letter .ensures) ∙ c .before .before .before .enum-told .given .1) ((rw (c .before .before .read-timed .ensures, c .before .read-timed2 .ensures) at (c .or-else .ensures)) ∙ two-kinds _ _ _ _)
 

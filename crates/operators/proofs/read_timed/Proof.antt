@@ -11,32 +11,25 @@ use Rattle.operators.proofs.over.Reads as over-reads
 use Rattle.operators.proofs.read_letter.Reads as read-letter-reads
 use Rattle.operators.proofs.read_window.Reads as read-window-reads
 
--- src/parts.rt:92:28
 read-letter-requires : tie.Need-read-letter-requires
 read-letter-requires c κs = search needs
 
--- src/parts.rt:92:20
 enum-known-next : tie.Need-enum-known-next
 enum-known-next c = search needs
 
--- src/parts.rt:93:9
 enum-told : tie.Need-enum-told
 enum-told c = search needs
 
--- src/parts.rt:93:9
 returns : tie.Need-returns
 unfolding timedAt
 returns c = rw (sym (c .before .before .read-letter .ensures) ∙ c .enum-told .given .1)
 
--- src/parts.rt:95:16
 read-window-requires : tie.Need-read-window-requires
 read-window-requires c κs = search needs
 
--- src/parts.rt:95:5
 over-requires : tie.Need-over-requires
 over-requires c κs = search needs
 
--- src/parts.rt:88:1
 returns-2 : tie.Need-returns-2
 unfolding timedAt
 returns-2 c = rw (sym (c .before .before .before .before .before .read-letter .ensures) ∙ c .before .before .before .next .given .1) (rw (c .before .read-window .ensures) at (c .over .ensures))

@@ -12,61 +12,47 @@ use Rattle.text.proofs.read_field.Reads as read-field-reads
 use Rattle.text.proofs.read_mark.Reads as read-mark-reads
 use Rattle.text.proofs.read_number.Reads as read-number-reads
 
--- src/parts.rt:51:60
 slice-aggregate-read-field : tie.Need-slice-aggregate-read-field
 slice-aggregate-read-field c = search needs
 
--- src/parts.rt:51:36
 read-field-requires : tie.Need-read-field-requires
 read-field-requires c κs = search needs
 
--- src/parts.rt:51:23
 enum-known-lo : tie.Need-enum-known-lo
 enum-known-lo c = search needs
 
--- src/parts.rt:52:9
 enum-told : tie.Need-enum-told
 enum-told c = search needs
 
--- src/parts.rt:52:9
 returns : tie.Need-returns
 unfolding windowAt
 returns c = rw (sym (c .before .before .read-field .ensures) ∙ c .enum-told .given .1)
 
--- src/parts.rt:54:53
 slice-aggregate-read-mark : tie.Need-slice-aggregate-read-mark
 slice-aggregate-read-mark c = search needs
 
--- src/parts.rt:54:27
 read-mark-requires : tie.Need-read-mark-requires
 read-mark-requires c κs = search needs
 
--- src/parts.rt:54:20
 enum-known-end : tie.Need-enum-known-end
 enum-known-end c = search needs
 
--- src/parts.rt:55:9
 enum-told-2 : tie.Need-enum-told-2
 enum-told-2 c = search needs
 
--- src/parts.rt:55:9
 returns-2 : tie.Need-returns-2
 unfolding windowAt
 returns-2 c = rw (sym (c .before .before .before .before .before .before .before .read-field .ensures) ∙ c .before .before .before .before .before .lo .given .1, sym (c .before .before .read-mark .ensures) ∙ c .enum-told2 .given .1)
 
--- src/parts.rt:57:55
 slice-aggregate-read-mark-2 : tie.Need-slice-aggregate-read-mark-2
 slice-aggregate-read-mark-2 c = search needs
 
--- src/parts.rt:57:31
 read-mark-requires-2 : tie.Need-read-mark-requires-2
 read-mark-requires-2 c κs = search needs
 
--- src/parts.rt:57:23
 enum-known-past : tie.Need-enum-known-past
 enum-known-past c = search needs
 
--- src/parts.rt:58:9
 returns-3 : tie.Need-returns-3
 unfolding windowAt
 returns-3 c = rw (sym (c .before .before .before .before .before .before .before .before .before .before .before .before .before .read-field .ensures) ∙ c .before .before .before .before .before .before .before .before .before .before .before .lo .given .1, sym (c .before .before .before .before .before .before .before .before .read-mark .ensures) ∙ c .before .before .before .before .before .before .end .given .1, sym (c .before .before .before .read-mark2 .ensures) ∙ c .before .past .given .1)
@@ -74,50 +60,39 @@ returns-3 c = rw (sym (c .before .before .before .before .before .before .before
 enum-told-3 : tie.Need-enum-told-3
 enum-told-3 c = search needs
 
--- src/parts.rt:66:36
 read-number-requires : tie.Need-read-number-requires
 read-number-requires c κs = search needs
 
--- src/parts.rt:66:23
 enum-known-hi : tie.Need-enum-known-hi
 enum-known-hi c = search needs
 
--- src/parts.rt:67:9
 enum-told-4 : tie.Need-enum-told-4
 enum-told-4 c = search needs
 
--- src/parts.rt:67:9
 returns-4 : tie.Need-returns-4
 unfolding windowAt
 returns-4 c = rw (sym (c .before .before .before .before .before .before .before .before .before .before .before .before .before .before .before .read-field .ensures) ∙ c .before .before .before .before .before .before .before .before .before .before .before .before .before .lo .given .1, sym (c .before .before .before .before .before .before .before .before .before .before .read-mark .ensures) ∙ c .before .before .before .before .before .before .before .before .end .given .1, sym (c .before .before .before .before .before .read-mark2 .ensures) ∙ c .before .before .before .enum-told3 .given .1, sym (c .before .before .read-number .ensures) ∙ c .enum-told4 .given .1)
 
--- src/parts.rt:69:54
 slice-aggregate-read-mark-3 : tie.Need-slice-aggregate-read-mark-3
 slice-aggregate-read-mark-3 c = search needs
 
--- src/parts.rt:69:28
 read-mark-requires-3 : tie.Need-read-mark-requires-3
 read-mark-requires-3 c κs = search needs
 
--- src/parts.rt:69:20
 enum-known-next : tie.Need-enum-known-next
 enum-known-next c = search needs
 
--- src/parts.rt:70:9
 enum-told-5 : tie.Need-enum-told-5
 enum-told-5 c = search needs
 
--- src/parts.rt:70:9
 returns-5 : tie.Need-returns-5
 unfolding windowAt
 returns-5 c = rw (sym (c .before .before .before .before .before .before .before .before .before .before .before .before .before .before .before .before .before .before .before .before .read-field .ensures) ∙ c .before .before .before .before .before .before .before .before .before .before .before .before .before .before .before .before .before .before .lo .given .1, sym (c .before .before .before .before .before .before .before .before .before .before .before .before .before .before .before .read-mark .ensures) ∙ c .before .before .before .before .before .before .before .before .before .before .before .before .before .end .given .1, sym (c .before .before .before .before .before .before .before .before .before .before .read-mark2 .ensures) ∙ c .before .before .before .before .before .before .before .before .enum-told3 .given .1, sym (c .before .before .before .before .before .before .before .read-number .ensures) ∙ c .before .before .before .before .before .hi .given .1, sym (c .before .before .read-mark3 .ensures) ∙ c .enum-told5 .given .1)
 
--- src/parts.rt:73:9
 returns-6 : tie.Need-returns-6
 unfolding windowAt
 returns-6 c = rw (sym (c .before .before .before .before .before .before .before .before .before .before .before .before .before .before .before .before .before .before .before .before .before .before .read-field .ensures) ∙ c .before .before .before .before .before .before .before .before .before .before .before .before .before .before .before .before .before .before .before .before .lo .given .1, sym (c .before .before .before .before .before .before .before .before .before .before .before .before .before .before .before .before .before .read-mark .ensures) ∙ c .before .before .before .before .before .before .before .before .before .before .before .before .before .before .before .end .given .1, sym (c .before .before .before .before .before .before .before .before .before .before .before .before .read-mark2 .ensures) ∙ c .before .before .before .before .before .before .before .before .before .before .enum-told3 .given .1, sym (c .before .before .before .before .before .before .before .before .before .read-number .ensures) ∙ c .before .before .before .before .before .before .before .hi .given .1, sym (c .before .before .before .before .read-mark3 .ensures) ∙ c .before .before .next .given .1, lt-ltb _ _ (c .if1 .taken))
 
--- src/parts.rt:48:1
 returns-7 : tie.Need-returns-7
 unfolding windowAt
 returns-7 c = rw (sym (c .before .before .before .before .before .before .before .before .before .before .before .before .before .before .before .before .before .before .before .before .before .before .read-field .ensures) ∙ c .before .before .before .before .before .before .before .before .before .before .before .before .before .before .before .before .before .before .before .before .lo .given .1, sym (c .before .before .before .before .before .before .before .before .before .before .before .before .before .before .before .before .before .read-mark .ensures) ∙ c .before .before .before .before .before .before .before .before .before .before .before .before .before .before .before .end .given .1, sym (c .before .before .before .before .before .before .before .before .before .before .before .before .read-mark2 .ensures) ∙ c .before .before .before .before .before .before .before .before .before .before .enum-told3 .given .1, sym (c .before .before .before .before .before .before .before .before .before .read-number .ensures) ∙ c .before .before .before .before .before .before .before .hi .given .1, sym (c .before .before .before .before .read-mark3 .ensures) ∙ c .before .before .next .given .1, le-ltb _ _ (c .if1 .left))

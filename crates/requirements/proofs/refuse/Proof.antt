@@ -7,11 +7,9 @@ use Rattle.requirements.proofs.refuse.Reads as reads
 use Rattle.requirements.proofs.refuse.Lts as lts
 use Rattle.building.proofs.empty_table.Reads as empty-table-reads
 
--- src/rt:141:9
 empty-table-requires : tie.Need-empty-table-requires
 empty-table-requires c κs = search needs
 
--- src/rt:138:1
 returns : tie.Need-returns
 returns c = rw (c .empty-table .ensures)
 

@@ -1,0 +1,75 @@
+-- Sheets and their numbers: document 01's example, texts that break the form in one place each, and texts that look broken and are not.
+-- Assumes nothing.
+use Prim.Native.Nat.{ℕ}
+use Prim.Native.String.{String}
+use mathlib.Core.List.{List, [], _∷_, _++_}
+use lib.ListN.{set}
+use lib.IntN.{pos}
+use Rattle.text.specs.Bytes.{bytes}
+use Rattle.recordings.specs.declared.Range.the-variants.{AtLeast}
+use Rattle.predicate_lines.specs.Form.{unset}
+use Rattle.sheets.specs.declared.Sheet.{Sheet}
+
+-- a text by its parts: the channels' line, predicate lines, the step's, the drift's and the requirement's line, rows
+abbrev pub parts : String → String → String → String → String → String → List ℕ
+parts chan ps step drift req rows = bytes chan ++ bytes ps ++ bytes step ++ bytes drift ++ bytes req ++ bytes rows
+
+-- document 01's sheet; p0 is "at least 5", and the requirement is `G[0,2]p0`
+abbrev pub example : List ℕ
+example =
+    parts "chan=1\n" "p=0 ch=0 lo=5 hi=*\n" "step=1\n" "drift=2\n" "req=G[0,2]p0\n"
+    "t=0 src=m v0=10\nt=1 src=m v0=11\nt=2 src=m v0=10\nt=3 src=m v0=9\nt=4 src=m v0=10\n"
+
+abbrev pub contents : Sheet
+contents = record {
+  number = 0;
+  channels = 1;
+  predicates = set unset 0 (record { channel = 0; range = AtLeast (pos 5) });
+  step = 1;
+  drift = 2;
+  from = 45;
+  to = 53;
+  rows = 54;
+}
+
+-- no text, a blank line, CR LF, no last line feed; a key that is not due; a space too many; numbers out of their form or range; a predicate's number twice;
+-- a row with a field too many, too few, of another channel or source; a second requirement
+abbrev pub damaged : List (List ℕ)
+damaged =
+    parts "" "" "" "" "" ""
+    ∷ parts "chan=1\n" "" "step=1\n" "drift=2\n" "" ""
+    ∷ parts "chan=1\n" "" "step=1\n" "drift=2\n" "req=p0" ""
+    ∷ parts "chan=1\n" "" "step=1\n" "drift=2\n" "req=p0\n" "\n"
+    ∷ parts "chan=1\r\n" "" "step=1\n" "drift=2\n" "req=p0\n" ""
+    ∷ parts "chan=1\n" "" "step=1\n" "drift=2\n" "req=p0\n" "t=0 src=m v0=1"
+    ∷ parts "chan=1\n" "" "drift=2\n" "step=1\n" "req=p0\n" ""
+    ∷ parts "chan=1\n" "" "step= 1\n" "drift=2\n" "req=p0\n" ""
+    ∷ parts "chan=1\n" "" "step=01\n" "drift=2\n" "req=p0\n" ""
+    ∷ parts "chan=1\n" "" "step=-1\n" "drift=2\n" "req=p0\n" ""
+    ∷ parts "chan=1\n" "" "step=4294967296\n" "drift=2\n" "req=p0\n" ""
+    ∷ parts "chan=1\n" "" "step=12345678901\n" "drift=2\n" "req=p0\n" ""
+    ∷ parts "chan=1\n" "p=16 ch=0 lo=5 hi=*\n" "step=1\n" "drift=2\n" "req=p0\n" ""
+    ∷ parts "chan=1\n" "p=0 ch=0 lo=5\n" "step=1\n" "drift=2\n" "req=p0\n" ""
+    ∷ parts "chan=1\n" "p=0 ch=0 lo=-0 hi=*\n" "step=1\n" "drift=2\n" "req=p0\n" ""
+    ∷ parts "chan=1\n" "p=0 ch=0 lo=2147483648 hi=*\n" "step=1\n" "drift=2\n" "req=p0\n" ""
+    ∷ parts "chan=1\n" "p=0 ch=0 lo=* hi=-2147483648\n" "step=1\n" "drift=2\n" "req=p0\n" ""
+    ∷ parts "chan=1\n" "p=0 ch=0 lo=* hi=*\np=0 ch=0 lo=1 hi=*\n" "step=1\n" "drift=2\n" "req=p0\n" ""
+    ∷ parts "chan=1\n" "" "step=1\n" "drift=2\n" "req=p0\n" "req=p0\n"
+    ∷ parts "chan=1\n" "" "step=1\n" "drift=2\n" "req=p0\n" "t=0 src=m v0=1 v1=2\n"
+    ∷ parts "chan=2\n" "" "step=1\n" "drift=2\n" "req=p0\n" "t=0 src=m v0=1\n"
+    ∷ parts "chan=2\n" "" "step=1\n" "drift=2\n" "req=p0\n" "t=0 src=m v1=1 v0=2\n"
+    ∷ parts "chan=1\n" "" "step=1\n" "drift=2\n" "req=p0\n" "t=0 src=x v0=1\n"
+    ∷ parts "chan=1\n" "" "step=1\n" "drift=2\n" "req=p0\n" "t=4294967296 src=f v0=1\n"
+    ∷ []
+
+-- ends that a later number judges; predicates in any order, one free; no requirement, one with spaces; rows behind a channel count out of range, which are unread;
+-- filled rows out of order and beyond the range of values
+abbrev pub accepted : List (List ℕ)
+accepted =
+    example
+    ∷ parts "chan=1\n" "" "step=0\n" "drift=4294967295\n" "req=\n" ""
+    ∷ parts "chan=1\n" "p=15 ch=4294967295 lo=9 hi=-9\np=2 ch=0 lo=* hi=*\n" "step=1\n" "drift=2\n" "req= p0 \n" ""
+    ∷ parts "chan=0\n" "" "step=1\n" "drift=2\n" "req=p0\n" "anything\r, no line feed"
+    ∷ parts "chan=9\n" "" "step=1\n" "drift=2\n" "req=p0\n" "req=p1\n"
+    ∷ parts "chan=2\n" "" "step=1\n" "drift=2\n" "req=p0\n" "t=9 src=f v0=-2147483647 v1=0\nt=4294967295 src=f v0=7 v1=2147483647\nt=0 src=m v0=1 v1=-1\n"
+    ∷ []

@@ -1,0 +1,177 @@
+//! What one accepted sheet must satisfy, without any other implementation.
+
+use peer::answer::{answer, Answer};
+use peer::between::{claims, contradicted};
+use peer::generate::draft::Draft;
+use peer::generate::prng::Prng;
+use peer::generate::sheets::{filled, Sound};
+use peer::grammar::read_requirement;
+use peer::history::{Courses, History};
+use peer::levels::margin_by_levels;
+use peer::margin::Margins;
+use peer::predicate::{Predicate, Range, UNSET};
+use peer::sheet::read_sheet;
+use peer::strengthen::Strengthening;
+use peer::table::Table;
+use peer::truth::{Samples, Truth};
+use peer::verdict::{verdict, Verdict};
+
+pub type Checked = Result<(), String>;
+
+fn same<T: PartialEq + std::fmt::Debug>(what: &str, one: T, other: T) -> Checked {
+    if one == other {
+        Ok(())
+    } else {
+        Err(format!("{what}: {one:?} and {other:?}"))
+    }
+}
+
+fn ensure(condition: bool, what: impl Fn() -> String) -> Checked {
+    if condition {
+        Ok(())
+    } else {
+        Err(what())
+    }
+}
+
+/// The readers give back what the sheet was written from.
+pub fn read_back(sound: &Sound) -> Checked {
+    let draft = &sound.draft;
+    let text = draft.text();
+    let sheet = read_sheet(&text).map_err(|refusal| format!("sheet refused: {refusal:?}"))?;
+    same("channels", sheet.channels, draft.channels)?;
+    same("step", sheet.step, draft.step)?;
+    same("drift", sheet.drift, draft.drift)?;
+    same("requirement", &text[sheet.requirement], &draft.requirement[..])?;
+    for number in 0..16 {
+        same("predicate", sheet.predicates[number as usize], drafted(draft, number))?;
+    }
+    let table = read_requirement(&draft.requirement);
+    same("table", table, Ok(Table::of_tree(&sound.tree)))
+}
+
+fn drafted(draft: &Draft, number: u64) -> Predicate {
+    let Some(line) = draft.predicates.iter().find(|line| line.number == number) else {
+        return UNSET;
+    };
+    let range = match (line.lo, line.hi) {
+        (None, None) => Range::Free,
+        (Some(lo), None) => Range::AtLeast(lo),
+        (None, Some(hi)) => Range::AtMost(hi),
+        (Some(lo), Some(hi)) => Range::Between(lo, hi),
+    };
+    Predicate { channel: line.channel, range }
+}
+
+/// "No figure in a well-written filled row reaches an answer."
+pub fn filled_unread(draft: &Draft, rng: &mut Prng) -> Checked {
+    let mut other = draft.clone();
+    for row in other.rows.iter_mut().filter(|row| !row.measured) {
+        *row = filled(rng, draft.channels);
+    }
+    same("answers with other filled rows", answer(&draft.text()), answer(&other.text()))
+}
+
+/// Margins by a second way, their signs by truth, and strengthened ones never above plain ones.
+pub fn margins(accepted: &Answer) -> Checked {
+    let (predicates, recording) = (&accepted.predicates, &accepted.recording);
+    let trees = accepted.table.trees();
+    let mut margins = Margins::over(predicates, recording);
+    let samples = Samples { predicates, recording };
+    let mut truth = Truth::over(&samples);
+    for tree in &trees {
+        let signs: Vec<bool> = margins.of(tree).iter().map(|&margin| margin > 0).collect();
+        same("sign of the margin and truth", signs, truth.of(tree).to_vec())?;
+        ensure(!margins.of(tree).contains(&0), || "a margin of 0".to_string())?;
+    }
+    let root = &trees[trees.len() - 1];
+    let mut strengthening = Strengthening::by(accepted.step);
+    let pushed = strengthening.push(root, false);
+    let (hold, fail) = (accepted.judgement.hold, accepted.judgement.fail);
+    for (what, tree, margin) in [
+        ("margin", pushed, accepted.margin),
+        ("hold", strengthening.strengthened(root, false), hold),
+        ("fail", strengthening.strengthened(root, true), fail),
+    ] {
+        same(what, margin, margin_by_levels(&tree, predicates, recording))?;
+    }
+    ensure(hold <= accepted.margin, || "hold above the margin".to_string())?;
+    ensure(fail <= -accepted.margin, || "fail above the negated margin".to_string())?;
+    let shown = match accepted.judgement.verdict {
+        Verdict::Holds => accepted.margin > 0,
+        Verdict::Fails => accepted.margin < 0,
+        Verdict::NotShown => true,
+    };
+    ensure(shown, || "the verdict contradicts the samples".to_string())
+}
+
+/// What trying histories came to.
+pub enum Tried {
+    /// Every history there is, so many.
+    All(u128),
+    /// Some of them.
+    Some,
+    /// The span is too long.
+    None,
+}
+
+const LONGEST_SPAN: i64 = 60;
+const MOST_HISTORIES: u128 = 2_500;
+const DRAWN_HISTORIES: usize = 24;
+
+/// Demand 3, asked of all histories where they are few, else of some drawn at random.
+pub fn histories(accepted: &Answer, rng: &mut Prng) -> Result<Tried, String> {
+    let recording = &accepted.recording;
+    if recording.time(recording.rows() - 1) - recording.time(0) > LONGEST_SPAN {
+        return Ok(Tried::None);
+    }
+    let claims = work_claims(accepted)?;
+    let courses = Courses::of(recording, accepted.step, accepted.drift);
+    let count = courses.count();
+    let mut found = None;
+    let mut ask = |history: &History| {
+        if found.is_none() {
+            found = contradicted(&claims, &accepted.predicates, history, accepted.step)
+                .map(|(claim, second)| format!("{claim:?} at second {second} of {history:?}"));
+        }
+    };
+    if count <= MOST_HISTORIES {
+        courses.each(&mut ask);
+    } else {
+        for _ in 0..DRAWN_HISTORIES {
+            ask(&drawn(&courses, rng));
+        }
+    }
+    match found {
+        Some(contradiction) => Err(format!("a history contradicts {contradiction}")),
+        None if count <= MOST_HISTORIES => Ok(Tried::All(count)),
+        None => Ok(Tried::Some),
+    }
+}
+
+fn work_claims(accepted: &Answer) -> Result<Vec<peer::between::Claim>, String> {
+    let (table, recording) = (&accepted.table, &accepted.recording);
+    let mut work = vec![0; 2 * table.count() * recording.rows()];
+    let (step, drift) = (accepted.step, accepted.drift);
+    let judgement = verdict(table, &accepted.predicates, recording, step, drift, &mut work)
+        .map_err(|refusal| format!("accepted, then refused: {refusal:?}"))?;
+    let claims = claims(table, recording, drift, &work);
+    // The verdict itself is the claim on the root at the first sample.
+    let root = table.count() - 1;
+    let first = |truth| {
+        claims.iter().any(|c| c.node == root && c.time == recording.time(0) && c.truth == truth)
+    };
+    ensure(first(true) == (judgement.verdict == Verdict::Holds), || "holds".to_string())?;
+    ensure(first(false) == (judgement.verdict == Verdict::Fails), || "fails".to_string())?;
+    Ok(claims)
+}
+
+/// One history: mostly the ends of what is allowed, where contradictions are likeliest.
+fn drawn(courses: &Courses, rng: &mut Prng) -> History {
+    let ends_only = rng.once_in(2);
+    courses.history(|choice| match rng.below(if ends_only { 2 } else { 3 }) {
+        0 => choice.least,
+        1 => choice.most,
+        _ => rng.between(choice.least, choice.most),
+    })
+}

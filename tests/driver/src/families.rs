@@ -1,0 +1,206 @@
+//! Families of cases. Each case comes from its seed alone.
+
+use crate::checks::{self, Tried};
+use crate::compare::{self, Others};
+use crate::tally::Tally;
+use peer::answer::{judge_sheet, printed, Answer};
+use peer::generate::calls::{call, long, Foretold};
+use peer::generate::damage::{damaged, damaged_requirement};
+use peer::generate::faults::{bad_requirement, faulty};
+use peer::generate::limits::limits;
+use peer::generate::prng::Prng;
+use peer::generate::sheets::{sound, tiny, Sound};
+use peer::refusal::Refusal;
+use peer::verdict::Verdict;
+
+/// What a case needs: whom to ask, and where to count.
+pub struct Bench<'a> {
+    pub others: &'a Others,
+    pub tally: &'a mut Tally,
+    /// Whether this case is put to the program too: starting one costs a millisecond.
+    pub ask_program: bool,
+}
+
+pub struct Failure {
+    pub input: Vec<u8>,
+    pub what: String,
+}
+
+pub type Run = fn(&mut Bench, &mut Prng) -> Result<(), Failure>;
+
+pub struct Family {
+    pub name: &'static str,
+    /// How many cases of a thousand.
+    pub share: u64,
+    pub run: Run,
+}
+
+pub const FAMILIES: [Family; 7] = [
+    Family { name: "sound", share: 200, run: sound_sheet },
+    Family { name: "tiny", share: 100, run: tiny_sheet },
+    Family { name: "faulty", share: 250, run: faulty_sheet },
+    Family { name: "damaged", share: 200, run: damaged_sheet },
+    Family { name: "calls", share: 150, run: library_call },
+    Family { name: "requirements", share: 50, run: requirement_text },
+    Family { name: "rows", share: 50, run: rows_text },
+];
+
+/// Recordings as long as the library takes: slow by the literal definitions, so for long runs.
+pub const LONG: Family = Family { name: "long", share: 0, run: long_call };
+
+fn at<T>(input: &[u8], result: Result<T, String>) -> Result<T, Failure> {
+    result.map_err(|what| Failure { input: input.to_vec(), what })
+}
+
+/// The peer's answer, compared with the others'.
+fn answered(bench: &mut Bench, text: &[u8]) -> Result<Result<Answer, Refusal>, Failure> {
+    let outcome = judge_sheet(text);
+    let line = printed(&outcome);
+    bench.tally.add(kind_of_answer(&line));
+    at(text, compare::answers(bench.others, text, &line))?;
+    at(text, compare::sheets(bench.others, text))?;
+    if bench.ask_program {
+        at(text, compare::program(bench.others, text, &line))?;
+    }
+    Ok(outcome)
+}
+
+/// The refusal or the verdict of a printed line.
+fn kind_of_answer(line: &[u8]) -> String {
+    let line = String::from_utf8_lossy(line);
+    let last = line.trim_end().rsplit(' ').next().unwrap_or_default();
+    format!("answer {last}")
+}
+
+fn sound_sheet(bench: &mut Bench, rng: &mut Prng) -> Result<(), Failure> {
+    let sound = sound(rng);
+    accepted(bench, rng, &sound)
+}
+
+fn tiny_sheet(bench: &mut Bench, rng: &mut Prng) -> Result<(), Failure> {
+    let sound = tiny(rng);
+    accepted(bench, rng, &sound)
+}
+
+fn accepted(bench: &mut Bench, rng: &mut Prng, sound: &Sound) -> Result<(), Failure> {
+    let text = sound.draft.text();
+    at(&text, checks::read_back(sound))?;
+    at(&text, checks::filled_unread(&sound.draft, rng))?;
+    let outcome = answered(bench, &text)?;
+    let answer = at(&text, outcome.map_err(|refusal| format!("a sound sheet: {refusal:?}")))?;
+    at(&text, checks::margins(&answer))?;
+    match at(&text, checks::histories(&answer, rng))? {
+        Tried::All(0) => bench.tally.add("histories: there is none"),
+        Tried::All(count) => {
+            bench.tally.add("histories: all tried");
+            bench.tally.add_many("histories in all", count as u64);
+            if answer.judgement.verdict != Verdict::NotShown {
+                bench.tally.add("histories: a verdict tried on all");
+            }
+        }
+        Tried::Some => bench.tally.add("histories: some tried"),
+        Tried::None => bench.tally.add("histories: too long a span"),
+    }
+    Ok(())
+}
+
+fn faulty_sheet(bench: &mut Bench, rng: &mut Prng) -> Result<(), Failure> {
+    let (text, number) = faulty(rng);
+    let outcome = answered(bench, &text)?;
+    let given = outcome.err().map_or(0, Refusal::number);
+    if given != number {
+        return at(&text, Err(format!("faults of number {number} put in, refused by {given}")));
+    }
+    Ok(())
+}
+
+fn damaged_sheet(bench: &mut Bench, rng: &mut Prng) -> Result<(), Failure> {
+    let text = damaged(rng);
+    answered(bench, &text).map(|_| ())
+}
+
+fn library_call(bench: &mut Bench, rng: &mut Prng) -> Result<(), Failure> {
+    foretold_call(bench, &call(rng))
+}
+
+fn long_call(bench: &mut Bench, rng: &mut Prng) -> Result<(), Failure> {
+    foretold_call(bench, &long(rng))
+}
+
+fn foretold_call(bench: &mut Bench, foretold: &Foretold) -> Result<(), Failure> {
+    let shown = format!("{:?}\n", foretold.call).into_bytes();
+    let (margin, verdict) = at(&shown, compare::calls(bench.others, &foretold.call))?;
+    if (margin, verdict) != (foretold.margin, foretold.verdict) {
+        let wanted = (foretold.margin, foretold.verdict);
+        return at(&shown, Err(format!("refused by {:?}, foretold {wanted:?}", (margin, verdict))));
+    }
+    bench.tally.add(format!("margin call refused={margin}"));
+    bench.tally.add(format!("verdict call refused={verdict}"));
+    Ok(())
+}
+
+fn requirement_text(bench: &mut Bench, rng: &mut Prng) -> Result<(), Failure> {
+    let broken = rng.once_in(5);
+    let text = if broken { bad_requirement(rng) } else { damaged_requirement(rng) };
+    let refusal = at(&text, compare::requirements(bench.others, &text))?;
+    if broken && refusal != 2 {
+        return at(&text, Err("a bad requirement was read".to_string()));
+    }
+    bench.tally.add(format!("requirement refused={refusal}"));
+    Ok(())
+}
+
+fn rows_text(bench: &mut Bench, rng: &mut Prng) -> Result<(), Failure> {
+    let draft = sound(rng).draft;
+    let text = if rng.once_in(4) { damaged(rng) } else { draft.text() };
+    // Damage may have moved the head's end; the rows' text is then some other text.
+    let head = draft.text().len() - rows_length(&draft.text(), draft.head_lines());
+    let rows = &text[head.min(text.len())..];
+    let channels = if rng.once_in(10) { rng.pick(&[0, 9, u64::MAX]) } else { draft.channels };
+    let measured = draft.measured().len();
+    let times = (measured + rng.below(4)).saturating_sub(rng.below(2));
+    let values = (measured * draft.channels as usize + rng.below(9)).saturating_sub(rng.below(3));
+    let refusal = at(rows, compare::rows(bench.others, rows, channels, (times, values)))?;
+    bench.tally.add(format!("rows refused={refusal}"));
+    Ok(())
+}
+
+fn rows_length(text: &[u8], head_lines: usize) -> usize {
+    text.split_inclusive(|&byte| byte == b'\n').skip(head_lines).map(<[u8]>::len).sum()
+}
+
+/// Sheets at each limit: the same in every run, always put to the program too.
+pub fn limit_sheets(bench: &mut Bench) -> Result<(), Failure> {
+    for limit in limits() {
+        let line = printed(&answered(bench, &limit.text)?);
+        if line != limit.line.as_bytes() {
+            let line = String::from_utf8_lossy(&line).into_owned();
+            return at(&limit.text, Err(format!("{}: {line:?}, not {:?}", limit.name, limit.line)));
+        }
+        bench.tally.add("limits");
+    }
+    limit_rows(bench)
+}
+
+/// The row reader's own limits, which no program's room hides.
+fn limit_rows(bench: &mut Bench) -> Result<(), Failure> {
+    let row = b"t=0 src=m v0=0\n";
+    for (count, lengths, wanted) in [
+        (4_096, (5_000, 5_000), 0),
+        (4_097, (5_000, 5_000), 5),
+        (4_096, (4_095, 5_000), 5),
+        (4_096, (4_096, 4_095), 5),
+        (4_096, (4_096, 4_096), 0),
+        (0, (0, 0), 0),
+        (1, (0, 9), 5),
+        (1, (9, 0), 5),
+    ] {
+        let text = row.repeat(count);
+        let refusal = at(&text, compare::rows(bench.others, &text, 1, lengths))?;
+        if refusal != wanted {
+            return at(&text, Err(format!("{count} rows: refused by {refusal}, not {wanted}")));
+        }
+        bench.tally.add("limits");
+    }
+    Ok(())
+}

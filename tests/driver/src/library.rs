@@ -1,0 +1,75 @@
+//! The library as the driver calls it: flat numbers and slices, the same for the proved static
+//! library and for the peer in its place.
+//!
+//! A refusal is its number, 0 for none. Places named "handed back" are written in every case,
+//! with what document 01 hands back on refusal; slices named "lent" change as document 01 says.
+
+use peer::limits::{MOST_NODES, PREDICATES};
+
+/// Five numbers for each of 64 nodes: kind, left, right, lo, hi. Places beyond the count are 0.
+pub type Nodes = [u64; 5 * MOST_NODES];
+
+/// Two numbers for each predicate: its range (0 unset, 1 free, 2 at least, 3 at most, 4 between)
+/// and its channel, 0 if unset.
+pub type Ranges = [u64; 2 * PREDICATES];
+
+/// Two numbers for each predicate: lo and hi, 0 where the range has no such end.
+pub type Ends = [i64; 2 * PREDICATES];
+
+#[derive(Clone, PartialEq, Eq, Debug)]
+pub struct FlatTable {
+    pub count: u64,
+    pub nodes: Nodes,
+}
+
+#[derive(Clone, PartialEq, Eq, Debug)]
+pub struct FlatPredicates {
+    pub ranges: Ranges,
+    pub ends: Ends,
+}
+
+/// What margin and verdict are given besides work.
+pub struct FlatCall<'a> {
+    pub table: &'a FlatTable,
+    pub predicates: &'a FlatPredicates,
+    pub channels: u64,
+    pub times: &'a [u64],
+    pub values: &'a [i64],
+}
+
+/// Channels, step, drift, the requirement's first place and the place behind its last, the rows'
+/// first place.
+pub type SheetNumbers = [u64; 6];
+
+#[derive(Clone, PartialEq, Eq, Debug)]
+pub struct FlatSheet {
+    pub numbers: SheetNumbers,
+    pub predicates: FlatPredicates,
+}
+
+pub trait Library {
+    /// The whole answer: the printed line's length. Lent: line, of which the rest keeps its bytes.
+    fn answer(&self, text: &[u8], line: &mut [u8]) -> usize;
+
+    /// Refusal 0 or 1. The sheet counts only under 0.
+    fn sheet(&self, text: &[u8]) -> (u64, FlatSheet);
+
+    /// Refusal 0 or 2 and the table; the empty one, all 0, under 2.
+    fn requirement(&self, text: &[u8]) -> (u64, FlatTable);
+
+    /// Refusal 0, 1, 4 or 5; measured and filled rows, 0 and 0 under a refusal. Lent: times, values.
+    fn rows(
+        &self,
+        text: &[u8],
+        channels: u64,
+        times: &mut [u64],
+        values: &mut [i64],
+    ) -> (u64, [u64; 2]);
+
+    /// Refusal 0 or 3 to 8; the margin, 0 under a refusal. Lent: work.
+    fn margin(&self, call: &FlatCall, work: &mut [i64]) -> (u64, i64);
+
+    /// Refusal 0 or 3 to 11; verdict (0 not shown, 1 holds, 2 fails), hold and fail, all 0 under
+    /// a refusal. Lent: work.
+    fn verdict(&self, call: &FlatCall, step: u64, drift: u64, work: &mut [i64]) -> (u64, [i64; 3]);
+}

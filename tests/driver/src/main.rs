@@ -1,0 +1,180 @@
+//! Compares the peer with the proved library, with the program, and with itself: by second ways
+//! to the same margin, by truth, by histories tried one by one, by faults put in on purpose.
+
+mod arguments;
+mod checks;
+mod compare;
+mod families;
+mod flat;
+mod library;
+mod program;
+#[cfg(any(feature = "proved", test))]
+mod proved;
+#[cfg(all(test, not(feature = "proved")))]
+mod standin;
+mod tally;
+
+use arguments::Arguments;
+use compare::Others;
+use families::{limit_sheets, Bench, Failure, Family, FAMILIES, LONG};
+use peer::generate::prng::{case_seed, Prng};
+use program::Program;
+use std::ops::Range;
+use std::process::ExitCode;
+use std::time::Instant;
+use tally::Tally;
+
+/// Thousands of cases of a run.
+const THOUSANDS: u64 = 100;
+const LONG_THOUSANDS: u64 = 2_000;
+/// Calls with recordings of 4,096 rows.
+const LONG_CASES: u64 = 12;
+/// The cases that are the same in every run.
+const LIMITS: &str = "limits";
+/// Of so many cases one is put to the program too.
+const PROGRAM_EVERY: u64 = 10;
+
+fn main() -> ExitCode {
+    let arguments = match arguments::parse(std::env::args().skip(1)) {
+        Ok(arguments) => arguments,
+        Err(fault) => {
+            eprintln!("{fault}\n{}", arguments::USAGE);
+            return ExitCode::from(2);
+        }
+    };
+    let others = match others(&arguments) {
+        Ok(others) => others,
+        Err(fault) => {
+            eprintln!("{fault}");
+            return ExitCode::from(2);
+        }
+    };
+    match &arguments.only {
+        Some((name, seed)) => only(&others, name, *seed),
+        None => whole_run(&others, &arguments),
+    }
+}
+
+fn others(arguments: &Arguments) -> Result<Others, String> {
+    let program = arguments.program.clone().map(|file| Program { file });
+    let library = if arguments.library { Some(proved_library()?) } else { None };
+    Ok(Others { library, program })
+}
+
+#[cfg(feature = "proved")]
+fn proved_library() -> Result<Box<dyn library::Library>, String> {
+    Ok(Box::new(proved::Proved))
+}
+
+#[cfg(not(feature = "proved"))]
+fn proved_library() -> Result<Box<dyn library::Library>, String> {
+    Err("--library wants a build with --features proved".to_string())
+}
+
+/// Prints what failed, with all that is needed to see it again.
+fn report(family: &str, seed: u64, failure: &Failure) {
+    println!("FAILED: {}", failure.what);
+    println!("again with: --only {family} {seed}");
+    println!("--- input, {} bytes", failure.input.len());
+    println!("{}", String::from_utf8_lossy(&failure.input));
+    println!("---");
+}
+
+fn only(others: &Others, name: &str, seed: u64) -> ExitCode {
+    let mut tally = Tally::default();
+    let mut bench = Bench { others, tally: &mut tally, ask_program: true };
+    let family = FAMILIES.iter().chain([&LONG]).find(|family| family.name == name);
+    let outcome = match family {
+        Some(family) => (family.run)(&mut bench, &mut Prng::new(seed)),
+        None if name == LIMITS => limit_sheets(&mut bench),
+        None => {
+            eprintln!("no family {name}");
+            return ExitCode::from(2);
+        }
+    };
+    match outcome {
+        Ok(()) => {
+            println!("the case passes");
+            ExitCode::SUCCESS
+        }
+        Err(failure) => {
+            report(name, seed, &failure);
+            ExitCode::FAILURE
+        }
+    }
+}
+
+fn whole_run(others: &Others, arguments: &Arguments) -> ExitCode {
+    let begun = Instant::now();
+    let mut tally = Tally::default();
+    let mut bench = Bench { others, tally: &mut tally, ask_program: true };
+    if let Err(failure) = limit_sheets(&mut bench) {
+        report(LIMITS, 0, &failure);
+        return ExitCode::FAILURE;
+    }
+    let thousands = if arguments.long { LONG_THOUSANDS } else { THOUSANDS };
+    // A thousand at a time, so that every family has its turn early.
+    for thousand in 0..thousands {
+        for (place, family) in FAMILIES.iter().enumerate() {
+            // Each family has its own seeds, so that changing one leaves the others' cases.
+            let run = case_seed(arguments.seed, place as u64);
+            let cases = thousand * family.share..(thousand + 1) * family.share;
+            if !run_family(others, &mut tally, family, run, cases) {
+                return ExitCode::FAILURE;
+            }
+        }
+    }
+    if arguments.long && !run_family(others, &mut tally, &LONG, arguments.seed, 0..LONG_CASES) {
+        return ExitCode::FAILURE;
+    }
+    if arguments.histogram {
+        tally.print();
+    }
+    let missing = tally.missing(&wanted(thousands));
+    if !missing.is_empty() {
+        println!("FAILED: too rare to say anything: {missing:?}");
+        return ExitCode::FAILURE;
+    }
+    let seconds = begun.elapsed().as_secs();
+    println!("{} cases agree ({seconds} s)", thousands * 1_000 + tally.count("limits"));
+    ExitCode::SUCCESS
+}
+
+fn run_family(
+    others: &Others,
+    tally: &mut Tally,
+    family: &Family,
+    run: u64,
+    cases: Range<u64>,
+) -> bool {
+    for case in cases {
+        let seed = case_seed(run, case);
+        let ask_program = case % PROGRAM_EVERY == 0;
+        let mut bench = Bench { others, tally, ask_program };
+        if let Err(failure) = (family.run)(&mut bench, &mut Prng::new(seed)) {
+            report(family.name, seed, &failure);
+            return false;
+        }
+    }
+    true
+}
+
+/// What must come up, and how often: every refusal and every verdict, of every entry point.
+fn wanted(thousands: u64) -> Vec<(String, u64)> {
+    let mut wanted = Vec::new();
+    let mut each = |what: &str, numbers: &[u64], least: u64| {
+        wanted.extend(numbers.iter().map(|number| (format!("{what}{number}"), least * thousands)));
+    };
+    each("answer refused=", &[1, 2, 3, 4, 5, 6, 7, 8, 9, 10, 11], 5);
+    each("margin call refused=", &[0, 3, 4, 5, 6, 7, 8], 3);
+    each("verdict call refused=", &[0, 3, 4, 5, 6, 7, 8, 9, 10, 11], 2);
+    each("requirement refused=", &[0, 2], 10);
+    each("rows refused=", &[0, 1, 4, 5], 2);
+    for verdict in ["holds", "fails", "unshown"] {
+        wanted.push((format!("answer verdict={verdict}"), 20 * thousands));
+    }
+    for histories in ["there is none", "all tried", "some tried", "a verdict tried on all"] {
+        wanted.push((format!("histories: {histories}"), 10 * thousands));
+    }
+    wanted
+}

@@ -1,0 +1,157 @@
+//! The peer behind the proved library's C names: so that the declarations and the flat numbers
+//! are tried where no proved library is at hand. Also what an exports crate is to look like.
+
+use crate::flat::Peer;
+use crate::library::{FlatCall, FlatPredicates, FlatTable, Library};
+use std::slice::{from_raw_parts, from_raw_parts_mut};
+
+#[no_mangle]
+unsafe extern "C" fn varmityep_answer(
+    text: *const u8,
+    text_len: usize,
+    line: *mut u8,
+    line_len: usize,
+) -> usize {
+    Peer.answer(from_raw_parts(text, text_len), from_raw_parts_mut(line, line_len))
+}
+
+#[no_mangle]
+unsafe extern "C" fn varmityep_sheet(
+    text: *const u8,
+    text_len: usize,
+    numbers: *mut u64,
+    numbers_len: usize,
+    ranges: *mut u64,
+    ranges_len: usize,
+    ends: *mut i64,
+    ends_len: usize,
+) -> u64 {
+    let (refusal, sheet) = Peer.sheet(from_raw_parts(text, text_len));
+    from_raw_parts_mut(numbers, numbers_len).copy_from_slice(&sheet.numbers);
+    from_raw_parts_mut(ranges, ranges_len).copy_from_slice(&sheet.predicates.ranges);
+    from_raw_parts_mut(ends, ends_len).copy_from_slice(&sheet.predicates.ends);
+    refusal
+}
+
+#[no_mangle]
+unsafe extern "C" fn varmityep_requirement(
+    text: *const u8,
+    text_len: usize,
+    nodes: *mut u64,
+    nodes_len: usize,
+    count: *mut u64,
+    count_len: usize,
+) -> u64 {
+    let (refusal, table) = Peer.requirement(from_raw_parts(text, text_len));
+    from_raw_parts_mut(nodes, nodes_len).copy_from_slice(&table.nodes);
+    from_raw_parts_mut(count, count_len).copy_from_slice(&[table.count]);
+    refusal
+}
+
+#[no_mangle]
+unsafe extern "C" fn varmityep_rows(
+    text: *const u8,
+    text_len: usize,
+    channels: u64,
+    times: *mut u64,
+    times_len: usize,
+    values: *mut i64,
+    values_len: usize,
+    counts: *mut u64,
+    counts_len: usize,
+) -> u64 {
+    let times = from_raw_parts_mut(times, times_len);
+    let values = from_raw_parts_mut(values, values_len);
+    let (refusal, handed) = Peer.rows(from_raw_parts(text, text_len), channels, times, values);
+    from_raw_parts_mut(counts, counts_len).copy_from_slice(&handed);
+    refusal
+}
+
+/// The flat parts that margin and verdict share, as the types of the trait.
+unsafe fn parts(
+    nodes: *const u64,
+    count: u64,
+    ranges: *const u64,
+    ends: *const i64,
+) -> (FlatTable, FlatPredicates) {
+    let nodes = from_raw_parts(nodes, 320).try_into().expect("320 numbers");
+    let ranges = from_raw_parts(ranges, 32).try_into().expect("32 numbers");
+    let ends = from_raw_parts(ends, 32).try_into().expect("32 numbers");
+    (FlatTable { count, nodes }, FlatPredicates { ranges, ends })
+}
+
+#[no_mangle]
+unsafe extern "C" fn varmityep_margin(
+    nodes: *const u64,
+    _nodes_len: usize,
+    count: u64,
+    ranges: *const u64,
+    _ranges_len: usize,
+    ends: *const i64,
+    _ends_len: usize,
+    channels: u64,
+    times: *const u64,
+    times_len: usize,
+    values: *const i64,
+    values_len: usize,
+    work: *mut i64,
+    work_len: usize,
+    result: *mut i64,
+    result_len: usize,
+) -> u64 {
+    let (table, predicates) = parts(nodes, count, ranges, ends);
+    let (times, values) = (from_raw_parts(times, times_len), from_raw_parts(values, values_len));
+    let call = FlatCall { table: &table, predicates: &predicates, channels, times, values };
+    let (refusal, margin) = Peer.margin(&call, from_raw_parts_mut(work, work_len));
+    from_raw_parts_mut(result, result_len).copy_from_slice(&[margin]);
+    refusal
+}
+
+#[no_mangle]
+unsafe extern "C" fn varmityep_verdict(
+    nodes: *const u64,
+    _nodes_len: usize,
+    count: u64,
+    ranges: *const u64,
+    _ranges_len: usize,
+    ends: *const i64,
+    _ends_len: usize,
+    channels: u64,
+    times: *const u64,
+    times_len: usize,
+    values: *const i64,
+    values_len: usize,
+    step: u64,
+    drift: u64,
+    work: *mut i64,
+    work_len: usize,
+    result: *mut i64,
+    result_len: usize,
+) -> u64 {
+    let (table, predicates) = parts(nodes, count, ranges, ends);
+    let (times, values) = (from_raw_parts(times, times_len), from_raw_parts(values, values_len));
+    let call = FlatCall { table: &table, predicates: &predicates, channels, times, values };
+    let (refusal, handed) = Peer.verdict(&call, step, drift, from_raw_parts_mut(work, work_len));
+    from_raw_parts_mut(result, result_len).copy_from_slice(&handed);
+    refusal
+}
+
+#[test]
+fn the_peer_behind_the_c_names_agrees_with_itself() {
+    use crate::compare::Others;
+    use crate::families::{limit_sheets, Bench, FAMILIES};
+    use crate::proved::Proved;
+    use crate::tally::Tally;
+    use peer::generate::prng::{case_seed, Prng};
+
+    let others = Others { library: Some(Box::new(Proved)), program: None };
+    let mut tally = Tally::default();
+    let mut bench = Bench { others: &others, tally: &mut tally, ask_program: false };
+    assert!(limit_sheets(&mut bench).is_ok());
+    for family in &FAMILIES {
+        for case in 0..300 {
+            let run = (family.run)(&mut bench, &mut Prng::new(case_seed(7, case)));
+            assert!(run.is_ok(), "{} {}", family.name, run.err().map_or(String::new(), |f| f.what));
+        }
+    }
+}

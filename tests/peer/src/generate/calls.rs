@@ -1,0 +1,292 @@
+//! Calls of the library's entry points with tables that no text gives (shared nodes, nodes that
+//! the root doesn't reach) and with numbers that no sheet can hold.
+
+use super::prng::Prng;
+use super::requirements::Taste;
+use crate::limits::{LARGEST_VALUE, LAST_TIME, NO_END};
+use crate::predicate::{Predicate, Predicates, Range, UNSET};
+use crate::recording::Recording;
+use crate::table::{kind, Node, Table};
+
+/// What margin and verdict are given.
+#[derive(Clone, Debug)]
+pub struct Call {
+    pub table: Table,
+    pub predicates: Predicates,
+    pub recording: Recording,
+    pub step: u64,
+    pub drift: u64,
+    /// The work slice as it is lent, with noise in it.
+    pub work: Vec<i64>,
+}
+
+/// A call, and the numbers that it must be refused by: of the margin and of the verdict, 0 for
+/// none.
+pub struct Foretold {
+    pub call: Call,
+    pub margin: u64,
+    pub verdict: u64,
+}
+
+pub fn call(rng: &mut Prng) -> Foretold {
+    let mut call = sound(rng);
+    let mut faults: Vec<u64> = if rng.once_in(2) {
+        Vec::new()
+    } else {
+        (0..1 + rng.below(2)).map(|_| rng.pick(&[3, 4, 5, 6, 7, 9, 10, 11])).collect()
+    };
+    // A fault of a lower number may undo one of a higher number, and wins anyway.
+    faults.sort_unstable_by(|one, other| other.cmp(one));
+    faults.dedup();
+    for &fault in &faults {
+        put(rng, &mut call, fault);
+    }
+    let cells = call.table.count() * call.recording.rows();
+    let length = lent(rng, cells);
+    call.work = (0..length).map(|_| rng.word() as i64).collect();
+    let first = |mut numbers: Vec<u64>, short: bool, least: u64, most: u64| {
+        numbers.extend(short.then_some(8));
+        numbers.into_iter().filter(|number| (least..=most).contains(number)).min().unwrap_or(0)
+    };
+    Foretold {
+        margin: first(faults.clone(), length < cells, 3, 8),
+        verdict: first(faults, length < 2 * cells, 3, 11),
+        call,
+    }
+}
+
+/// A call with 4,096 rows, a nested pair of windows among them; sometimes one row too many.
+pub fn long(rng: &mut Prng) -> Foretold {
+    let mut call = sound(rng);
+    let rows = if rng.once_in(6) { 4_097 } else { 4_096 };
+    let channels = call.recording.channels;
+    let value = |rng: &mut Prng| rng.between(-(call.drift as i64), call.drift as i64);
+    call.recording.times = (1..=rows).map(|row| row * call.step).collect();
+    call.recording.values = (0..rows * channels).map(|_| value(rng)).collect();
+    let taste = Taste { predicates: vec![0], unit: call.step as i64, reach: 100 };
+    let windows = [taste.window(rng), taste.window(rng)].map(|window| window.numbers());
+    let [(lo, hi), (inner_lo, inner_hi)] = windows;
+    let leaf = Node { kind: kind::PREDICATE, ..Node::default() };
+    let kind = rng.pick(&[kind::UNTIL, kind::RELEASE]);
+    // Endless windows are for the outer operators, whose left side costs nothing.
+    let inner = Node { kind, left: 0, right: 0, lo: inner_lo, hi: inner_hi.min(inner_lo + 200) };
+    let outer =
+        Node { kind: rng.pick(&[kind::EVENTUALLY, kind::ALWAYS]), left: 1, right: 0, lo, hi };
+    call.table = Table { nodes: vec![leaf, inner, outer] };
+    call.work = vec![-7; 2 * 3 * rows as usize + 1];
+    let refusal = if rows > 4_096 { 5 } else { 0 };
+    Foretold { call, margin: refusal, verdict: refusal }
+}
+
+/// Lengths about what margin and verdict need.
+fn lent(rng: &mut Prng, cells: usize) -> usize {
+    let about = rng.pick(&[cells, 2 * cells, 2 * cells, 2 * cells + 9]);
+    match rng.below(6) {
+        0 => about.saturating_sub(1),
+        1 => about + 1,
+        2 if rng.once_in(4) => 0,
+        _ => about,
+    }
+}
+
+fn sound(rng: &mut Prng) -> Call {
+    let channels = 1 + rng.below(3) as u64;
+    let rows = if rng.once_in(12) { 40 + rng.below(30) } else { 1 + rng.below(12) };
+    let step = rng.pick(&[1, 1, 2, 3, 10]);
+    let drift = rng.below(5) as u64;
+    let mut times = vec![rng.below(9) as u64];
+    let mut values: Vec<i64> = (0..channels).map(|_| rng.between(-6, 6)).collect();
+    for row in 1..rows {
+        times.push(times[row - 1] + rng.between(1, step as i64) as u64);
+        for _ in 0..channels {
+            let before = values[values.len() - channels as usize];
+            values.push(before + rng.between(-2 * drift as i64, 2 * drift as i64));
+        }
+    }
+    let mut predicates = [UNSET; 16];
+    for predicate in predicates.iter_mut() {
+        if !rng.once_in(4) {
+            *predicate =
+                Predicate { channel: rng.below(channels as usize) as u64, range: range(rng) };
+        }
+    }
+    predicates[0].range = Range::AtLeast(rng.between(-8, 8));
+    let recording = Recording { channels, times, values };
+    let table = table(rng, &predicates, step as i64);
+    Call { table, predicates, recording, step, drift, work: Vec::new() }
+}
+
+fn range(rng: &mut Prng) -> Range {
+    let (one, other) = (rng.between(-12, 12), rng.between(-12, 12));
+    match rng.below(7) {
+        0 => Range::Free,
+        1 | 2 => Range::AtLeast(one),
+        3 | 4 => Range::AtMost(one),
+        _ => Range::Between(one.min(other), one.max(other)),
+    }
+}
+
+/// Children are any earlier nodes, mostly late ones, so that many are shared and some unreached.
+fn table(rng: &mut Prng, predicates: &Predicates, unit: i64) -> Table {
+    let set: Vec<usize> = (0..16).filter(|&number| predicates[number].is_set()).collect();
+    let taste = Taste { predicates: set, unit, reach: 12 };
+    let count = if rng.once_in(15) { 64 } else { 1 + rng.below(12) };
+    let mut nodes = Vec::new();
+    for k in 0..count {
+        let node =
+            if k == 0 || rng.once_in(3) { leaf(rng, &taste) } else { operator(rng, &taste, k) };
+        nodes.push(node);
+    }
+    Table { nodes }
+}
+
+fn leaf(rng: &mut Prng, taste: &Taste) -> Node {
+    if rng.once_in(10) {
+        Node { kind: kind::TRUE, ..Node::default() }
+    } else {
+        Node { kind: kind::PREDICATE, left: rng.pick(&taste.predicates) as u64, ..Node::default() }
+    }
+}
+
+fn operator(rng: &mut Prng, taste: &Taste, k: usize) -> Node {
+    let child = |rng: &mut Prng| {
+        let back = 1 + rng.below(4);
+        (k - 1 - rng.below(k.min(back))) as u64
+    };
+    let kind = kind::NOT + rng.below(7) as u64;
+    let left = child(rng);
+    let binary = matches!(kind, kind::AND | kind::OR | kind::UNTIL | kind::RELEASE);
+    let right = if binary { child(rng) } else { 0 };
+    let (lo, hi) = if kind >= kind::UNTIL { taste.window(rng).numbers() } else { (0, 0) };
+    Node { kind, left, right, lo, hi }
+}
+
+fn put(rng: &mut Prng, call: &mut Call, fault: u64) {
+    match fault {
+        3 => break_table(rng, call),
+        4 => break_channels_or_predicate(rng, call),
+        5 => break_samples(rng, call),
+        6 => break_times(rng, call),
+        7 => {
+            let place = rng.below(call.recording.values.len());
+            let beyond = [LARGEST_VALUE + 1, -LARGEST_VALUE - 1, i64::MAX, i64::MIN];
+            call.recording.values[place] = rng.pick(&beyond);
+        }
+        9 => match rng.below(3) {
+            0 => call.step = 0,
+            1 => call.step = rng.pick(&[1_000_000_001, u64::MAX]),
+            _ => call.drift = rng.pick(&[1_000_000_001, u64::MAX]),
+        },
+        10 => {
+            two_rows(call);
+            let place = rng.below(call.recording.rows() - 1);
+            let times = &mut call.recording.times;
+            let wider = call.step + 1 - (times[place + 1] - times[place]).min(call.step);
+            times[place + 1..].iter_mut().for_each(|time| *time += wider);
+        }
+        _ => {
+            two_rows(call);
+            let place = rng.below(call.recording.values.len() - call.recording.channels as usize);
+            let jump = 2 * call.drift as i64 + 1;
+            let after = place + call.recording.channels as usize;
+            call.recording.values[after] = call.recording.values[place] + rng.pick(&[jump, -jump]);
+        }
+    }
+}
+
+fn two_rows(call: &mut Call) {
+    if call.recording.rows() == 1 {
+        let recording = &mut call.recording;
+        recording.times.push(recording.times[0] + 1);
+        recording.values.extend_from_within(..);
+    }
+}
+
+fn break_table(rng: &mut Prng, call: &mut Call) {
+    let nodes = &mut call.table.nodes;
+    let place = rng.below(nodes.len());
+    let k = place as u64;
+    let far = rng.pick(&[k, k + 1, u64::MAX]);
+    let odd = rng.pick(&[1, 5, u64::MAX]);
+    let node = |kind, left, right, lo, hi| Node { kind, left, right, lo, hi };
+    nodes[place] = match rng.below(12) {
+        0 => node(9 + odd % 9, 0, 0, 0, 0),
+        1 => node(0, odd, 0, 0, 0),
+        2 => node(rng.below(2) as u64, 0, odd, 0, 0),
+        3 => node(rng.below(2) as u64, 0, 0, rng.pick(&[0, odd]), odd),
+        4 => node(1, rng.pick(&[16, 17, u64::MAX]), 0, 0, 0),
+        5 => node(2 + rng.below(7) as u64, far, 0, 0, 0),
+        6 => node(3 + rng.below(4) as u64, 0, far, 0, 0),
+        7 => node(2 + rng.below(3) as u64, 0, 0, odd, odd),
+        8 => node(5 + rng.below(4) as u64, 0, 0, 6, 5),
+        9 => node(
+            5 + rng.below(4) as u64,
+            0,
+            0,
+            0,
+            rng.pick(&[1_000_000_001, NO_END - 1, NO_END + 1, u64::MAX]),
+        ),
+        10 => node(5 + rng.below(4) as u64, 0, 0, rng.pick(&[1_000_000_001, NO_END]), NO_END),
+        _ => node(7 + rng.below(2) as u64, 0, odd, 0, 0),
+    };
+    match rng.below(10) {
+        0 => nodes.clear(),
+        1 => nodes.resize(65, Node::default()),
+        2 => {
+            nodes[place] = node(1, 15, 0, 0, 0);
+            call.predicates[15] = UNSET;
+        }
+        _ => {}
+    }
+}
+
+fn break_channels_or_predicate(rng: &mut Prng, call: &mut Call) {
+    if rng.once_in(4) {
+        call.recording.channels = rng.pick(&[0, 9, u64::MAX]);
+        return;
+    }
+    let channels = call.recording.channels;
+    let number = rng.below(16);
+    let set = Predicate { channel: 0, range: Range::Free };
+    let beyond = [LARGEST_VALUE + 1, -LARGEST_VALUE - 1, i64::MAX, i64::MIN];
+    let end = rng.pick(&beyond);
+    // An unset one would stand for a fault of its own, so a free one takes its place.
+    call.predicates[number] = match rng.below(6) {
+        0 => Predicate { channel: rng.pick(&[channels, channels + 1, u64::MAX]), ..set },
+        1 => Predicate { range: Range::AtLeast(end), ..set },
+        2 => Predicate { range: Range::AtMost(end), ..set },
+        3 => Predicate { range: Range::Between(end.min(0), end.max(0)), ..set },
+        4 => Predicate { range: Range::Between(1, 0), ..set },
+        _ => Predicate { range: Range::Between(i64::MAX, i64::MIN), ..set },
+    };
+}
+
+fn break_samples(rng: &mut Prng, call: &mut Call) {
+    let recording = &mut call.recording;
+    match rng.below(5) {
+        0 => {
+            recording.times.clear();
+            recording.values.clear();
+        }
+        1 => recording.times.clear(),
+        2 => {
+            recording.values.pop();
+        }
+        3 => recording.values.push(0),
+        _ => {
+            recording.times = (0..4_097).collect();
+            recording.values = vec![0; 4_097 * recording.channels as usize];
+        }
+    }
+}
+
+fn break_times(rng: &mut Prng, call: &mut Call) {
+    let times = &mut call.recording.times;
+    let last = times.len() - 1;
+    if last == 0 || rng.once_in(3) {
+        times[last] = rng.pick(&[LAST_TIME + 1, u64::MAX]);
+    } else {
+        let place = 1 + rng.below(last);
+        times[place] = times[place - 1] - rng.below(2) as u64 * times[place - 1].min(1);
+    }
+}

@@ -1,0 +1,338 @@
+//! Sheets with faults put in on purpose, so that the refusal is known without reading them: the
+//! first number, in the order of refusals, among the faults put in.
+
+use super::draft::{joined, Draft, PredicateLine};
+use super::prng::Prng;
+use super::sheets::{filled, sound};
+use crate::limits::{
+    LARGEST_SIGNED, LARGEST_STEP, LARGEST_UNSIGNED, LARGEST_VALUE, LAST_TIME, MOST_BYTES,
+};
+use crate::rows::Row;
+
+/// A sheet with one to three faults, and the number that it must be refused by.
+pub fn faulty(rng: &mut Prng) -> (Vec<u8>, u64) {
+    let mut draft = sound(rng).draft;
+    let mut numbers: Vec<u64> = (0..1 + rng.below(3)).map(|_| rng.between(1, 11) as u64).collect();
+    // A fault of a higher number goes in first: a lower one may undo it, and wins anyway.
+    numbers.sort_unstable_by(|one, other| other.cmp(one));
+    numbers.dedup();
+    // Cells run out by many rows and nodes, which later faults keep.
+    if numbers.contains(&8) {
+        too_many_cells(rng, &mut draft);
+    }
+    for &number in &numbers {
+        put(rng, &mut draft, number);
+    }
+    let least = numbers[numbers.len() - 1];
+    let text = if least == 1 { broken_text(rng, &draft) } else { draft.text() };
+    (text, least)
+}
+
+fn put(rng: &mut Prng, draft: &mut Draft, number: u64) {
+    match number {
+        2 => draft.requirement = bad_requirement(rng),
+        3 => name_unset(rng, draft),
+        4 => bad_channels_or_predicate(rng, draft),
+        5 => bad_row_count(rng, draft),
+        6 => bad_times(rng, draft),
+        7 => bad_value(rng, draft),
+        9 => bad_step_or_drift(rng, draft),
+        10 => gap(rng, draft),
+        11 => jump(rng, draft),
+        // 8 goes in before all others, 1 into the text.
+        _ => {}
+    }
+}
+
+pub fn bad_requirement(rng: &mut Prng) -> Vec<u8> {
+    let repeated = |open: &str, inner: &str, close: &str| {
+        [open.repeat(33), inner.to_string(), close.repeat(33)].concat()
+    };
+    let fixed = [
+        "", " ", "p0 ", " p0", "p0\r", "p0\0", "p", "p16", "p01", "p155", "q0", "T|", "&T", "T||T",
+        "(T", "T)", "()", "G[5,2]p0", "G[0,1000000001]T", "F[1000000001,*]T", "F[0,4294967295]T",
+        "G[0,01]T", "G[00,1]T", "G[0 ,1]T", "GT", "G[0,1]", "G[*,1]T", "G[0,*)T", "G(0,1]T", "TUT",
+        "TU[0,1]", "TU[0,1]TU[0,1]T", "TR[0,1]TU[0,1]T", "!", "T!T", "-T", "G[-0,1]T", "G[0,-1]T",
+        "TS[0,1]T", "O[0,1]T", "G[0,99999999999999999999]T", "f[0,1]T",
+    ];
+    match rng.below(6) {
+        0 => repeated("(", "T", ")").into_bytes(),
+        1 => repeated(rng.pick(&["!", "G[0,1]", "F[0,*]"]), "T", "").into_bytes(),
+        // 33 leaves and 32 operators are 65 nodes.
+        2 => vec!["T"; 33].join(rng.pick(&["|", "&"])).into_bytes(),
+        _ => rng.pick(&fixed).as_bytes().to_vec(),
+    }
+}
+
+fn name_unset(rng: &mut Prng, draft: &mut Draft) {
+    let number = rng.below(16) as u64;
+    draft.predicates.retain(|predicate| predicate.number != number);
+    draft.requirement = match rng.below(3) {
+        0 => format!("p{number}"),
+        // The margin of true or anything is TOP; the predicate is judged all the same.
+        1 => format!("T|p{number}"),
+        _ => format!("G[0,*](T&F[3,9]p{number})"),
+    }
+    .into_bytes();
+}
+
+fn bad_channels_or_predicate(rng: &mut Prng, draft: &mut Draft) {
+    if rng.once_in(3) {
+        draft.channels = rng.pick(&[0, 9, 10, 4_294_967_295]);
+        return;
+    }
+    let number = (0..16).find(|&number| !draft.is_set(number)).unwrap_or(16);
+    if number < 16 {
+        draft.predicates.push(PredicateLine { number, channel: 0, lo: None, hi: None });
+    }
+    let place = rng.below(draft.predicates.len());
+    let channels = draft.channels;
+    let predicate = &mut draft.predicates[place];
+    let beyond = rng.pick(&[LARGEST_VALUE + 1, LARGEST_SIGNED as i64]);
+    match rng.below(6) {
+        0 => predicate.channel = channels,
+        1 => predicate.channel = rng.pick(&[channels + 1, LARGEST_UNSIGNED]),
+        2 => predicate.lo = Some(beyond),
+        3 => predicate.lo = Some(-beyond),
+        4 => predicate.hi = Some(rng.pick(&[-beyond, beyond])),
+        _ => {
+            let hi = rng.between(-20, 20);
+            (predicate.lo, predicate.hi) = (Some(hi + rng.pick(&[1, 1, 9])), Some(hi));
+        }
+    }
+}
+
+fn bad_row_count(rng: &mut Prng, draft: &mut Draft) {
+    // More than the program's room, where that many rows still fit into the text.
+    if draft.channels <= 3 && rng.once_in(8) {
+        let values = vec![0; draft.channels as usize];
+        let row = |time| Row { time, measured: true, values: values.clone() };
+        draft.rows = (0..2_049).map(row).collect();
+    } else if rng.once_in(2) {
+        draft.rows.retain(|row| !row.measured);
+    } else {
+        draft.rows.iter_mut().for_each(|row| row.measured = false);
+    }
+}
+
+fn bad_times(rng: &mut Prng, draft: &mut Draft) {
+    let measured = draft.measured();
+    let place = rng.below(measured.len());
+    if place == 0 || rng.once_in(3) {
+        let last = measured[measured.len() - 1];
+        draft.rows[last].time = rng.pick(&[LAST_TIME + 1, LARGEST_UNSIGNED]);
+    } else {
+        let before = draft.rows[measured[place - 1]].time;
+        let earlier = rng.pick(&[0, 0, 1, before]);
+        draft.rows[measured[place]].time = before - earlier.min(before);
+    }
+}
+
+fn bad_value(rng: &mut Prng, draft: &mut Draft) {
+    let place = rng.pick(&draft.measured());
+    let channel = rng.below(draft.rows[place].values.len());
+    let beyond = rng.pick(&[LARGEST_VALUE + 1, LARGEST_SIGNED as i64]);
+    draft.rows[place].values[channel] = rng.pick(&[beyond, -beyond]);
+}
+
+/// 64 nodes and at least 65 rows; a gap's fault may take one row away.
+fn too_many_cells(rng: &mut Prng, draft: &mut Draft) {
+    draft.requirement = format!("!{}", vec!["T"; 32].join("|")).into_bytes();
+    let rows = 66 + rng.below(8) as u64;
+    let values = vec![3; draft.channels as usize];
+    let step = draft.step.min(20_000_000);
+    let row = |time| Row { time: time * step, measured: true, values: values.clone() };
+    draft.rows = (0..rows).map(row).collect();
+}
+
+fn bad_step_or_drift(rng: &mut Prng, draft: &mut Draft) {
+    let large = rng.pick(&[1_000_000_001, LARGEST_UNSIGNED]);
+    match rng.below(3) {
+        0 => draft.step = 0,
+        1 => draft.step = large,
+        _ => draft.drift = large,
+    }
+}
+
+/// The places of at least two measured rows.
+fn two_measured(draft: &mut Draft) -> Vec<usize> {
+    let measured = draft.measured();
+    if measured.len() > 1 {
+        return measured;
+    }
+    let mut second = draft.rows[measured[0]].clone();
+    draft.rows[measured[0]].time = 0;
+    second.time = 1;
+    draft.rows.push(second);
+    draft.measured()
+}
+
+fn gap(rng: &mut Prng, draft: &mut Draft) {
+    let measured = two_measured(draft);
+    let interior = 1 + rng.below(measured.len() - 1);
+    if interior + 1 < measured.len() {
+        // A filled row closes no gap: its neighbours are just too far apart.
+        draft.rows[measured[interior]].measured = false;
+        let after = draft.rows[measured[interior + 1]].time;
+        let before = draft.rows[measured[interior - 1]].time;
+        draft.step = (after - before - 1).min(LARGEST_STEP);
+    } else {
+        draft.step = 1;
+        let before = draft.rows[measured[interior - 1]].time;
+        let last = &mut draft.rows[measured[interior]];
+        last.time = last.time.max(before + 2);
+        if last.time > LAST_TIME {
+            draft.rows[measured[interior - 1]].time = before - 2;
+            draft.rows[measured[interior]].time = LAST_TIME;
+        }
+    }
+}
+
+/// A jump of twice the drift and one.
+fn jump(rng: &mut Prng, draft: &mut Draft) {
+    let measured = two_measured(draft);
+    let second = 1 + rng.below(measured.len() - 1);
+    let channel = rng.below(draft.rows[measured[0]].values.len());
+    let before = draft.rows[measured[second - 1]].values[channel];
+    draft.drift = draft.drift.min(1_000);
+    let jump = 2 * draft.drift as i64 + 1;
+    let up = before + jump <= LARGEST_VALUE && (rng.once_in(2) || before - jump < -LARGEST_VALUE);
+    draft.rows[measured[second]].values[channel] = if up { before + jump } else { before - jump };
+}
+
+/// A fault of the text form, put into the written sheet.
+fn broken_text(rng: &mut Prng, draft: &Draft) -> Vec<u8> {
+    let lines = draft.lines();
+    let head = draft.head_lines();
+    let rows_are_read = (1..=8).contains(&draft.channels);
+    // The requirement's line is judged by its key alone, so most faults go elsewhere.
+    let judged = if rows_are_read { lines.len() } else { head };
+    let place = loop {
+        let place = rng.below(judged);
+        if place != head - 1 {
+            break place;
+        }
+    };
+    match rng.below(6) {
+        0 => with_line(&lines, place, broken_layout(rng, &lines[place])),
+        1 | 2 => with_line(&lines, place, broken_field(rng, &lines[place])),
+        3 => broken_order(rng, draft, lines),
+        4 if rows_are_read => broken_tail(rng, draft, lines),
+        5 if rng.once_in(10) => too_long(rng, draft),
+        _ => {
+            let keys = ["chan=", "p=", "step=", "drift=", "req=", "t=", "", "#", "Req="];
+            let kept: Vec<&&str> = keys
+                .iter()
+                .filter(|key| !lines[place].starts_with(key.as_bytes()) || key.is_empty())
+                .collect();
+            let value = lines[place].iter().position(|&byte| byte == b'=').map_or(0, |at| at + 1);
+            // A `p=` line may stand where `step=` is due; with step's value it has too few fields.
+            let line = [rng.pick(&kept).as_bytes(), &lines[place][value..]].concat();
+            with_line(&lines, place, line)
+        }
+    }
+}
+
+fn with_line(lines: &[Vec<u8>], place: usize, line: Vec<u8>) -> Vec<u8> {
+    let mut lines = lines.to_vec();
+    lines[place] = line;
+    joined(&lines)
+}
+
+fn broken_layout(rng: &mut Prng, line: &[u8]) -> Vec<u8> {
+    let line = String::from_utf8(line.to_vec()).expect("only the requirement may be no text");
+    match rng.below(7) {
+        0 => format!("{line}\r"),
+        1 => format!("{line} "),
+        2 => format!(" {line}"),
+        3 if line.contains(' ') => line.replacen(' ', "  ", 1),
+        4 if line.contains(' ') => line.replacen(' ', "\t", 1),
+        5 if line.contains(' ') => line.replacen(' ', "", 1),
+        _ => line.replacen('=', " =", 1),
+    }
+    .into_bytes()
+}
+
+/// A field whose value no field may have.
+fn broken_field(rng: &mut Prng, line: &[u8]) -> Vec<u8> {
+    let mut fields: Vec<Vec<u8>> = line.split(|&byte| byte == b' ').map(<[u8]>::to_vec).collect();
+    let place = rng.below(fields.len());
+    let key_end = fields[place].iter().position(|&byte| byte == b'=').expect("a key") + 1;
+    let key = fields[place][..key_end].to_vec();
+    let any = [
+        "", "00", "01", "-0", "-", "+1", "1x", "x", "0x1", "00000000001", "10000000000",
+        "4294967296", "--1", "1-", "1.0", "\0",
+    ];
+    let bad: &[&str] = match key.as_slice() {
+        b"src=" => &["", "M", "F", "x", "mm", "fm", "1"],
+        b"p=" => &["16", "17", "99", "4294967295", "01", "-1", ""],
+        key if key.starts_with(b"v") || key == b"lo=" || key == b"hi=" => &[
+            "2147483648", "-2147483648", "4294967295", "-0", "-01", "--1", "", "-", "**", "+5",
+            "00000000001",
+        ],
+        _ => &any,
+    };
+    fields[place] = [&key[..], rng.pick(bad).as_bytes()].concat();
+    fields.join(&b' ')
+}
+
+/// A line missing, twice, or out of its place.
+fn broken_order(rng: &mut Prng, draft: &Draft, mut lines: Vec<Vec<u8>>) -> Vec<u8> {
+    let head = draft.head_lines();
+    let (step, drift, req) = (head - 3, head - 2, head - 1);
+    match rng.below(6) {
+        0 => {
+            let place = rng.pick(&[0, step, drift, req]);
+            lines.remove(place);
+        }
+        1 => lines.swap(step, drift),
+        2 => lines.swap(0, rng.pick(&[step, drift, req])),
+        3 => {
+            let place = rng.pick(&[0, step, drift]);
+            lines.insert(place, lines[place].clone());
+        }
+        4 if head > 4 => {
+            let place = 1 + rng.below(head - 4);
+            let twice = lines[place].clone();
+            lines.insert(1 + rng.below(head - 4), twice);
+        }
+        _ => lines.insert(rng.below(head), Vec::new()),
+    }
+    joined(&lines)
+}
+
+/// A fault behind the head, of a sheet whose rows are read.
+fn broken_tail(rng: &mut Prng, draft: &Draft, mut lines: Vec<Vec<u8>>) -> Vec<u8> {
+    let head = draft.head_lines();
+    let mut row =
+        Draft { rows: vec![filled(rng, draft.channels)], ..draft.clone() }.lines().remove(head);
+    match rng.below(5) {
+        0 => row.extend(format!(" v{}=0", draft.channels).bytes()),
+        1 => {
+            let end = row.iter().rposition(|&byte| byte == b' ').expect("a field of values");
+            row.truncate(end);
+        }
+        2 => row.clear(),
+        3 => row = lines[rng.below(head)].clone(),
+        _ => {
+            // The last line's line feed is missing.
+            lines.push(row);
+            let mut text = joined(&lines);
+            text.pop();
+            return text;
+        }
+    }
+    lines.insert(head + rng.below(lines.len() - head + 1), row);
+    joined(&lines)
+}
+
+/// Well-written, but beyond 65,536 bytes.
+fn too_long(rng: &mut Prng, draft: &Draft) -> Vec<u8> {
+    let mut text = draft.text();
+    while text.len() <= MOST_BYTES {
+        let long = Draft { rows: vec![filled(rng, draft.channels.min(8))], ..draft.clone() };
+        text.extend(long.lines().remove(draft.head_lines()));
+        text.push(b'\n');
+    }
+    text
+}

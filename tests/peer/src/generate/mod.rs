@@ -1,0 +1,11 @@
+//! Generated inputs, each from one seed: what they are made of is known before they are read, so
+//! that a reader can be held to it.
+
+pub mod calls;
+pub mod damage;
+pub mod draft;
+pub mod faults;
+pub mod limits;
+pub mod prng;
+pub mod requirements;
+pub mod sheets;

@@ -1,0 +1,190 @@
+//! Sheets that nothing is wrong with.
+
+use super::draft::{Draft, PredicateLine};
+use super::prng::Prng;
+use super::requirements::{written, Taste};
+use crate::limits::{LARGEST_SIGNED, LARGEST_UNSIGNED, LARGEST_VALUE};
+use crate::rows::Row;
+use crate::tree::Shared;
+
+/// An accepted sheet and the tree that its requirement was written from.
+pub struct Sound {
+    pub draft: Draft,
+    pub tree: Shared,
+}
+
+/// The measures of a sheet, from which the rest is drawn.
+struct Measures {
+    channels: u64,
+    rows: usize,
+    step: u64,
+    drift: u64,
+    operators: usize,
+}
+
+/// Any sheet: mostly small numbers, where equalities are frequent; now and then the largest.
+pub fn sound(rng: &mut Prng) -> Sound {
+    if rng.once_in(8) {
+        return extreme(rng);
+    }
+    let measures = Measures {
+        channels: if rng.once_in(6) { rng.between(1, 8) as u64 } else { rng.between(1, 2) as u64 },
+        rows: rng.between(1, 24) as usize,
+        step: rng.pick(&[1, 1, 2, 3, 5, 900]),
+        drift: rng.between(0, 6) as u64,
+        operators: rng.below(9),
+    };
+    build(rng, measures)
+}
+
+/// A sheet with few histories, so that all of them can be tried.
+pub fn tiny(rng: &mut Prng) -> Sound {
+    let measures = Measures {
+        channels: if rng.once_in(5) { 2 } else { 1 },
+        rows: rng.between(1, 6) as usize,
+        step: rng.pick(&[1, 1, 1, 2, 2, 3]),
+        drift: rng.pick(&[0, 1, 1, 1, 2]),
+        operators: rng.below(6),
+    };
+    build(rng, measures)
+}
+
+fn build(rng: &mut Prng, measures: Measures) -> Sound {
+    let times = times(rng, &measures);
+    let values = walks(rng, &measures);
+    let predicates = predicates(rng, &measures, &values);
+    let taste = Taste {
+        predicates: predicates.iter().map(|predicate| predicate.number as usize).collect(),
+        unit: measures.step as i64,
+        reach: (times[times.len() - 1] - times[0]) as i64 + 1,
+    };
+    let tree = taste.tree(rng, measures.operators);
+    let rows = times.iter().zip(values).map(|(&time, values)| Row { time, measured: true, values });
+    let mut draft = Draft {
+        channels: measures.channels,
+        predicates,
+        step: measures.step,
+        drift: measures.drift,
+        requirement: written(&tree, rng, 10).into_bytes(),
+        rows: rows.collect(),
+    };
+    if rng.once_in(3) {
+        add_filled(rng, &mut draft);
+    }
+    Sound { draft, tree }
+}
+
+/// Rising times whose neighbours are at most the step apart.
+fn times(rng: &mut Prng, measures: &Measures) -> Vec<u64> {
+    let regular = rng.once_in(2);
+    let mut time = rng.pick(&[0, 0, 1, 7, 86_399, 1_700_000_000]);
+    let mut times = Vec::new();
+    for _ in 0..measures.rows {
+        times.push(time);
+        time += if regular { measures.step } else { rng.between(1, measures.step as i64) as u64 };
+    }
+    times
+}
+
+/// Values that jump by at most twice the drift; often by less, so that histories exist.
+fn walks(rng: &mut Prng, measures: &Measures) -> Vec<Vec<i64>> {
+    let drift = measures.drift as i64;
+    let jump = rng.pick(&[0, drift / 2, drift, 2 * drift]);
+    let mut values: Vec<i64> = (0..measures.channels).map(|_| rng.between(-9, 9)).collect();
+    let mut rows = Vec::new();
+    for _ in 0..measures.rows {
+        rows.push(values.clone());
+        for value in &mut values {
+            *value += rng.between(-jump, jump);
+        }
+    }
+    rows
+}
+
+fn predicates(rng: &mut Prng, measures: &Measures, values: &[Vec<i64>]) -> Vec<PredicateLine> {
+    let count = if rng.once_in(10) { rng.below(17) } else { 1 + rng.below(4) };
+    let mut numbers: Vec<u64> = (0..16).collect();
+    let mut lines = Vec::new();
+    for _ in 0..count {
+        let number = numbers.swap_remove(rng.below(numbers.len()));
+        let channel = rng.below(measures.channels as usize) as u64;
+        let near = values[rng.below(values.len())][channel as usize];
+        let (lo, hi) = ends(rng, near, measures.drift as i64);
+        lines.push(PredicateLine { number, channel, lo, hi });
+    }
+    lines
+}
+
+/// Ends about a drift away from a value, on either side: where verdicts are decided.
+fn ends(rng: &mut Prng, near: i64, drift: i64) -> (Option<i64>, Option<i64>) {
+    let away = |rng: &mut Prng| drift + rng.between(-2, 4);
+    let lo = if rng.once_in(3) { near + away(rng) } else { near - away(rng) };
+    let hi = if rng.once_in(3) { near - away(rng) } else { near + away(rng) };
+    match rng.below(12) {
+        0 => (None, None),
+        1..=4 => (Some(lo), None),
+        5..=8 => (None, Some(hi)),
+        _ => (Some(lo.min(hi)), Some(lo.max(hi))),
+    }
+}
+
+/// Filled rows anywhere, with any figures that the text form allows.
+fn add_filled(rng: &mut Prng, draft: &mut Draft) {
+    for _ in 0..1 + rng.below(4) {
+        let place = rng.below(draft.rows.len() + 1);
+        let row = filled(rng, draft.channels);
+        draft.rows.insert(place, row);
+    }
+}
+
+pub fn filled(rng: &mut Prng, channels: u64) -> Row {
+    let values = (0..channels).map(|_| figure(rng)).collect();
+    let time =
+        if rng.once_in(2) { rng.below(40) as u64 } else { rng.word() % (LARGEST_UNSIGNED + 1) };
+    Row { time, measured: false, values }
+}
+
+fn figure(rng: &mut Prng) -> i64 {
+    let largest = LARGEST_SIGNED as i64;
+    match rng.below(3) {
+        0 => rng.between(-20, 20),
+        1 => rng.pick(&[-largest, largest, -LARGEST_VALUE - 1, LARGEST_VALUE + 1, 0]),
+        _ => rng.between(-largest, largest),
+    }
+}
+
+/// Numbers at their limits: nothing may wrap.
+fn extreme(rng: &mut Prng) -> Sound {
+    let big = LARGEST_VALUE;
+    let values = [-big, -big + 1, -1, 0, 1, big - 1, big];
+    let channels = rng.between(1, 3) as u64;
+    let last = rng.between(1, 5);
+    let rows = (0..=last).map(|row| Row {
+        time: (2_000_000_000 / last * row) as u64,
+        measured: true,
+        values: (0..channels).map(|_| rng.pick(&values)).collect(),
+    });
+    let rows: Vec<Row> = rows.collect();
+    // A step of a billion joins all but two samples that are two billion apart.
+    let rows = if last == 1 { rows[..1].to_vec() } else { rows };
+    let predicates: Vec<PredicateLine> = (0..1 + rng.below(4) as u64)
+        .map(|number| {
+            let channel = rng.below(channels as usize) as u64;
+            let (one, other) = (rng.pick(&values), rng.pick(&values));
+            let lo = (!rng.once_in(3)).then_some(one.min(other));
+            let hi = (!rng.once_in(3)).then_some(one.max(other));
+            PredicateLine { number, channel, lo, hi }
+        })
+        .collect();
+    let taste = Taste {
+        predicates: (0..predicates.len()).collect(),
+        unit: rng.pick(&[1, 500_000_000, 1_000_000_000]),
+        reach: 1_000_000_000,
+    };
+    let operators = rng.below(7);
+    let tree = taste.tree(rng, operators);
+    let requirement = written(&tree, rng, 10).into_bytes();
+    let step = 1_000_000_000;
+    let draft = Draft { channels, predicates, step, drift: 1_000_000_000, requirement, rows };
+    Sound { draft, tree }
+}

@@ -1,0 +1,76 @@
+//! The sheet: `chan=`, `p=` lines, `step=`, `drift=`, `req=`, rows.
+
+use crate::fields::{after_key, end, first_line, unsigned, values, Read};
+use crate::limits::{MOST_BYTES, PREDICATES};
+use crate::predicate::{Predicate, Predicates, Range, UNSET};
+use crate::recording::channels_broken;
+use crate::refusal::{when, Refusal};
+use crate::rows::parse_rows;
+use std::ops;
+
+#[derive(Clone, PartialEq, Eq, Debug)]
+pub struct Sheet {
+    pub channels: u64,
+    pub predicates: Predicates,
+    pub step: u64,
+    pub drift: u64,
+    /// The places in the text of what follows `req=`, without the line feed.
+    pub requirement: ops::Range<usize>,
+    /// The place in the text of what stands behind the head.
+    pub rows_from: usize,
+}
+
+/// Entry point: refusal 1. The whole text is judged, rows too, unless their width is unknown.
+pub fn read_sheet(text: &[u8]) -> Result<Sheet, Refusal> {
+    when(text.len() > MOST_BYTES, Refusal::Text)?;
+    let sheet = read_head(text)?;
+    if !channels_broken(sheet.channels) {
+        parse_rows(&text[sheet.rows_from..], sheet.channels)?;
+    }
+    Ok(sheet)
+}
+
+fn read_head(text: &[u8]) -> Read<Sheet> {
+    let (channels, rest) = number_line(text, "chan=")?;
+    let (predicates, rest) = predicate_lines(rest)?;
+    let (step, rest) = number_line(rest, "step=")?;
+    let (drift, rest) = number_line(rest, "drift=")?;
+    let (line, rows) = first_line(rest)?;
+    let requirement = after_key(line, "req=")?;
+    let rows_from = text.len() - rows.len();
+    let to = rows_from - 1;
+    let requirement = to - requirement.len()..to;
+    Ok(Sheet { channels, predicates, step, drift, requirement, rows_from })
+}
+
+fn number_line<'a>(text: &'a [u8], key: &str) -> Read<(u64, &'a [u8])> {
+    let (line, rest) = first_line(text)?;
+    Ok((unsigned(values(line, &[key])?[0])?, rest))
+}
+
+/// "`p=` lines, in any order, each number once, perhaps none."
+fn predicate_lines(mut text: &[u8]) -> Read<(Predicates, &[u8])> {
+    let mut predicates = [UNSET; PREDICATES];
+    while text.starts_with(b"p=") {
+        let (line, rest) = first_line(text)?;
+        let (number, predicate) = predicate_line(line)?;
+        when(predicates[number].is_set(), Refusal::Text)?;
+        predicates[number] = predicate;
+        text = rest;
+    }
+    Ok((predicates, text))
+}
+
+fn predicate_line(line: &[u8]) -> Read<(usize, Predicate)> {
+    let fields = values(line, &["p=", "ch=", "lo=", "hi="])?;
+    let number = unsigned(fields[0])?;
+    when(number >= PREDICATES as u64, Refusal::Text)?;
+    let channel = unsigned(fields[1])?;
+    let range = match (end(fields[2])?, end(fields[3])?) {
+        (None, None) => Range::Free,
+        (Some(lo), None) => Range::AtLeast(lo),
+        (None, Some(hi)) => Range::AtMost(hi),
+        (Some(lo), Some(hi)) => Range::Between(lo, hi),
+    };
+    Ok((number as usize, Predicate { channel, range }))
+}
