@@ -1,4 +1,4 @@
--- K1 to K13 as one fact: the whole table computes to its answers, and one lemma turns that into each entry.
+-- K1 to K13 as one fact, from the requirement's text to the functions' answers: the whole table computes to its answers, and one lemma turns that into each entry.
 -- Assumes nothing.
 use mathlib.Core.Path.{_≡_, refl, sym, ap, _∙_}
 use mathlib.Core.List.{List, [], _∷_, map}
@@ -11,11 +11,17 @@ use Rattle.predicates.specs.Predicates.{names-set, all-named, requirement-obeys
 use Rattle.rules.specs.First.{first}
 use Rattle.rules.specs.Recording.{lengths-obey, all-rising, all-early, times-obey, all-in-range, values-obey}
 use Rattle.sampling.specs.Sampling.{step-obeys, all-close, times-close, near, all-near, values-near}
+use Rattle.margins.specs.Answers.{judged as margin-judged}
 use Rattle.verdicts.specs.Answer.{refusal, judged}
+use Rattle.text.specs.Mark.{prefixOf, markAt}
+use Rattle.text.specs.Number.{digits, value, numberAt, fieldAt}
+use Rattle.grammar.specs.Tree.{size}
+use Rattle.building.specs.Nodes.{nodesOf}
+use Rattle.grammar.specs.Reading.{windowAt, timedAt, timedAmong, leafAt, moreTurns, bindBy, unaryBy, unaryAt, requirementTree}
 use Rattle.bench_readings.specs.Readings.{Question, Answer, answer, Reading, readings}
 
 table : map (λ (r : Reading). map answer (r .asked)) readings ≡ map (λ (r : Reading). r .answered) readings
-unfolding robustness judged refusal first tree trees requirement-obeys table-obeys nodes-obey node-obeys all-named names-set channels-obey predicates-obey predicate-obeys value-obeys times-obey all-rising all-early lengths-obey values-obey all-in-range step-obeys times-close all-close values-near all-near near
+unfolding robustness margin-judged judged refusal first tree trees requirement-obeys table-obeys nodes-obey node-obeys all-named names-set channels-obey predicates-obey predicate-obeys value-obeys times-obey all-rising all-early lengths-obey values-obey all-in-range step-obeys times-close all-close values-near all-near near prefixOf markAt digits value numberAt fieldAt size windowAt timedAt timedAmong leafAt moreTurns bindBy unaryBy unaryAt requirementTree nodesOf
 table = refl
 
 mapped : {X Y : Type 0} (f : X → Y) (xs : List X) (k : ℕ) (d : X) → getD (map f xs) k (f d) ≡ f (getD xs k d)
