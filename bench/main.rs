@@ -1,7 +1,7 @@
-//! Times the proved margin against plain Rust of the same algorithm, checks that every cell is equal, and prints the ratios.
+//! Times the proved margin and verdict against plain Rust of the same algorithm, checks that every cell is equal, and prints the ratios.
 
 mod plain;
-use plain::{Node, Predicate, Range, NO_END};
+use plain::{Card, Node, Predicate, Range, NO_END};
 use std::time::Instant;
 
 extern "C" {
@@ -10,6 +10,12 @@ extern "C" {
         named: *const u64, named_len: usize, ranges: *const i64, ranges_len: usize,
         channels: usize, times: *const u64, times_len: usize,
         values: *const i64, values_len: usize, work: *mut i64, work_len: usize,
+    ) -> u64;
+    fn bench_verdict(
+        numbers: *const u64, numbers_len: usize, count: usize,
+        named: *const u64, named_len: usize, ranges: *const i64, ranges_len: usize,
+        channels: usize, times: *const u64, times_len: usize,
+        values: *const i64, values_len: usize, step: u64, drift: u64, work: *mut i64, work_len: usize,
     ) -> u64;
 }
 
@@ -47,6 +53,19 @@ fn proved(f: &Flat, count: usize, channels: usize, times: &[u64], values: &[i64]
     if number == 0 { Some(work[(count - 1) * times.len()]) } else { None }
 }
 
+fn proved_verdict(f: &Flat, count: usize, card: &Card, step: u64, drift: u64, work: &mut [i64]) -> Option<(i64, i64)> {
+    // the same
+    let number = unsafe {
+        bench_verdict(
+            f.numbers.as_ptr(), f.numbers.len(), count,
+            f.named.as_ptr(), f.named.len(), f.ranges.as_ptr(), f.ranges.len(),
+            card.channels, card.times.as_ptr(), card.times.len(), card.values.as_ptr(), card.values.len(), step, drift, work.as_mut_ptr(), work.len(),
+        )
+    };
+    let root = 2 * (count - 1) * card.times.len();
+    if number == 0 { Some((work[root], work[root + card.times.len()])) } else { None }
+}
+
 struct Random(u64);
 
 impl Random {
@@ -69,19 +88,18 @@ fn seconds(mut call: impl FnMut()) -> f64 {
     began.elapsed().as_secs_f64() / f64::from(calls)
 }
 
-/// Best times of the proved margin and of plain Rust, taken in turn.
-fn compare(nodes: &[Node], predicates: &[Predicate; 16], times: &[u64], values: &[i64]) -> (f64, f64) {
-    let f = flat(nodes, predicates);
-    let mut a = vec![0; nodes.len() * times.len() + 3];
+/// Best times of two functions, taken in turn, that must answer the same and leave the same cells.
+fn compare<T: PartialEq>(cells: usize, mut ours: impl FnMut(&mut [i64]) -> Option<T>, mut theirs: impl FnMut(&mut [i64]) -> Option<T>) -> (f64, f64) {
+    let mut a = vec![0; cells + 3];
     let mut b = a.clone();
-    let (mut ours, mut theirs) = (f64::MAX, f64::MAX);
+    let (mut best, mut plain) = (f64::MAX, f64::MAX);
     for _ in 0..9 {
         let (mut x, mut y) = (None, None);
-        ours = ours.min(seconds(|| x = proved(&f, nodes.len(), 2, times, values, &mut a)));
-        theirs = theirs.min(seconds(|| y = plain::margin(nodes, predicates, 2, times, values, &mut b)));
+        best = best.min(seconds(|| x = ours(&mut a)));
+        plain = plain.min(seconds(|| y = theirs(&mut b)));
         assert!(x.is_some() && x == y && a == b, "results differ");
     }
-    (ours, theirs)
+    (best, plain)
 }
 
 fn node(kind: u64, left: usize, right: usize, lo: u64, hi: u64) -> Node {
@@ -113,8 +131,7 @@ fn main() {
     predicates[3] = Predicate { channel: 1, range: Range::Free };
     let large = large_table(&mut random);
     let mut worst = 0f64;
-    let mut show = |name: &str, rows: usize, nodes: &[Node], times: &[u64], values: &[i64]| {
-        let (ours, theirs) = compare(nodes, &predicates, times, values);
+    let mut show = |name: &str, rows: usize, (ours, theirs): (f64, f64)| {
         worst = worst.max(ours / theirs);
         println!("{name:<34} {rows:>5} rows: {:>9.3} ms, plain Rust {:>9.3} ms, ratio {:.2}", ours * 1e3, theirs * 1e3, ours / theirs);
         ours
@@ -131,7 +148,8 @@ fn main() {
                     let nodes = [node(1, 0, 0, 0, 0), node(1, 1, 0, 0, 0), node(kind, left, right, lo, hi)];
                     let end = if hi == NO_END { "*".to_string() } else { hi.to_string() };
                     let name = format!("{letter}[{lo},{end}]p1, {} values", if equal { "equal" } else { "random" });
-                    taken[at] = show(&name, rows, &nodes, &times, &values);
+                    let (f, card) = (flat(&nodes, &predicates), Card { predicates: &predicates, channels: 2, times: &times, values: &values });
+                    taken[at] = show(&name, rows, compare(3 * rows, |w| proved(&f, 3, 2, &times, &values, w), |w| plain::margin(&nodes, &card, w)));
                 }
                 if equal && hi == NO_END && kind <= 6 {
                     growth.push((letter, taken[1] / taken[0]));
@@ -142,7 +160,9 @@ fn main() {
     for rows in [2048usize, 4096] {
         let times: Vec<u64> = (0..rows as u64).collect();
         let values: Vec<i64> = (0..2 * rows).map(|_| random.value()).collect();
-        show("64 nodes, random values", rows, &large, &times, &values);
+        let (f, card) = (flat(&large, &predicates), Card { predicates: &predicates, channels: 2, times: &times, values: &values });
+        show("64 nodes, random values", rows, compare(64 * rows, |w| proved(&f, 64, 2, &times, &values, w), |w| plain::margin(&large, &card, w)));
+        show("64 nodes, verdict", rows, compare(128 * rows, |w| proved_verdict(&f, 64, &card, 3, 1_000_000_000, w), |w| plain::verdict(&large, &card, 3, 1_000_000_000, w)));
     }
     for (letter, times) in growth {
         println!("{letter}[0,*]p1, equal values: 4096 rows take {times:.2} times as long as 2048 (at most 4.5 wanted)");

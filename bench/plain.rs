@@ -1,4 +1,4 @@
-//! The margin in plain Rust, by the algorithm of the proved library: what its speed is compared with.
+//! The margin and the verdict in plain Rust, by the algorithm of the proved library: what its speed is compared with.
 
 pub const TOP: i64 = 4_000_000_000;
 pub const NO_END: u64 = 4_294_967_295;
@@ -138,34 +138,92 @@ fn accepted(nodes: &[Node], predicates: &[Predicate; 16], channels: usize, times
         && values.iter().all(fits)
 }
 
-pub fn margin(nodes: &[Node], predicates: &[Predicate; 16], channels: usize, times: &[u64], values: &[i64], work: &mut [i64]) -> Option<i64> {
-    let n = times.len();
-    if !accepted(nodes, predicates, channels, times, values) || work.len() < nodes.len() * n {
+/// What rows are filled from.
+pub struct Card<'a> {
+    pub predicates: &'a [Predicate; 16],
+    pub channels: usize,
+    pub times: &'a [u64],
+    pub values: &'a [i64],
+}
+
+type Window = (u64, Option<u64>);
+
+/// The row of any kind but "not", or of its negation, from the rows before it.
+fn node_row(card: &Card, node: &Node, affirmed: bool, window: Window, left: usize, right: usize, before: &[i64], own: &mut [i64]) {
+    let n = card.times.len();
+    let row = |q: usize| &before[q * n..q * n + n];
+    let largest = affirmed == matches!(node.kind, 4 | 5 | 7);
+    match node.kind {
+        0 => own.fill(if affirmed { TOP } else { -TOP }),
+        1 => {
+            let p = card.predicates[node.left];
+            for i in 0..n {
+                let d = distance(p.range, card.values[i * card.channels + p.channel]);
+                own[i] = if affirmed { d } else { -d };
+            }
+        }
+        2 => own.copy_from_slice(row(left)),
+        3 | 4 => {
+            let (l, r) = (row(left), row(right));
+            for i in 0..n {
+                own[i] = extreme(largest, l[i], r[i]);
+            }
+        }
+        5 | 6 => temporal_row(before, own, card.times, largest, window.0, window.1, Some(left), right),
+        _ => temporal_row(before, own, card.times, largest, window.0, window.1, None, left),
+    }
+}
+
+fn window(node: &Node) -> Window {
+    (node.lo, if node.hi == NO_END { None } else { Some(node.hi + 1) })
+}
+
+fn strengthened(contracts: bool, step: u64, (from, stop): Window) -> Window {
+    if contracts {
+        (from + step, stop.map(|e| e.saturating_sub(step)))
+    } else {
+        (from.saturating_sub(step), stop.map(|e| e + step))
+    }
+}
+
+pub fn margin(nodes: &[Node], card: &Card, work: &mut [i64]) -> Option<i64> {
+    let n = card.times.len();
+    if !accepted(nodes, card.predicates, card.channels, card.times, card.values) || work.len() < nodes.len() * n {
         return None;
     }
     for (k, node) in nodes.iter().enumerate() {
         let (before, own) = work.split_at_mut(k * n);
         let own = &mut own[..n];
-        let stop = if node.hi == NO_END { None } else { Some(node.hi + 1) };
-        let row = |q: usize| &before[q * n..q * n + n];
-        match node.kind {
-            0 => own.fill(TOP),
-            1 => {
-                let p = predicates[node.left];
-                for i in 0..n {
-                    own[i] = distance(p.range, values[i * channels + p.channel]);
-                }
-            }
-            2 => own.iter_mut().zip(row(node.left)).for_each(|(o, &v)| *o = -v),
-            3 | 4 => {
-                let (l, r) = (row(node.left), row(node.right));
-                for i in 0..n {
-                    own[i] = extreme(node.kind == 4, l[i], r[i]);
-                }
-            }
-            5 | 6 => temporal_row(before, own, times, node.kind == 5, node.lo, stop, Some(node.left), node.right),
-            _ => temporal_row(before, own, times, node.kind == 7, node.lo, stop, None, node.left),
+        if node.kind == 2 {
+            own.iter_mut().zip(&before[node.left * n..node.left * n + n]).for_each(|(o, &v)| *o = -v);
+        } else {
+            node_row(card, node, true, window(node), node.left, node.right, before, own);
         }
     }
     Some(work[(nodes.len() - 1) * n])
+}
+
+fn sampled(card: &Card, step: u64, drift: u64) -> bool {
+    let near = |a: i64, b: i64| (b - a).unsigned_abs() <= 2 * drift;
+    (1..=1_000_000_000).contains(&step)
+        && drift <= 1_000_000_000
+        && card.times.windows(2).all(|t| t[1] - t[0] <= step)
+        && card.values.iter().zip(&card.values[card.channels..]).all(|(&a, &b)| near(a, b))
+}
+
+/// Hold and fail.
+pub fn verdict(nodes: &[Node], card: &Card, step: u64, drift: u64, work: &mut [i64]) -> Option<(i64, i64)> {
+    let n = card.times.len();
+    if !accepted(nodes, card.predicates, card.channels, card.times, card.values) || work.len() < 2 * nodes.len() * n || !sampled(card, step, drift) {
+        return None;
+    }
+    for row in 0..2 * nodes.len() {
+        let (node, affirmed) = (&nodes[row / 2], row % 2 == 0);
+        let (before, own) = work.split_at_mut(row * n);
+        let w = strengthened(affirmed == matches!(node.kind, 5 | 7), step, window(node));
+        let left = 2 * node.left + usize::from(affirmed == (node.kind == 2));
+        node_row(card, node, affirmed, w, left, 2 * node.right + row % 2, before, &mut own[..n]);
+    }
+    let root = 2 * (nodes.len() - 1) * n;
+    Some((work[root], work[root + n]))
 }

@@ -1,4 +1,4 @@
-// The margin on flat numbers and slices, for the benchmark to call. The table comes as five numbers for each node, the predicates as a channel, a range's
+// The margin and the verdict on flat numbers and slices, for the benchmark to call. The table comes as five numbers for each node, the predicates as a channel, a range's
 // tag (0 unset, 1 free, 2 at least, 3 at most, 4 between) and its two ends.
 use margins::Answer;
 use recordings::Predicate;
@@ -124,5 +124,41 @@ pub extern "C" fn bench_margin(
     match answer {
         Answer::Margin(_) => 0,
         Answer::Refused(number) => number,
+    }
+}
+
+// The number of the refusal, 0 for none: hold and fail are then the first cells of the last two rows.
+#[no_mangle]
+pub extern "C" fn bench_verdict(
+    numbers: &[u64],
+    count: usize,
+    named: &[u64],
+    ranges: &[i64],
+    channels: usize,
+    times: &[u64],
+    values: &[i64],
+    step: u64,
+    drift: u64,
+    work: &mut [i64],
+) -> u64 {
+    let nodes = nodes_of(numbers);
+    let table = Table {
+        nodes: nodes,
+        count: count,
+    };
+    let predicates = predicates_of(named, ranges);
+    let answer = verdicts::verdict(
+        table,
+        predicates,
+        channels,
+        times,
+        values,
+        step,
+        drift,
+        work,
+    );
+    match answer {
+        verdicts::Answer::Judged(_, _, _) => 0,
+        verdicts::Answer::Refused(number) => number,
     }
 }
