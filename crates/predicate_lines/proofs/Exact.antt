@@ -27,14 +27,14 @@ use Rattle.predicate_lines.proofs.Written.{line-is, line-taken, line-fe
 -- ---- sound
 
 -- the lines between two places, and what they set
-pub record Between·lines (s : List ℕ) (at : ℕ) (ps : List Predicate) (n : ℕ) (qs : List Predicate) : Type 0 where
+pub record LinesRead (s : List ℕ) (at : ℕ) (ps : List Predicate) (n : ℕ) (qs : List Predicate) : Type 0 where
   pub taken : List (List ℕ)
   pub cuts : lines (drop at s) ≡ taken ++ lines (drop n s)
   pub form : Lines ps taken qs
   pub place : n ≡ at + size taken
 
 LinesHere : List ℕ → Predicates → Predicates → Type 0
-LinesHere s ps q = q .ok ≡ true → Between·lines s (ps .next) (ps .all) (q .next) (q .all)
+LinesHere s ps q = q .ok ≡ true → LinesRead s (ps .next) (ps .all) (q .next) (q .all)
 
 -- a line that was stored
 record Stored (s : List ℕ) (ps q : Predicates) : Type 0 where
@@ -63,7 +63,7 @@ with-ok s ps h = go (lineAt s (ps .next)) refl h
 more-here : (s : List ℕ) (ps q : Predicates) → Stored s ps q → (r : Predicates) → LinesHere s q r → LinesHere s ps r
 unfolding LinesHere size
 more-here s ps q w r h o =
-    let m : Between·lines s (w .next) (set (ps .all) (w .number) (w .predicate)) (r .next) (r .all) = rw (w .same) at (h o) in
+    let m : LinesRead s (w .next) (set (ps .all) (w .number) (w .predicate)) (r .next) (r .all) = rw (w .same) at (h o) in
     let l = line-is s (ps .next) (w .number) (w .predicate) (w .next) (w .reads) in
     record {
       taken = l .0 ∷ m .taken;
@@ -82,7 +82,7 @@ lines-here (suc f) s ps =
     (λ o g. absurd (false-true (sym o ∙ g))))
     (λ t o. record { taken = []; cuts = refl; form = over; place = omega arith })
 
-pub predicates-are : (s : List ℕ) (at : ℕ) → linesAt s at .ok ≡ true → Between·lines s at unset (linesAt s at .next) (linesAt s at .all)
+pub predicates-are : (s : List ℕ) (at : ℕ) → linesAt s at .ok ≡ true → LinesRead s at unset (linesAt s at .next) (linesAt s at .all)
 unfolding linesAt LinesHere
 predicates-are s at o = lines-here 16 s (record { ok = true; next = at; all = unset }) o
 

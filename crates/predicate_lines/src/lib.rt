@@ -70,19 +70,20 @@ fn range_of(lo: Bound, hi: Bound) -> Range
 fn read_line(s: &[u8], at: usize) -> Line
     ensures { λ r. ⌜ r ≡ lineAt (now (s .entry)) at ⌝ }
 {
-    let Field::Number(number, a) = text::read_field(s, at, b"p=", 15) else {
+    let Field::Number(number, channel_at) = text::read_field(s, at, b"p=", 15) else {
         return Line::Bad;
     };
-    let Field::Number(channel, b) = text::read_field(s, a, b" ch=", text::LARGEST) else {
+    let Field::Number(channel, lo_at) = text::read_field(s, channel_at, b" ch=", text::LARGEST)
+    else {
         return Line::Bad;
     };
-    let End::Read(lo, c) = read_end(s, b, b" lo=") else {
+    let End::Read(lo, hi_at) = read_end(s, lo_at, b" lo=") else {
         return Line::Bad;
     };
-    let End::Read(hi, d) = read_end(s, c, b" hi=") else {
+    let End::Read(hi, end) = read_end(s, hi_at, b" hi=") else {
         return Line::Bad;
     };
-    let Mark::Next(next) = text::read_mark(s, d, b"\n") else {
+    let Mark::Next(next) = text::read_mark(s, end, b"\n") else {
         return Line::Bad;
     };
     let predicate = Predicate {

@@ -31,7 +31,7 @@ pub data Signed : List ℕ → ℤ → Type 0 where
   plain : {w : List ℕ} {v : ℕ} → Numeral w v → v ≤ largestSigned → Signed w (pos v)
   minus : {w : List ℕ} {v : ℕ} → Numeral w v → 0 < v → v ≤ largestSigned → Signed (bytes "-" ++ w) (negℤ (pos v))
 
--- the fields ` v0=`, ` v1=` and so on: of k channels, from channel c on
+-- the fields ` v0=`, ` v1=` and so on: of k channels, from channel c on, whose number is written as any other
 pub data Values : ℕ → ℕ → List ℕ → List ℤ → Type 0 where
   none : {c : ℕ} → Values c 0 [] []
   next : {c k : ℕ} {n w ws : List ℕ} {v : ℤ} {vs : List ℤ} → c ≤ largest → Numeral n c → Signed w v → Values (c + 1) k ws vs

@@ -135,7 +135,7 @@ sheet-sound s =
 
 -- ---- complete
 
-size-append : (ls ms : List (List ℕ)) → size (ls ++ ms) ≡ size ls + size ms
+pub size-append : (ls ms : List (List ℕ)) → size (ls ++ ms) ≡ size ls + size ms
 unfolding size
 size-append [] ms = sym (zero-add (size ms))
 size-append (l ∷ ls) ms = let h : size (ls ++ ms) ≡ size ls + size ms = size-append ls ms in omega arith
@@ -272,7 +272,9 @@ alike-lines (more {l} {ls} line free rest) a ks e =
     let u = alike-lines rest (t .2) ks refl in
     (u .0, t .1 ∙ ap (λ (x : List (List ℕ)). l ∷ x) (u .1), u .2)
 
-alike-form : (a b : List ℕ) (x : Sheet) → SameButFilled a b → length b ≤ limit → Form a x → Form b x
+-- the same head, and rows that differ in filled ones alone
+pub alike-form : (a b : List ℕ) (x : Sheet) → SameButFilled a b → length b ≤ limit → (f : Form a x)
+    → (g : Form b x) × (f .requirement ≡ g .requirement) × Alike (f .rows) (g .rows)
 alike-form a b x h short f =
     let req : List ℕ = bytes "req=" ++ f .requirement ++ bytes "\n" in
     let i : getD (f .chan) 0 0 ≡ 99 = ap (λ (y : List ℕ). getD y 0 0) (f .channels .written) in
@@ -282,27 +284,30 @@ alike-form a b x h short f =
     let u = alike-lines (f .predicates) (t .2) (f .step ∷ f .drift ∷ req ∷ f .rows) refl in
     let v = alike-line (u .2) (f .step) (f .drift ∷ req ∷ f .rows) refl (omega arith) in
     let w = alike-line (v .2) (f .drift) (req ∷ f .rows) refl (omega arith) in
-    let y = alike-line (w .2) req (f .rows) refl (omega arith) in
-    record {
-      chan = f .chan;
-      ps = f .ps;
-      step = f .step;
-      drift = f .drift;
-      requirement = f .requirement;
-      rows = y .0;
-      short = short;
-      cuts = t .1 ∙ ap (λ (ls : List (List ℕ)). f .chan ∷ ls) (u .1 ∙ ap (λ (ls : List (List ℕ)). f .ps ++ ls)
-          (v .1 ∙ ap (λ (ls : List (List ℕ)). f .step ∷ ls) (w .1 ∙ ap (λ (ls : List (List ℕ)). f .drift ∷ ls) (y .1))));
-      channels = f .channels;
-      predicates = f .predicates;
-      steps = f .steps;
-      drifts = f .drifts;
-      from = f .from;
-      to = f .to;
-      behind = f .behind;
-      listed = λ z. let r = f .listed z in (r .0, r .1, alike-rows (y .2) (r .2));
-      number = f .number;
-    }
+    let y = alike-line (w .2) req (f .rows) refl (omega arith) in (
+      record {
+        chan = f .chan;
+        ps = f .ps;
+        step = f .step;
+        drift = f .drift;
+        requirement = f .requirement;
+        rows = y .0;
+        short = short;
+        cuts = t .1 ∙ ap (λ (ls : List (List ℕ)). f .chan ∷ ls) (u .1 ∙ ap (λ (ls : List (List ℕ)). f .ps ++ ls)
+            (v .1 ∙ ap (λ (ls : List (List ℕ)). f .step ∷ ls) (w .1 ∙ ap (λ (ls : List (List ℕ)). f .drift ∷ ls) (y .1))));
+        channels = f .channels;
+        predicates = f .predicates;
+        steps = f .steps;
+        drifts = f .drifts;
+        from = f .from;
+        to = f .to;
+        behind = f .behind;
+        listed = λ z. let r = f .listed z in (r .0, r .1, alike-rows (y .2) (r .2));
+        number = f .number;
+      },
+      refl,
+      y .2,
+    )
 
 -- two texts within the size limit that differ in filled rows alone give the same sheet
 pub sheet-alike : (a b : List ℕ) → length a ≤ limit → length b ≤ limit → SameButFilled a b → sheetOf a ≡ sheetOf b
@@ -312,4 +317,4 @@ sheet-alike a b p q h =
     (sheet-or-blank a)
   where
     lead : (a b : List ℕ) → length b ≤ limit → SameButFilled a b → sheetOf a .number ≡ 0 → sheetOf a ≡ sheetOf b
-    lead a b q h e = sym (sheet-complete b (sheetOf a) (alike-form a b (sheetOf a) h q (sheet-sound a e)))
+    lead a b q h e = sym (sheet-complete b (sheetOf a) (alike-form a b (sheetOf a) h q (sheet-sound a e) .0))

@@ -1,6 +1,7 @@
--- What is read is what is written (`Written`, `Exact`), the steps of the code (`Steps`, `Chain`), and the examples.
+-- What is read is what is written (`Written`, `Exact`), what the places hold (`Behind`), the steps of the code (`Steps`, `Chain`), and the examples.
 pub mod Written
 pub mod Exact
+pub mod Behind
 pub mod Steps
 pub mod Chain
 pub mod Examples

@@ -107,21 +107,21 @@ pub fn read_sheet(s: &[u8]) -> Sheet
     if row_lines::LIMIT < s.len() {
         return refused();
     }
-    let Field::Number(channels, a) = read_number(s, 0, b"chan=") else {
+    let Field::Number(channels, predicates_at) = read_number(s, 0, b"chan=") else {
         return refused();
     };
-    let predicates = predicate_lines::read_predicates(s, a);
+    let predicates = predicate_lines::read_predicates(s, predicates_at);
     if !predicates.ok {
         return refused();
     }
-    let b = predicates.next;
-    let Field::Number(step, c) = read_number(s, b, b"step=") else {
+    let step_at = predicates.next;
+    let Field::Number(step, drift_at) = read_number(s, step_at, b"step=") else {
         return refused();
     };
-    let Field::Number(drift, d) = read_number(s, c, b"drift=") else {
+    let Field::Number(drift, requirement_at) = read_number(s, drift_at, b"drift=") else {
         return refused();
     };
-    let Requirement::At(from, to, rows) = read_requirement(s, d) else {
+    let Requirement::At(from, to, rows) = read_requirement(s, requirement_at) else {
         return refused();
     };
     if !keeps_rows(s, rows, channels as usize) {
