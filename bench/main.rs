@@ -78,10 +78,10 @@ impl Random {
     }
 }
 
-/// Seconds for one call, from a run of calls that lasts some milliseconds.
+/// Seconds for one call, from a run of calls that lasts a millisecond or more.
 fn seconds(mut call: impl FnMut()) -> f64 {
     let (began, mut calls) = (Instant::now(), 0u32);
-    while calls == 0 || began.elapsed().as_secs_f64() < 0.003 {
+    while calls == 0 || began.elapsed().as_secs_f64() < 0.001 {
         call();
         calls += 1;
     }
@@ -93,7 +93,7 @@ fn compare<T: PartialEq>(cells: usize, mut ours: impl FnMut(&mut [i64]) -> Optio
     let mut a = vec![0; cells + 3];
     let mut b = a.clone();
     let (mut best, mut plain) = (f64::MAX, f64::MAX);
-    for _ in 0..9 {
+    for _ in 0..41 {
         let (mut x, mut y) = (None, None);
         best = best.min(seconds(|| x = ours(&mut a)));
         plain = plain.min(seconds(|| y = theirs(&mut b)));

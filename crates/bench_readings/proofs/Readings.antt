@@ -2,8 +2,9 @@
 -- Assumes nothing.
 use mathlib.Core.Path.{_≡_, refl, sym, ap, _∙_}
 use mathlib.Core.List.{List, [], _∷_, map}
-use Prim.Native.Nat.{ℕ, zero, suc}
+use Prim.Native.Nat.{ℕ}
 use lib.ListN.{getD}
+use Rattle.lists.proofs.Maps.{map-at}
 use Rattle.recordings.specs.Margin.{robustness}
 use Rattle.tables.specs.Tree.{trees, tree}
 use Rattle.tables.specs.Rules.{node-obeys, nodes-obey, table-obeys}
@@ -13,25 +14,20 @@ use Rattle.rules.specs.Recording.{lengths-obey, all-rising, all-early, times-ob
 use Rattle.sampling.specs.Sampling.{step-obeys, all-close, times-close, near, all-near, values-near}
 use Rattle.margins.specs.Answers.{judged as margin-judged}
 use Rattle.verdicts.specs.Answer.{refusal, judged}
-use Rattle.text.specs.Mark.{prefixOf, markAt}
-use Rattle.text.specs.Number.{digits, value, numberAt, fieldAt}
+use Rattle.text.specs.Mark.{prefix-of, mark-at}
+use Rattle.text.specs.Number.{digits, value, number-at, field-at}
 use Rattle.grammar.specs.Tree.{size}
-use Rattle.building.specs.Nodes.{nodesOf}
-use Rattle.grammar.specs.Reading.{windowAt, timedAt, timedAmong, leafAt, moreTurns, bindBy, unaryBy, unaryAt, requirementTree}
+use Rattle.building.specs.Nodes.{nodes-of}
+use Rattle.grammar.specs.Reading.{window-at, timed-at, timed-among, leaf-at, more-turns, bind-by, unary-by, unary-at, requirement-tree}
 use Rattle.bench_readings.specs.Readings.{Question, Answer, answer, Reading, readings}
 
 table : map (λ (r : Reading). map answer (r .asked)) readings ≡ map (λ (r : Reading). r .answered) readings
-unfolding robustness margin-judged judged refusal first tree trees requirement-obeys table-obeys nodes-obey node-obeys all-named names-set channels-obey predicates-obey predicate-obeys value-obeys times-obey all-rising all-early lengths-obey values-obey all-in-range step-obeys times-close all-close values-near all-near near prefixOf markAt digits value numberAt fieldAt size windowAt timedAt timedAmong leafAt moreTurns bindBy unaryBy unaryAt requirementTree nodesOf
+unfolding robustness margin-judged judged refusal first tree trees requirement-obeys table-obeys nodes-obey node-obeys all-named names-set channels-obey predicates-obey predicate-obeys value-obeys times-obey all-rising all-early lengths-obey values-obey all-in-range step-obeys times-close all-close values-near all-near near prefix-of mark-at digits value number-at field-at size window-at timed-at timed-among leaf-at more-turns bind-by unary-by unary-at requirement-tree nodes-of
 table = refl
-
-mapped : {X Y : Type 0} (f : X → Y) (xs : List X) (k : ℕ) (d : X) → getD (map f xs) k (f d) ≡ f (getD xs k d)
-mapped f [] k d = refl
-mapped f (x ∷ xs) zero d = refl
-mapped f (x ∷ xs) (suc k) d = mapped f xs k d
 
 -- what entry k asks is answered as entry k says
 pub each : (k : ℕ) → map answer (getD readings k (record { asked = []; answered = [] }) .asked) ≡ getD readings k (record { asked = []; answered = [] }) .answered
 each k =
-    sym (mapped (λ (r : Reading). map answer (r .asked)) readings k (record { asked = []; answered = [] }))
+    sym (map-at (λ (r : Reading). map answer (r .asked)) readings k (record { asked = []; answered = [] }))
     ∙ ap (λ (l : List (List Answer)). getD l k []) table
-    ∙ mapped (λ (r : Reading). r .answered) readings k (record { asked = []; answered = [] })
+    ∙ map-at (λ (r : Reading). r .answered) readings k (record { asked = []; answered = [] })

@@ -14,7 +14,7 @@ use Rattle.tables.specs.declared.Table.{Table}
 use Rattle.margins.specs.Answers.{Outcome as MarginOutcome, judged as margin-judged}
 use Rattle.verdicts.specs.Answer.{Outcome as VerdictOutcome, judged as verdict-judged}
 use Rattle.text.specs.Bytes.{bytes}
-use Rattle.requirements.specs.Requirement.{requirementOf}
+use Rattle.requirements.specs.Requirement.{requirement-of}
 
 -- times 0 to 3, values 5, 7, 2, 9; p0 at least 3, p1 at most 6
 abbrev pub bench : Card
@@ -27,7 +27,7 @@ bench = record {
 
 -- the table that the requirement reader makes of a text
 abbrev pub table-of : String → Table
-table-of text = requirementOf (bytes text) .table
+table-of text = requirement-of (bytes text) .table
 
 -- what the margin function answers on the bench recording; a value's distance from "between 3 and 8"; what the verdict function answers, at a drift, on the
 -- program's recording, whose step is 1

@@ -10,8 +10,8 @@ use lib.ListN.{length, getD, take, set, replicate, length-append, length-take, L
 use lib.Seq.{sets, sets-eq, set-at, take-suc, take-all}
 use Rattle.tables.specs.declared.Node.{Node}
 use Rattle.grammar.specs.Tree.{Tree, truth, predicate, one, two, size}
-use Rattle.building.specs.Nodes.{node, emptyNode, nodesOf}
-use Rattle.building.specs.Storing.{cellsOf, nodeAt, nodesFrom}
+use Rattle.building.specs.Nodes.{node, empty-node, nodes-of}
+use Rattle.building.specs.Storing.{cells-of, node-from, nodes-from}
 
 -- ---- counts
 
@@ -22,21 +22,21 @@ size-some (predicate p) = omega arith
 size-some (one k w a) = omega arith
 size-some (two k w a b) = omega arith
 
-pub length-nodes : (o : ℕ) (a : Tree) → length (nodesOf o a) ≡ size a
-unfolding nodesOf size
+pub length-nodes : (o : ℕ) (a : Tree) → length (nodes-of o a) ≡ size a
+unfolding nodes-of size
 length-nodes o truth = refl
 length-nodes o (predicate p) = refl
 length-nodes o (one k w a) = rw (length-append, length-nodes o a)
 length-nodes o (two k w a b) =
     rw (length-append, length-nodes o a) (rw (length-append, length-nodes (o + size a) b) (omega arith))
 
-pub length-cells : (xs : List Node) → length (cellsOf xs) ≡ 5 * length xs
-unfolding cellsOf
+pub length-cells : (xs : List Node) → length (cells-of xs) ≡ 5 * length xs
+unfolding cells-of
 length-cells [] = refl
-length-cells (x ∷ xs) = let h : length (cellsOf xs) ≡ 5 * length xs = length-cells xs in omega arith
+length-cells (x ∷ xs) = let h : length (cells-of xs) ≡ 5 * length xs = length-cells xs in omega arith
 
-pub cells-append : (xs ys : List Node) → cellsOf (xs ++ ys) ≡ cellsOf xs ++ cellsOf ys
-unfolding cellsOf
+pub cells-append : (xs ys : List Node) → cells-of (xs ++ ys) ≡ cells-of xs ++ cells-of ys
+unfolding cells-of
 cells-append [] ys = refl
 cells-append (x ∷ xs) ys = rw (cells-append xs ys)
 
@@ -53,16 +53,16 @@ sets-five l i a b c d e = simp towards-suc
 
 -- nodes after nodes
 pub sets-nodes : (l : List ℕ) (o m : ℕ) (xs ys : List Node) → length xs ≡ m
-    → sets (sets l (5 * o) (cellsOf xs)) (5 * (o + m)) (cellsOf ys) ≡ sets l (5 * o) (cellsOf (xs ++ ys))
+    → sets (sets l (5 * o) (cells-of xs)) (5 * (o + m)) (cells-of ys) ≡ sets l (5 * o) (cells-of (xs ++ ys))
 sets-nodes l o m xs ys e =
-    let n : 5 * (o + m) ≡ 5 * o + length (cellsOf xs) = rw (length-cells xs) (omega arith) in
-    sym (rw (cells-append xs ys, sets-append l (5 * o) (cellsOf xs) (cellsOf ys), n))
+    let n : 5 * (o + m) ≡ 5 * o + length (cells-of xs) = rw (length-cells xs) (omega arith) in
+    sym (rw (cells-append xs ys, sets-append l (5 * o) (cells-of xs) (cells-of ys), n))
 
 -- ---- reading back
 
 -- the node at a number of cells that nodes begin
-node-back : (xs : List Node) (r : List ℕ) (k : ℕ) → k < length xs → nodeAt (cellsOf xs ++ r) k ≡ getD xs k emptyNode
-unfolding cellsOf
+node-back : (xs : List Node) (r : List ℕ) (k : ℕ) → k < length xs → node-from (cells-of xs ++ r) k ≡ getD xs k empty-node
+unfolding cells-of
 node-back [] r k l = absurd (omega arith)
 node-back (x ∷ xs) r zero l = refl
 node-back (x ∷ xs) r (suc k) l =
@@ -75,20 +75,20 @@ node-back (x ∷ xs) r (suc k) l =
 
 -- the table of the first n of the nodes
 nodes-back : (xs : List Node) (r : List ℕ) (n : ℕ) → n ≤ length xs → length xs ≤ 64
-    → nodesFrom (cellsOf xs ++ r) n ≡ take n xs ++ replicate (64 - n) emptyNode
-unfolding nodesFrom
+    → nodes-from (cells-of xs ++ r) n ≡ take n xs ++ replicate (64 - n) empty-node
+unfolding nodes-from
 nodes-back xs r zero l m = refl
 nodes-back xs r (suc n) l m =
     let e : 64 - n ≡ suc (64 - suc n) = omega arith in
     let f : length (take n xs) ≡ n = rw length-take (omega arith) in
-    rw (nodes-back xs r n (omega arith) m, node-back xs r n (omega arith), e, set-at (take n xs) emptyNode (replicate (64 - suc n) emptyNode) (getD xs n emptyNode) n f, take-suc xs n emptyNode)
-    (sym (append-assoc (take n xs) (getD xs n emptyNode ∷ []) (replicate (64 - suc n) emptyNode)))
+    rw (nodes-back xs r n (omega arith) m, node-back xs r n (omega arith), e, set-at (take n xs) empty-node (replicate (64 - suc n) empty-node) (getD xs n empty-node) n f, take-suc xs n empty-node)
+    (sym (append-assoc (take n xs) (getD xs n empty-node ∷ []) (replicate (64 - suc n) empty-node)))
 
 -- a table that was written from number 0 on is read back
 abbrev pub zeros : List ℕ
 zeros = replicate 320 0
 
-pub table-back : (xs : List Node) → length xs ≤ 64 → nodesFrom (sets zeros 0 (cellsOf xs)) (length xs) ≡ xs ++ replicate (64 - length xs) emptyNode
+pub table-back : (xs : List Node) → length xs ≤ 64 → nodes-from (sets zeros 0 (cells-of xs)) (length xs) ≡ xs ++ replicate (64 - length xs) empty-node
 table-back xs l =
-    let e : 0 + length (cellsOf xs) ≤ length zeros = rw (length-cells xs) (omega arith) in
-    rw (sets-eq (cellsOf xs) zeros 0 e, nodes-back xs _ (length xs) (omega arith) l, take-all (length xs) xs (omega arith))
+    let e : 0 + length (cells-of xs) ≤ length zeros = rw (length-cells xs) (omega arith) in
+    rw (sets-eq (cells-of xs) zeros 0 e, nodes-back xs _ (length xs) (omega arith) l, take-all (length xs) xs (omega arith))

@@ -11,21 +11,21 @@ use lib.Seq.{sets}
 use lib.Dec.{leb}
 use borrow.Author.Tests.{leb-true, leb-false, le-leb, lt-leb}
 use Rattle.text.specs.Bytes.{bytes}
-use Rattle.text.specs.Mark.{markAt, afterMark}
-use Rattle.text.specs.Number.{fieldAt}
+use Rattle.text.specs.Mark.{mark-at, after-mark}
+use Rattle.text.specs.Number.{field-at}
 use Rattle.text.specs.declared.Mark.{Mark}
 use Rattle.text.specs.declared.Mark.the-variants.{Next, Bad as Mark·Bad}
 use Rattle.text.specs.declared.Field.the-variants.{Number, Bad as Field·Bad}
 use Rattle.text.proofs.Tests.{by-test}
 use Rattle.tables.specs.declared.Node.{Node}
 use Rattle.grammar.specs.declared.Span.{Span}
-use Rattle.grammar.specs.Operators.{letter, trueKind, predicateKind}
-use Rattle.grammar.specs.Tree.{Tree, truth, predicate, one, two, size, noSpan}
-use Rattle.grammar.specs.Reading.{Reading, got, none, onGot, closing, leafAt}
+use Rattle.grammar.specs.Operators.{letter, true-kind, predicate-kind}
+use Rattle.grammar.specs.Tree.{Tree, truth, predicate, one, two, size, no-span}
+use Rattle.grammar.specs.Reading.{Reading, got, none, on-got, closing, leaf-at}
 use Rattle.building.specs.declared.Step.{Step}
 use Rattle.building.specs.declared.Step.the-variants.{Read, Refused}
-use Rattle.building.specs.Nodes.{node, nodesOf}
-use Rattle.building.specs.Storing.{cellsOf, stepOf, Wrote, Done, afterStep, pushedStep, pushedCells, parentStep, wrapCells, joinCells, closedStep}
+use Rattle.building.specs.Nodes.{node, nodes-of}
+use Rattle.building.specs.Storing.{cells-of, step-of, Wrote, Done, after-step, pushed-step, pushed-cells, parent-step, wrap-cells, join-cells, closed-step}
 use Rattle.building.proofs.Cells.{length-nodes, sets-nodes}
 
 by-le : {A : Type 0} (m n : ℕ) → (m ≤ n → A) → (n < m → A) → A
@@ -33,23 +33,23 @@ by-le m n f g = by-test (leb m n) (λ e. f (leb-true m n e)) (λ e. g (leb-false
 
 -- ---- steps and readings
 
-step-small : (o : ℕ) (a : Tree) (n : ℕ) → o + size a ≤ 64 → stepOf o (got a n) ≡ Read n (o + size a - 1) (o + size a)
-unfolding stepOf
+step-small : (o : ℕ) (a : Tree) (n : ℕ) → o + size a ≤ 64 → step-of o (got a n) ≡ Read n (o + size a - 1) (o + size a)
+unfolding step-of
 step-small o a n h = rw (le-leb (o + size a) 64 h)
 
-pub step-big : (o : ℕ) (a : Tree) (n : ℕ) → 64 < o + size a → stepOf o (got a n) ≡ Refused
-unfolding stepOf
+pub step-big : (o : ℕ) (a : Tree) (n : ℕ) → 64 < o + size a → step-of o (got a n) ≡ Refused
+unfolding step-of
 step-big o a n h = rw (lt-leb (o + size a) 64 h)
 
-pub step-none : (o : ℕ) → stepOf o none ≡ Refused
-unfolding stepOf
+pub step-none : (o : ℕ) → step-of o none ≡ Refused
+unfolding step-of
 step-none o = refl
 
 refused-read : {e r f : ℕ} → Refused ≡ Read e r f → ⊥
 refused-read h = let z : _≡_ {A = ℕ} 0 1 = cc in omega arith
 
 -- a tree that is refused for its size, or none
-pub refused-big : (o : ℕ) (a : Tree) (n : ℕ) → stepOf o (got a n) ≡ Refused → 64 < o + size a
+pub refused-big : (o : ℕ) (a : Tree) (n : ℕ) → step-of o (got a n) ≡ Refused → 64 < o + size a
 refused-big o a n h = by-le (o + size a) 64 (λ l. absurd (refused-read (sym h ∙ step-small o a n l))) (λ l. l)
 
 -- what a reading is that was not refused
@@ -60,7 +60,7 @@ pub record ReadIs (o : ℕ) (x : Reading) (e r f : ℕ) : Type 0 where
   pub root : r ≡ o + size tree - 1
   pub free : f ≡ o + size tree
 
-pub read-is : (o : ℕ) (x : Reading) (e r f : ℕ) → stepOf o x ≡ Read e r f → ReadIs o x e r f
+pub read-is : (o : ℕ) (x : Reading) (e r f : ℕ) → step-of o x ≡ Read e r f → ReadIs o x e r f
 read-is o none e r f h = absurd (refused-read (sym (step-none o) ∙ h))
 read-is o (got a n) e r f h =
     by-le (o + size a) 64
@@ -71,7 +71,7 @@ read-is o (got a n) e r f h =
     (λ l. absurd (refused-read (sym (step-big o a n l) ∙ h)))
 
 -- a refused reading is done, whatever the cells hold
-pub refused-done : (o : ℕ) (x : Reading) (before after : List ℕ) → stepOf o x ≡ Refused → Done o x Refused before after
+pub refused-done : (o : ℕ) (x : Reading) (before after : List ℕ) → step-of o x ≡ Refused → Done o x Refused before after
 unfolding Wrote
 refused-done o none before after h = record { step = sym h; cells = tt }
 refused-done o (got a n) before after h =
@@ -83,9 +83,9 @@ done-as o x y r before after e d = rw e at d
 -- ---- a parent after its children's nodes us
 
 parent-done : (o m : ℕ) (us : List Node) (x : Node) (b : Tree) (e : ℕ) (r : Step) (before mid after : List ℕ) → length us ≡ m → size b ≡ m + 1
-    → nodesOf o b ≡ us ++ (x ∷ []) → mid ≡ sets before (5 * o) (cellsOf us) → r ≡ pushedStep (o + m) e → after ≡ pushedCells (o + m) x mid
+    → nodes-of o b ≡ us ++ (x ∷ []) → mid ≡ sets before (5 * o) (cells-of us) → r ≡ pushed-step (o + m) e → after ≡ pushed-cells (o + m) x mid
     → Done o (got b e) r before after
-unfolding Wrote cellsOf
+unfolding Wrote cells-of
 parent-done o m us x b e r before mid after l z w h p q = by-le (o + m + 1) 64 small big
   where
     small : o + m + 1 ≤ 64 → Done o (got b e) r before after
@@ -94,11 +94,11 @@ parent-done o m us x b e r before mid after l z w h p q = by-le (o + m + 1) 64 s
         let root : o + m ≡ o + size b - 1 = omega arith in
         let free : o + m + 1 ≡ o + size b = omega arith in
         let r1 : r ≡ Read e (o + m) (o + m + 1) = rw t at p in
-        let a1 : after ≡ sets mid (5 * (o + m)) (cellsOf (x ∷ [])) = rw t at q in
+        let a1 : after ≡ sets mid (5 * (o + m)) (cells-of (x ∷ [])) = rw t at q in
         let same : Read e (o + m) (o + m + 1) ≡ Read e (o + size b - 1) (o + size b) = cc in
         record {
           step = r1 ∙ (same ∙ sym (step-small o b e (omega arith)));
-          cells = λ _. a1 ∙ (rw h (sets-nodes before o m us (x ∷ []) l) ∙ ap (λ (ns : List Node). sets before (5 * o) (cellsOf ns)) (sym w));
+          cells = λ _. a1 ∙ (rw h (sets-nodes before o m us (x ∷ []) l) ∙ ap (λ (ns : List Node). sets before (5 * o) (cells-of ns)) (sym w));
         }
 
     big : 64 < o + m + 1 → Done o (got b e) r before after
@@ -108,28 +108,28 @@ parent-done o m us x b e r before mid after l z w h p q = by-le (o + m + 1) 64 s
         rw r1 (refused-done o (got b e) before after (step-big o b e (omega arith)))
 
 -- what a step is whose reading is refused, and whose reading has room
-parent-refused : (o : ℕ) (x y : Reading) (i r : Step) (before mid after : List ℕ) → Done o x i before mid → stepOf o x ≡ Refused → r ≡ parentStep i → stepOf o y ≡ Refused
+parent-refused : (o : ℕ) (x y : Reading) (i r : Step) (before mid after : List ℕ) → Done o x i before mid → step-of o x ≡ Refused → r ≡ parent-step i → step-of o y ≡ Refused
     → Done o y r before after
 parent-refused o x y i r before mid after d h p q =
     let e : i ≡ Refused = d .step ∙ h in
     let f : r ≡ Refused = rw e at p in
     rw f (refused-done o y before after q)
 
-pub cells-small : (o : ℕ) (a : Tree) (n : ℕ) (i : Step) (before mid : List ℕ) → Done o (got a n) i before mid → o + size a ≤ 64 → mid ≡ sets before (5 * o) (cellsOf (nodesOf o a))
+pub cells-small : (o : ℕ) (a : Tree) (n : ℕ) (i : Step) (before mid : List ℕ) → Done o (got a n) i before mid → o + size a ≤ 64 → mid ≡ sets before (5 * o) (cells-of (nodes-of o a))
 unfolding Wrote
 cells-small o a n i before mid d h = d .cells h
 
 -- the parent of one reading
 pub one-done : (o k : ℕ) (w : Span) (x : Reading) (i r : Step) (before mid after : List ℕ) → Done o x i before mid
-    → r ≡ parentStep i → after ≡ wrapCells k w i mid → Done o (onGot x (λ a e. got (one k w a) e)) r before after
-unfolding size nodesOf
+    → r ≡ parent-step i → after ≡ wrap-cells k w i mid → Done o (on-got x (λ a e. got (one k w a) e)) r before after
+unfolding size nodes-of
 one-done o k w none i r before mid after d p q = parent-refused o none none i r before mid after d (step-none o) p (step-none o)
 one-done o k w (got a e) i r before mid after d p q = by-le (o + size a) 64 small big
   where
     small : o + size a ≤ 64 → Done o (got (one k w a) e) r before after
     small h =
         let f : i ≡ Read e (o + size a - 1) (o + size a) = d .step ∙ step-small o a e h in
-        parent-done o (size a) (nodesOf o a) (node k (o + size a - 1) 0 w) (one k w a) e r before mid after (length-nodes o a) refl refl
+        parent-done o (size a) (nodes-of o a) (node k (o + size a - 1) 0 w) (one k w a) e r before mid after (length-nodes o a) refl refl
         (cells-small o a e i before mid d h) (rw f at p) (rw f at q)
 
     big : 64 < o + size a → Done o (got (one k w a) e) r before after
@@ -137,9 +137,9 @@ one-done o k w (got a e) i r before mid after d p q = by-le (o + size a) 64 smal
 
 -- the parent of a left reading, whose nodes stand, and of the reading after it
 pub two-done : (o k : ℕ) (w : Span) (a : Tree) (y : Reading) (j r : Step) (before mid later after : List ℕ) → o + size a ≤ 64
-    → mid ≡ sets before (5 * o) (cellsOf (nodesOf o a)) → Done (o + size a) y j mid later → r ≡ parentStep j → after ≡ joinCells k w (o + size a - 1) j later
-    → Done o (onGot y (λ b e. got (two k w a b) e)) r before after
-unfolding size nodesOf
+    → mid ≡ sets before (5 * o) (cells-of (nodes-of o a)) → Done (o + size a) y j mid later → r ≡ parent-step j → after ≡ join-cells k w (o + size a - 1) j later
+    → Done o (on-got y (λ b e. got (two k w a b) e)) r before after
+unfolding size nodes-of
 two-done o k w a none j r before mid later after l c d p q =
     let e : j ≡ Refused = d .step ∙ step-none (o + size a) in
     let f : r ≡ Refused = rw e at p in
@@ -150,15 +150,15 @@ two-done o k w a (got b n) j r before mid later after l c d p q = by-le (o + siz
     small h =
         let f : j ≡ Read n (o + size a + size b - 1) (o + size a + size b) = d .step ∙ step-small (o + size a) b n h in
         let g : o + size a + size b ≡ o + (size a + size b) = omega arith in
-        let us = nodesOf o a ++ nodesOf (o + size a) b in
-        let m : later ≡ sets before (5 * o) (cellsOf us) =
-        cells-small (o + size a) b n j mid later d h ∙ rw c (sets-nodes before o (size a) (nodesOf o a) (nodesOf (o + size a) b) (length-nodes o a)) in
-        let r1 : r ≡ pushedStep (o + size a + size b) n = rw f at p in
-        let a1 : after ≡ pushedCells (o + size a + size b) (node k (o + size a - 1) (o + size a + size b - 1) w) later = rw f at q in
+        let us = nodes-of o a ++ nodes-of (o + size a) b in
+        let m : later ≡ sets before (5 * o) (cells-of us) =
+        cells-small (o + size a) b n j mid later d h ∙ rw c (sets-nodes before o (size a) (nodes-of o a) (nodes-of (o + size a) b) (length-nodes o a)) in
+        let r1 : r ≡ pushed-step (o + size a + size b) n = rw f at p in
+        let a1 : after ≡ pushed-cells (o + size a + size b) (node k (o + size a - 1) (o + size a + size b - 1) w) later = rw f at q in
         parent-done o (size a + size b) us (node k (o + size a - 1) (o + size a + size b - 1) w) (two k w a b) n r before later after
         (rw (length-append, length-nodes o a, length-nodes (o + size a) b)) refl
-        (sym (append-assoc (nodesOf o a) (nodesOf (o + size a) b) (node k (o + size a - 1) (o + size a + size b - 1) w ∷ [])))
-        m (r1 ∙ ap (λ (c : ℕ). pushedStep c n) g) (a1 ∙ ap (λ (c : ℕ). pushedCells c (node k (o + size a - 1) (o + size a + size b - 1) w) later) g)
+        (sym (append-assoc (nodes-of o a) (nodes-of (o + size a) b) (node k (o + size a - 1) (o + size a + size b - 1) w ∷ [])))
+        m (r1 ∙ ap (λ (c : ℕ). pushed-step c n) g) (a1 ∙ ap (λ (c : ℕ). pushed-cells c (node k (o + size a - 1) (o + size a + size b - 1) w) later) g)
 
     big : 64 < o + size a + size b → Done o (got (two k w a b) n) r before after
     big h =
@@ -167,17 +167,17 @@ two-done o k w a (got b n) j r before mid later after l c d p q = by-le (o + siz
         rw f (refused-done o (got (two k w a b) n) before after (step-big o (two k w a b) n (omega arith)))
 
 -- a reading and its closing parenthesis
-pub close-done : (o : ℕ) (s : List ℕ) (x : Reading) (i r : Step) (before after : List ℕ) → Done o x i before after → r ≡ closedStep s i → Done o (closing s x) r before after
+pub close-done : (o : ℕ) (s : List ℕ) (x : Reading) (i r : Step) (before after : List ℕ) → Done o x i before after → r ≡ closed-step s i → Done o (closing s x) r before after
 close-done o s none i r before after d p =
     let e : i ≡ Refused = d .step ∙ step-none o in
     let f : r ≡ Refused = rw e at p in
     rw f (refused-done o none before after (step-none o))
-close-done o s (got a n) i r before after d p = by-le (o + size a) 64 (λ h. small h (markAt (bytes ")") s n) refl) (λ h. big h (markAt (bytes ")") s n) refl)
+close-done o s (got a n) i r before after d p = by-le (o + size a) 64 (λ h. small h (mark-at (bytes ")") s n) refl) (λ h. big h (mark-at (bytes ")") s n) refl)
   where
     moved : (m : ℕ) → Wrote o (got a n) before after → Wrote o (got a m) before after
     moved m w = unfold Wrote in w
 
-    small : o + size a ≤ 64 → (m : Mark) → markAt (bytes ")") s n ≡ m → Done o (afterMark m (λ e. got a e) none) r before after
+    small : o + size a ≤ 64 → (m : Mark) → mark-at (bytes ")") s n ≡ m → Done o (after-mark m (λ e. got a e) none) r before after
     small h (Next m) e =
         let f : i ≡ Read n (o + size a - 1) (o + size a) = d .step ∙ step-small o a n h in
         let g : r ≡ Read m (o + size a - 1) (o + size a) = rw (f, e) at p in
@@ -190,31 +190,31 @@ close-done o s (got a n) i r before after d p = by-le (o + size a) 64 (λ h. sma
     refused : 64 < o + size a → r ≡ Refused
     refused h = let f : i ≡ Refused = d .step ∙ step-big o a n h in rw f at p
 
-    big : 64 < o + size a → (m : Mark) → markAt (bytes ")") s n ≡ m → Done o (afterMark m (λ e. got a e) none) r before after
+    big : 64 < o + size a → (m : Mark) → mark-at (bytes ")") s n ≡ m → Done o (after-mark m (λ e. got a e) none) r before after
     big h (Next m) e = rw (refused h) (refused-done o (got a m) before after (step-big o a m h))
     big h Mark·Bad e = rw (refused h) (refused-done o none before after (step-none o))
 
 -- ---- leaves
 
-leaf-done : (o : ℕ) (a : Tree) (x : Node) (n : ℕ) (r : Step) (before after : List ℕ) → size a ≡ 1 → nodesOf o a ≡ x ∷ [] → r ≡ pushedStep o n → after ≡ pushedCells o x before
+leaf-done : (o : ℕ) (a : Tree) (x : Node) (n : ℕ) (r : Step) (before after : List ℕ) → size a ≡ 1 → nodes-of o a ≡ x ∷ [] → r ≡ pushed-step o n → after ≡ pushed-cells o x before
     → Done o (got a n) r before after
 leaf-done o a x n r before after z w p q =
-    parent-done o 0 [] x a n r before before after refl z w nothing (p ∙ ap (λ (c : ℕ). pushedStep c n) (sym (add-zero o))) (q ∙ ap (λ (c : ℕ). pushedCells c x before) (sym (add-zero o)))
+    parent-done o 0 [] x a n r before before after refl z w nothing (p ∙ ap (λ (c : ℕ). pushed-step c n) (sym (add-zero o))) (q ∙ ap (λ (c : ℕ). pushed-cells c x before) (sym (add-zero o)))
   where
-    nothing : before ≡ sets before (5 * o) (cellsOf [])
-    nothing = unfold cellsOf in refl
+    nothing : before ≡ sets before (5 * o) (cells-of [])
+    nothing = unfold cells-of in refl
 
 module _ (o : ℕ) (s : List ℕ) (at : ℕ) (r : Step) (before after : List ℕ) where
-  pub true-done : (n : ℕ) → markAt (letter trueKind) s at ≡ Next n → r ≡ pushedStep o n → after ≡ pushedCells o (node trueKind 0 0 noSpan) before
-      → Done o (leafAt s at) r before after
-  unfolding leafAt size nodesOf
-  true-done n e p q = rw e (leaf-done o truth (node trueKind 0 0 noSpan) n r before after refl refl p q)
+  pub true-done : (n : ℕ) → mark-at (letter true-kind) s at ≡ Next n → r ≡ pushed-step o n → after ≡ pushed-cells o (node true-kind 0 0 no-span) before
+      → Done o (leaf-at s at) r before after
+  unfolding leaf-at size nodes-of
+  true-done n e p q = rw e (leaf-done o truth (node true-kind 0 0 no-span) n r before after refl refl p q)
 
-  pub predicate-done : (v n : ℕ) → markAt (letter trueKind) s at ≡ Mark·Bad → fieldAt (letter predicateKind) s at 15 ≡ Number v n
-      → r ≡ pushedStep o n → after ≡ pushedCells o (node predicateKind v 0 noSpan) before → Done o (leafAt s at) r before after
-  unfolding leafAt size nodesOf
-  predicate-done v n e f p q = rw (e, f) (leaf-done o (predicate v) (node predicateKind v 0 noSpan) n r before after refl refl p q)
+  pub predicate-done : (v n : ℕ) → mark-at (letter true-kind) s at ≡ Mark·Bad → field-at (letter predicate-kind) s at 15 ≡ Number v n
+      → r ≡ pushed-step o n → after ≡ pushed-cells o (node predicate-kind v 0 no-span) before → Done o (leaf-at s at) r before after
+  unfolding leaf-at size nodes-of
+  predicate-done v n e f p q = rw (e, f) (leaf-done o (predicate v) (node predicate-kind v 0 no-span) n r before after refl refl p q)
 
-  pub leaf-refused : markAt (letter trueKind) s at ≡ Mark·Bad → fieldAt (letter predicateKind) s at 15 ≡ Field·Bad → Done o (leafAt s at) Refused before after
-  unfolding leafAt
+  pub leaf-refused : mark-at (letter true-kind) s at ≡ Mark·Bad → field-at (letter predicate-kind) s at 15 ≡ Field·Bad → Done o (leaf-at s at) Refused before after
+  unfolding leaf-at
   leaf-refused e f = rw (e, f) (refused-done o none before after (step-none o))

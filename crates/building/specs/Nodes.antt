@@ -5,29 +5,29 @@ use lib.ListN.{replicate}
 use Rattle.tables.specs.declared.Node.{Node}
 use Rattle.tables.specs.declared.Table.{Table}
 use Rattle.grammar.specs.declared.Span.{Span}
-use Rattle.grammar.specs.Operators.{trueKind, predicateKind}
-use Rattle.grammar.specs.Tree.{Tree, truth, predicate, one, two, size, noSpan}
+use Rattle.grammar.specs.Operators.{true-kind, predicate-kind}
+use Rattle.grammar.specs.Tree.{Tree, truth, predicate, one, two, size, no-span}
 
 -- a node: kind, children, window
 abbrev pub node : ℕ → ℕ → ℕ → Span → Node
 node k l r w = record { kind = k; left = l; right = r; lo = w .lo; hi = w .hi }
 
 -- all numbers 0
-abbrev pub emptyNode : Node
-emptyNode = node 0 0 0 noSpan
+abbrev pub empty-node : Node
+empty-node = node 0 0 0 no-span
 
 -- the empty table
-abbrev pub emptyTable : Table
-emptyTable = record { nodes = replicate 64 emptyNode; count = 0 }
+abbrev pub empty-table : Table
+empty-table = record { nodes = replicate 64 empty-node; count = 0 }
 
 -- the nodes of a tree, the first of which has the number o: those of the left child, of the right child, the parent last
-unfoldable pub nodesOf : ℕ → Tree → List Node
-nodesOf o truth = node trueKind 0 0 noSpan ∷ []
-nodesOf o (predicate p) = node predicateKind p 0 noSpan ∷ []
-nodesOf o (one k w a) = nodesOf o a ++ (node k (o + size a - 1) 0 w ∷ [])
-nodesOf o (two k w a b) =
-    nodesOf o a ++ (nodesOf (o + size a) b ++ (node k (o + size a - 1) (o + size a + size b - 1) w ∷ []))
+unfoldable pub nodes-of : ℕ → Tree → List Node
+nodes-of o truth = node true-kind 0 0 no-span ∷ []
+nodes-of o (predicate p) = node predicate-kind p 0 no-span ∷ []
+nodes-of o (one k w a) = nodes-of o a ++ (node k (o + size a - 1) 0 w ∷ [])
+nodes-of o (two k w a b) =
+    nodes-of o a ++ (nodes-of (o + size a) b ++ (node k (o + size a - 1) (o + size a + size b - 1) w ∷ []))
 
 -- the table of a tree; places beyond its nodes are empty
-abbrev pub tableOf : Tree → Table
-tableOf a = record { nodes = nodesOf 0 a ++ replicate (64 - size a) emptyNode; count = size a }
+abbrev pub table-of : Tree → Table
+table-of a = record { nodes = nodes-of 0 a ++ replicate (64 - size a) empty-node; count = size a }

@@ -7,7 +7,7 @@ use lib.ListN.{getD, set}
 use lib.Seq.{sets}
 use lib.Dec.{leb}
 use Rattle.text.specs.Bytes.{bytes}
-use Rattle.text.specs.Mark.{markAt, afterMark}
+use Rattle.text.specs.Mark.{mark-at, after-mark}
 use Rattle.tables.specs.declared.Node.{Node}
 use Rattle.tables.specs.declared.Table.{Table}
 use Rattle.grammar.specs.declared.Span.{Span}
@@ -15,57 +15,57 @@ use Rattle.grammar.specs.Tree.{size}
 use Rattle.grammar.specs.Reading.{Reading, got, none}
 use Rattle.building.specs.declared.Step.{Step}
 use Rattle.building.specs.declared.Step.the-variants.{Read, Refused}
-use Rattle.building.specs.Nodes.{node, emptyTable, nodesOf}
+use Rattle.building.specs.Nodes.{node, empty-table, nodes-of}
 
 -- the numbers of nodes, one node after the other
-unfoldable pub cellsOf : List Node → List ℕ
-cellsOf [] = []
-cellsOf (x ∷ xs) = x .kind ∷ x .left ∷ x .right ∷ x .lo ∷ x .hi ∷ cellsOf xs
+unfoldable pub cells-of : List Node → List ℕ
+cells-of [] = []
+cells-of (x ∷ xs) = x .kind ∷ x .left ∷ x .right ∷ x .lo ∷ x .hi ∷ cells-of xs
 
 -- what a reading gives where its first node has the number o and 64 nodes are allowed
-unfoldable pub stepOf : ℕ → Reading → Step
-stepOf o (got a n) = cond (leb (o + size a) 64) (Read n (o + size a - 1) (o + size a)) Refused
-stepOf o none = Refused
+unfoldable pub step-of : ℕ → Reading → Step
+step-of o (got a n) = cond (leb (o + size a) 64) (Read n (o + size a - 1) (o + size a)) Refused
+step-of o none = Refused
 
 -- then the cells of its nodes are written, and no other; a refused reading may leave anything
 unfoldable pub Wrote : ℕ → Reading → List ℕ → List ℕ → Type 0
-Wrote o (got a n) before after = o + size a ≤ 64 → after ≡ sets before (5 * o) (cellsOf (nodesOf o a))
+Wrote o (got a n) before after = o + size a ≤ 64 → after ≡ sets before (5 * o) (cells-of (nodes-of o a))
 Wrote o none before after = Unit {0}
 
 -- a reading is done
 pub record Done (o : ℕ) (x : Reading) (r : Step) (before after : List ℕ) : Type 0 where
-  pub step : r ≡ stepOf o x
+  pub step : r ≡ step-of o x
   pub cells : Wrote o x before after
 
 -- what follows a reading that was not refused: its place, root and next free number
-abbrev pub afterStep : {A : Type 0} → Step → (ℕ → ℕ → ℕ → A) → A → A
-afterStep (Read at root free) f a = f at root free
-afterStep Refused f a = a
+abbrev pub after-step : {A : Type 0} → Step → (ℕ → ℕ → ℕ → A) → A → A
+after-step (Read at root free) f a = f at root free
+after-step Refused f a = a
 
 -- one node more, which is the root
-abbrev pub pushedStep : ℕ → ℕ → Step
-pushedStep free at = cond (leb 64 free) Refused (Read at free (free + 1))
+abbrev pub pushed-step : ℕ → ℕ → Step
+pushed-step free at = cond (leb 64 free) Refused (Read at free (free + 1))
 
-abbrev pub pushedCells : ℕ → Node → List ℕ → List ℕ
-pushedCells free x cells = cond (leb 64 free) cells (sets cells (5 * free) (x .kind ∷ x .left ∷ x .right ∷ x .lo ∷ x .hi ∷ []))
+abbrev pub pushed-cells : ℕ → Node → List ℕ → List ℕ
+pushed-cells free x cells = cond (leb 64 free) cells (sets cells (5 * free) (x .kind ∷ x .left ∷ x .right ∷ x .lo ∷ x .hi ∷ []))
 
 -- the parent of a reading; of one reading it is the left child, after another the right one
-abbrev pub parentStep : Step → Step
-parentStep p = afterStep p (λ at root free. pushedStep free at) Refused
+abbrev pub parent-step : Step → Step
+parent-step p = after-step p (λ at root free. pushed-step free at) Refused
 
-abbrev pub wrapCells : ℕ → Span → Step → List ℕ → List ℕ
-wrapCells k w p cells = afterStep p (λ at root free. pushedCells free (node k root 0 w) cells) cells
+abbrev pub wrap-cells : ℕ → Span → Step → List ℕ → List ℕ
+wrap-cells k w p cells = after-step p (λ at root free. pushed-cells free (node k root 0 w) cells) cells
 
-abbrev pub joinCells : ℕ → Span → ℕ → Step → List ℕ → List ℕ
-joinCells k w left p cells = afterStep p (λ at root free. pushedCells free (node k left root w) cells) cells
+abbrev pub join-cells : ℕ → Span → ℕ → Step → List ℕ → List ℕ
+join-cells k w left p cells = after-step p (λ at root free. pushed-cells free (node k left root w) cells) cells
 
 -- a reading and the parenthesis that closes it
-abbrev pub closedStep : List ℕ → Step → Step
-closedStep s p = afterStep p (λ at root free. afterMark (markAt (bytes ")") s at) (λ n. Read n root free) Refused) Refused
+abbrev pub closed-step : List ℕ → Step → Step
+closed-step s p = after-step p (λ at root free. after-mark (mark-at (bytes ")") s at) (λ n. Read n root free) Refused) Refused
 
 -- the node that cells hold at a number, and the table of the first of them
-abbrev pub nodeAt : List ℕ → ℕ → Node
-nodeAt cells k =
+abbrev pub node-from : List ℕ → ℕ → Node
+node-from cells k =
     record {
       kind = getD cells (5 * k) 0;
       left = getD cells (5 * k + 1) 0;
@@ -74,9 +74,9 @@ nodeAt cells k =
       hi = getD cells (5 * k + 4) 0;
     }
 
-unfoldable pub nodesFrom : List ℕ → ℕ → List Node
-nodesFrom cells zero = emptyTable .nodes
-nodesFrom cells (suc k) = set (nodesFrom cells k) k (nodeAt cells k)
+unfoldable pub nodes-from : List ℕ → ℕ → List Node
+nodes-from cells zero = empty-table .nodes
+nodes-from cells (suc k) = set (nodes-from cells k) k (node-from cells k)
 
-abbrev pub tableFrom : List ℕ → ℕ → Table
-tableFrom cells count = cond (leb count 64) (record { nodes = nodesFrom cells count; count = count }) emptyTable
+abbrev pub table-from : List ℕ → ℕ → Table
+table-from cells count = cond (leb count 64) (record { nodes = nodes-from cells count; count = count }) empty-table

@@ -6,9 +6,9 @@ use text::Field;
 use text::Mark;
 ghost use mathlib.Core.Path.{_≡_};
 ghost use Prim.Native.Nat.{_<_};
-ghost use Rattle.grammar.specs.Reading.{leafAt};
-ghost use Rattle.building.specs.Nodes.{emptyTable};
-ghost use Rattle.building.specs.Storing.{Done, pushedStep, pushedCells, parentStep, wrapCells, joinCells, closedStep, nodeAt, tableFrom};
+ghost use Rattle.grammar.specs.Reading.{leaf-at};
+ghost use Rattle.building.specs.Nodes.{empty-table};
+ghost use Rattle.building.specs.Storing.{Done, pushed-step, pushed-cells, parent-step, wrap-cells, join-cells, closed-step, node-from, table-from};
 
 // Cells for 64 nodes.
 pub const CELLS: usize = 320;
@@ -21,8 +21,8 @@ pub enum Step {
 
 // One node more, which is the root; refused where 64 stand.
 pub fn push(at: usize, free: usize, x: Node, cells: &mut [u64; CELLS]) -> Step
-    ensures step { λ r. ⌜ r ≡ pushedStep free at ⌝ }
-    ensures cells { λ r. ⌜ now (cells .exit) ≡ pushedCells free x (now (cells .entry)) ⌝ }
+    ensures step { λ r. ⌜ r ≡ pushed-step free at ⌝ }
+    ensures cells { λ r. ⌜ now (cells .exit) ≡ pushed-cells free x (now (cells .entry)) ⌝ }
 {
     if 64 <= free {
         return Step::Refused;
@@ -38,8 +38,8 @@ pub fn push(at: usize, free: usize, x: Node, cells: &mut [u64; CELLS]) -> Step
 
 // The parent of one reading.
 pub fn wrap(kind: u64, span: Span, inner: Step, cells: &mut [u64; CELLS]) -> Step
-    ensures step { λ r. ⌜ r ≡ parentStep inner ⌝ }
-    ensures cells { λ r. ⌜ now (cells .exit) ≡ wrapCells kind span inner (now (cells .entry)) ⌝ }
+    ensures step { λ r. ⌜ r ≡ parent-step inner ⌝ }
+    ensures cells { λ r. ⌜ now (cells .exit) ≡ wrap-cells kind span inner (now (cells .entry)) ⌝ }
 {
     let Step::Read(at, root, free) = inner else {
         return Step::Refused;
@@ -56,8 +56,8 @@ pub fn wrap(kind: u64, span: Span, inner: Step, cells: &mut [u64; CELLS]) -> Ste
 
 // The parent of the root `left` and of the reading after it.
 pub fn join(kind: u64, span: Span, left: usize, inner: Step, cells: &mut [u64; CELLS]) -> Step
-    ensures step { λ r. ⌜ r ≡ parentStep inner ⌝ }
-    ensures cells { λ r. ⌜ now (cells .exit) ≡ joinCells kind span left inner (now (cells .entry)) ⌝ }
+    ensures step { λ r. ⌜ r ≡ parent-step inner ⌝ }
+    ensures cells { λ r. ⌜ now (cells .exit) ≡ join-cells kind span left inner (now (cells .entry)) ⌝ }
 {
     let Step::Read(at, root, free) = inner else {
         return Step::Refused;
@@ -74,7 +74,7 @@ pub fn join(kind: u64, span: Span, left: usize, inner: Step, cells: &mut [u64; C
 
 // A reading and the parenthesis that closes it.
 pub fn close(s: &[u8], inner: Step) -> Step
-    ensures { λ r. ⌜ r ≡ closedStep (now (s .entry)) inner ⌝ }
+    ensures { λ r. ⌜ r ≡ closed-step (now (s .entry)) inner ⌝ }
 {
     let Step::Read(at, root, free) = inner else {
         return Step::Refused;
@@ -86,7 +86,7 @@ pub fn close(s: &[u8], inner: Step) -> Step
 }
 
 pub fn empty_table() -> Table
-    ensures { λ r. ⌜ r ≡ emptyTable ⌝ }
+    ensures { λ r. ⌜ r ≡ empty-table ⌝ }
 {
     let none = Node {
         kind: 0,
@@ -104,7 +104,7 @@ pub fn empty_table() -> Table
 
 fn node_at(cells: &[u64; CELLS], k: usize) -> Node
     requires { ⌜ k < 64 ⌝ }
-    ensures { λ r. ⌜ r ≡ nodeAt (now (cells .entry)) k ⌝ }
+    ensures { λ r. ⌜ r ≡ node-from (now (cells .entry)) k ⌝ }
 {
     let first = 5 * k;
     Node {
@@ -118,7 +118,7 @@ fn node_at(cells: &[u64; CELLS], k: usize) -> Node
 
 // The table of the first `count` nodes; the empty one where there cannot be so many.
 pub fn table_from(cells: &[u64; CELLS], count: usize) -> Table
-    ensures { λ r. ⌜ r ≡ tableFrom (now (cells .entry)) count ⌝ }
+    ensures { λ r. ⌜ r ≡ table-from (now (cells .entry)) count ⌝ }
 {
     if 64 < count {
         return empty_table();
@@ -133,7 +133,7 @@ pub fn table_from(cells: &[u64; CELLS], count: usize) -> Table
 
 // True, or a predicate with 0 to 15.
 pub fn read_leaf(s: &[u8], at: usize, free: usize, cells: &mut [u64; CELLS]) -> Step
-    ensures { λ r. ⌜ Done free (leafAt (now (s .entry)) at) r (now (cells .entry)) (now (cells .exit)) ⌝ }
+    ensures { λ r. ⌜ Done free (leaf-at (now (s .entry)) at) r (now (cells .entry)) (now (cells .exit)) ⌝ }
 {
     if let Mark::Next(next) = operators::read_letter(s, at, operators::TRUE) {
         let x = Node {

@@ -9,41 +9,41 @@ use lib.ListN.{length, getD, drop, length-append}
 use lib.Dec.{eqb}
 use borrow.Author.Tests.{not-true}
 use Rattle.text.specs.Bytes.{bytes}
-use Rattle.text.specs.Mark.{markAt}
-use Rattle.text.specs.Number.{isDigit}
+use Rattle.text.specs.Mark.{mark-at}
+use Rattle.text.specs.Number.{is-digit}
 use Rattle.text.specs.declared.Mark.the-variants.{Next, Bad as Mark·Bad}
 use Rattle.text.proofs.Tests.{both, false-true}
 use Rattle.text.proofs.Places.{after-bytes}
 use Rattle.text.proofs.Answers.{mark-made, mark-first, field-made}
 use Rattle.grammar.specs.declared.Operator.the-variants.{Absent, Over}
-use Rattle.grammar.specs.Operators.{letters, letter, trueKind, predicateKind, notKind, andKind, orKind, binders, prefixes, _∈_}
-use Rattle.grammar.specs.Tree.{Tree, truth, predicate, one, two, noSpan}
+use Rattle.grammar.specs.Operators.{letters, letter, true-kind, predicate-kind, not-kind, and-kind, or-kind, binders, prefixes, _∈_}
+use Rattle.grammar.specs.Tree.{Tree, truth, predicate, one, two, no-span}
 use Rattle.grammar.specs.Grammar.{Part, alternative, conjunction, bind, unary, Derives, alternative-one, alternative-more, conjunction-one, conjunction-more, bind-one, bind-two, unary-not, unary-timed, unary-true, unary-predicate, unary-group}
-use Rattle.grammar.specs.Reading.{Reading, got, none, onGot, Reads, leafAt, prefixAt, timedAmong, more, bindBy, unaryBy, unaryAt, bindAt, conjunctionAt, alternativeAt}
-use Rattle.grammar.proofs.Letters.{all-in, noneOf}
+use Rattle.grammar.specs.Reading.{Reading, got, none, on-got, Reads, leaf-at, prefix-at, timed-among, more, bind-by, unary-by, unary-at, bind-at, conjunction-at, alternative-at}
+use Rattle.grammar.proofs.Letters.{all-in, none-of}
 use Rattle.grammar.proofs.Windows.{timed-made, timed-none}
 use Rattle.grammar.proofs.Turns.{Onward, more-over, more-turn}
 use Rattle.grammar.proofs.Sound.{sound-onward, bind-at-sound, conjunction-at-sound}
 
 -- ---- what may follow a part: a byte with which it does not go on
 
-abbrev pub unaryEnds : ℕ → Bool
-unaryEnds b = not (isDigit b)
+abbrev pub unary-ends : ℕ → Bool
+unary-ends b = not (is-digit b)
 
-abbrev pub bindEnds : ℕ → Bool
-bindEnds b = unaryEnds b && noneOf b binders
+abbrev pub bind-ends : ℕ → Bool
+bind-ends b = unary-ends b && none-of b binders
 
-abbrev pub conjunctionEnds : ℕ → Bool
-conjunctionEnds b = bindEnds b && not (eqb b (getD letters andKind 0))
+abbrev pub conjunction-ends : ℕ → Bool
+conjunction-ends b = bind-ends b && not (eqb b (getD letters and-kind 0))
 
-abbrev pub alternativeEnds : ℕ → Bool
-alternativeEnds b = conjunctionEnds b && not (eqb b (getD letters orKind 0))
+abbrev pub alternative-ends : ℕ → Bool
+alternative-ends b = conjunction-ends b && not (eqb b (getD letters or-kind 0))
 
 abbrev pub ends : Part → ℕ → Bool
-ends unary b = unaryEnds b
-ends bind b = bindEnds b
-ends conjunction b = conjunctionEnds b
-ends alternative b = alternativeEnds b
+ends unary b = unary-ends b
+ends bind b = bind-ends b
+ends conjunction b = conjunction-ends b
+ends alternative b = alternative-ends b
 
 abbrev pub Ends : Part → List ℕ → Type 0
 Ends p r = ends p (getD r 0 0) ≡ true
@@ -52,11 +52,11 @@ Ends p r = ends p (getD r 0 0) ≡ true
 
 abbrev pub Complete : Part → ℕ → List ℕ → Tree → Type 0
 Complete alternative d w a =
-    (s : List ℕ) (at : ℕ) (r : List ℕ) → drop at s ≡ w ++ r → Ends conjunction r → alternativeAt d s at ≡ more (conjunctionAt d) orKind s (got a (at + length w))
+    (s : List ℕ) (at : ℕ) (r : List ℕ) → drop at s ≡ w ++ r → Ends conjunction r → alternative-at d s at ≡ more (conjunction-at d) or-kind s (got a (at + length w))
 Complete conjunction d w a =
-    (s : List ℕ) (at : ℕ) (r : List ℕ) → drop at s ≡ w ++ r → Ends bind r → conjunctionAt d s at ≡ more (bindAt d) andKind s (got a (at + length w))
-Complete bind d w a = (s : List ℕ) (at : ℕ) (r : List ℕ) → drop at s ≡ w ++ r → Ends bind r → bindAt d s at ≡ got a (at + length w)
-Complete unary d w a = (s : List ℕ) (at : ℕ) (r : List ℕ) → drop at s ≡ w ++ r → Ends unary r → unaryAt d s at ≡ got a (at + length w)
+    (s : List ℕ) (at : ℕ) (r : List ℕ) → drop at s ≡ w ++ r → Ends bind r → conjunction-at d s at ≡ more (bind-at d) and-kind s (got a (at + length w))
+Complete bind d w a = (s : List ℕ) (at : ℕ) (r : List ℕ) → drop at s ≡ w ++ r → Ends bind r → bind-at d s at ≡ got a (at + length w)
+Complete unary d w a = (s : List ℕ) (at : ℕ) (r : List ℕ) → drop at s ≡ w ++ r → Ends unary r → unary-at d s at ≡ got a (at + length w)
 
 -- the turns are over where another byte follows
 abbrev pub Done : Part → ℕ → List ℕ → Tree → Reads → Type 0
@@ -67,21 +67,21 @@ turns-over : (part : Reads) (k : ℕ) (s : List ℕ) (at : ℕ) (w r : List ℕ)
 turns-over part k s at w r a e h =
     more-over part k s a (at + length w) (mark-first (getD letters k 0) [] s (at + length w) r (after-bytes s at w r e) (not-true _ h))
 
-conjunction-done : (d : ℕ) (w : List ℕ) (a : Tree) → Complete conjunction d w a → Done conjunction d w a (conjunctionAt d)
+conjunction-done : (d : ℕ) (w : List ℕ) (a : Tree) → Complete conjunction d w a → Done conjunction d w a (conjunction-at d)
 conjunction-done d w a c s at r e h =
-    let t = both (ends bind (getD r 0 0)) (not (eqb (getD r 0 0) (getD letters andKind 0))) h in
-    c s at r e (t .0) ∙ turns-over (bindAt d) andKind s at w r a e (t .1)
+    let t = both (ends bind (getD r 0 0)) (not (eqb (getD r 0 0) (getD letters and-kind 0))) h in
+    c s at r e (t .0) ∙ turns-over (bind-at d) and-kind s at w r a e (t .1)
 
-pub alternative-done : (d : ℕ) (w : List ℕ) (a : Tree) → Complete alternative d w a → Done alternative d w a (alternativeAt d)
+pub alternative-done : (d : ℕ) (w : List ℕ) (a : Tree) → Complete alternative d w a → Done alternative d w a (alternative-at d)
 alternative-done d w a c s at r e h =
-    let t = both (ends conjunction (getD r 0 0)) (not (eqb (getD r 0 0) (getD letters orKind 0))) h in
-    c s at r e (t .0) ∙ turns-over (conjunctionAt d) orKind s at w r a e (t .1)
+    let t = both (ends conjunction (getD r 0 0)) (not (eqb (getD r 0 0) (getD letters or-kind 0))) h in
+    c s at r e (t .0) ∙ turns-over (conjunction-at d) or-kind s at w r a e (t .1)
 
 -- one turn more, for `|` and `&` alike
 turn-made : (part : Reads) → Onward part → (k : ℕ) (s : List ℕ) (at : ℕ) (v w r : List ℕ) (a b : Tree) (x : Reading) → drop at s ≡ (v ++ (letter k ++ w)) ++ r
     → x ≡ more part k s (got a (at + length v))
     → (drop (at + length v + 1) s ≡ w ++ r → part s (at + length v + 1) ≡ got b (at + length v + 1 + length w))
-    → x ≡ more part k s (got (two k noSpan a b) (at + length (v ++ (letter k ++ w))))
+    → x ≡ more part k s (got (two k no-span a b) (at + length (v ++ (letter k ++ w))))
 turn-made part o k s at v w r a b x e f g =
     let e1 : drop at s ≡ v ++ (letter k ++ (w ++ r)) = e ∙ append-assoc v (letter k ++ w) r in
     let e2 : drop (at + length v) s ≡ letter k ++ (w ++ r) = after-bytes s at v _ e1 in
@@ -90,30 +90,30 @@ turn-made part o k s at v w r a b x e f g =
 
 -- a unary that begins with a byte of no operator and no parenthesis is a leaf
 abbrev leads : ℕ → Bool
-leads b = not (eqb b 40) && (not (eqb b (getD letters notKind 0)) && noneOf b prefixes)
+leads b = not (eqb b 40) && (not (eqb b (getD letters not-kind 0)) && none-of b prefixes)
 
-leaf-made : (d : ℕ) (s : List ℕ) (at : ℕ) (l : List ℕ) → drop at s ≡ l → leads (getD l 0 0) ≡ true → unaryAt d s at ≡ leafAt s at
-unfolding unaryAt unaryBy
+leaf-made : (d : ℕ) (s : List ℕ) (at : ℕ) (l : List ℕ) → drop at s ≡ l → leads (getD l 0 0) ≡ true → unary-at d s at ≡ leaf-at s at
+unfolding unary-at unary-by
 leaf-made zero s at l e h = refl
 leaf-made (suc d) s at l e h =
     let t = both (not (eqb (getD l 0 0) 40)) _ h in
-    let u = both (not (eqb (getD l 0 0) (getD letters notKind 0))) _ (t .1) in
-    rw (mark-first 40 [] s at l e (not-true _ (t .0)), mark-first (getD letters notKind 0) [] s at l e (not-true _ (u .0)), timed-none prefixes s at l e (u .1))
+    let u = both (not (eqb (getD l 0 0) (getD letters not-kind 0))) _ (t .1) in
+    rw (mark-first 40 [] s at l e (not-true _ (t .0)), mark-first (getD letters not-kind 0) [] s at l e (not-true _ (u .0)), timed-none prefixes s at l e (u .1))
 
 pub complete : {p : Part} {d : ℕ} {w : List ℕ} {a : Tree} → Derives p d w a → Complete p d w a
-unfolding unaryAt unaryBy leafAt bindBy
-complete (alternative-one {d} {w} {a} x) = λ s at r e h. ap (more (conjunctionAt d) orKind s) (conjunction-done d w a (complete x) s at r e h)
+unfolding unary-at unary-by leaf-at bind-by
+complete (alternative-one {d} {w} {a} x) = λ s at r e h. ap (more (conjunction-at d) or-kind s) (conjunction-done d w a (complete x) s at r e h)
 complete (alternative-more {d} {v} {w} {a} {b} x y) = λ s at r e h.
-    turn-made (conjunctionAt d) (sound-onward (conjunctionAt d) (conjunction-at-sound d)) orKind s at v w r a b _ e
-    (complete x s at (letter orKind ++ (w ++ r)) (e ∙ append-assoc v (letter orKind ++ w) r) refl)
+    turn-made (conjunction-at d) (sound-onward (conjunction-at d) (conjunction-at-sound d)) or-kind s at v w r a b _ e
+    (complete x s at (letter or-kind ++ (w ++ r)) (e ∙ append-assoc v (letter or-kind ++ w) r) refl)
     (λ f. conjunction-done d w b (complete y) s (at + length v + 1) r f h)
-complete (conjunction-one {d} {w} {a} x) = λ s at r e h. ap (more (bindAt d) andKind s) (complete x s at r e h)
+complete (conjunction-one {d} {w} {a} x) = λ s at r e h. ap (more (bind-at d) and-kind s) (complete x s at r e h)
 complete (conjunction-more {d} {v} {w} {a} {b} x y) = λ s at r e h.
-    turn-made (bindAt d) (sound-onward (bindAt d) (bind-at-sound d)) andKind s at v w r a b _ e
-    (complete x s at (letter andKind ++ (w ++ r)) (e ∙ append-assoc v (letter andKind ++ w) r) refl)
+    turn-made (bind-at d) (sound-onward (bind-at d) (bind-at-sound d)) and-kind s at v w r a b _ e
+    (complete x s at (letter and-kind ++ (w ++ r)) (e ∙ append-assoc v (letter and-kind ++ w) r) refl)
     (λ f. complete y s (at + length v + 1) r f h)
 complete (bind-one {d} {w} {a} x) = λ s at r e h.
-    let t = both (unaryEnds (getD r 0 0)) (noneOf (getD r 0 0) binders) h in
+    let t = both (unary-ends (getD r 0 0)) (none-of (getD r 0 0) binders) h in
     rw (complete x s at r e (t .0), timed-none binders s (at + length w) r (after-bytes s at w r e) (t .1))
 complete (bind-two {d} {k} {v} {x} {w} {r = q} {a} {b} l i z y) = λ s at r e h.
     let e1 : drop at s ≡ v ++ (letter k ++ (x ++ (w ++ r))) =
@@ -123,26 +123,26 @@ complete (bind-two {d} {k} {v} {x} {w} {r = q} {a} {b} l i z y) = λ s at r e h.
     let e4 : drop (at + length v + 1 + length x) s ≡ w ++ r = after-bytes s (at + length v + 1) x _ e3 in
     let n : at + length v + 1 + length x + length w ≡ at + length (v ++ (letter k ++ (x ++ w))) =
     rw (length-append v (letter k ++ (x ++ w)), length-append x w) (omega arith) in
-    rw (complete l s at _ e1 (all-in (λ m. not (isDigit (getD letters m 0))) i refl))
+    rw (complete l s at _ e1 (all-in (λ m. not (is-digit (getD letters m 0))) i refl))
     (rw (timed-made binders refl i z s (at + length v) (w ++ r) e2)
-    (rw (complete y s (at + length v + 1 + length x) r e4 (both (unaryEnds (getD r 0 0)) (noneOf (getD r 0 0) binders) h .0), n)))
+    (rw (complete y s (at + length v + 1 + length x) r e4 (both (unary-ends (getD r 0 0)) (none-of (getD r 0 0) binders) h .0), n)))
 complete (unary-not {d} {w} {a} x) = λ s at r e h.
-    let n : at + 1 + length w ≡ at + length (letter notKind ++ w) = omega arith in
-    rw (mark-first 40 [] s at _ e refl, mark-made (letter notKind) s (w ++ r) at (omega arith) e, complete x s (at + 1) r (after-bytes s at (letter notKind) (w ++ r) e) h, n)
+    let n : at + 1 + length w ≡ at + length (letter not-kind ++ w) = omega arith in
+    rw (mark-first 40 [] s at _ e refl, mark-made (letter not-kind) s (w ++ r) at (omega arith) e, complete x s (at + 1) r (after-bytes s at (letter not-kind) (w ++ r) e) h, n)
 complete (unary-timed {d} {k} {x} {w} {r = q} {a} i z y) = λ s at r e h.
     let e1 : drop at s ≡ letter k ++ (x ++ (w ++ r)) = e ∙ ap (λ (m : List ℕ). letter k ++ m) (append-assoc x w r) in
     let e2 : drop (at + 1) s ≡ x ++ (w ++ r) = after-bytes s at (letter k) _ e1 in
     let e3 : drop (at + 1 + length x) s ≡ w ++ r = after-bytes s (at + 1) x _ e2 in
     let n : at + 1 + length x + length w ≡ at + length (letter k ++ (x ++ w)) = rw (length-append x w) (omega arith) in
     rw (mark-first 40 [] s at _ e (not-true _ (all-in (λ m. not (eqb (getD letters m 0) 40)) i refl)))
-    (rw (mark-first (getD letters notKind 0) [] s at _ e (not-true _ (all-in (λ m. not (eqb (getD letters m 0) (getD letters notKind 0))) i refl)))
+    (rw (mark-first (getD letters not-kind 0) [] s at _ e (not-true _ (all-in (λ m. not (eqb (getD letters m 0) (getD letters not-kind 0))) i refl)))
     (rw (timed-made prefixes refl i z s at (w ++ r) e1)
     (rw (complete y s (at + 1 + length x) r e3 h, n))))
-complete (unary-true {d}) = λ s at r e h. leaf-made d s at _ e refl ∙ rw (mark-made (letter trueKind) s r at (omega arith) e)
+complete (unary-true {d}) = λ s at r e h. leaf-made d s at _ e refl ∙ rw (mark-made (letter true-kind) s r at (omega arith) e)
 complete (unary-predicate {d} {p} {w} n l) = λ s at r e h.
-    let m : at + 1 + length w ≡ at + length (letter predicateKind ++ w) = omega arith in
+    let m : at + 1 + length w ≡ at + length (letter predicate-kind ++ w) = omega arith in
     leaf-made d s at _ e refl
-    ∙ rw (mark-first (getD letters trueKind 0) [] s at _ e refl, field-made (letter predicateKind) s at 15 p w r (omega arith) e n l (omega arith) (not-true _ h), m)
+    ∙ rw (mark-first (getD letters true-kind 0) [] s at _ e refl, field-made (letter predicate-kind) s at 15 p w r (omega arith) e n l (omega arith) (not-true _ h), m)
 complete (unary-group {d} {w} {a} x) = λ s at r e h.
     let e1 : drop at s ≡ bytes "(" ++ (w ++ (bytes ")" ++ r)) = e ∙ ap (λ (m : List ℕ). bytes "(" ++ m) (append-assoc w (bytes ")") r) in
     let e2 : drop (at + 1) s ≡ w ++ (bytes ")" ++ r) = after-bytes s at (bytes "(") _ e1 in

@@ -12,45 +12,45 @@ use Rattle.text.proofs.Tests.{both, by-test, false-true}
 use Rattle.grammar.specs.Operators.{letters, _∈_}
 
 -- a test that holds of every number below n
-allBelow : ℕ → (ℕ → Bool) → Bool
-allBelow zero f = true
-allBelow (suc n) f = f n && allBelow n f
+all-below : ℕ → (ℕ → Bool) → Bool
+all-below zero f = true
+all-below (suc n) f = f n && all-below n f
 
-all-below : (n : ℕ) (f : ℕ → Bool) → allBelow n f ≡ true → (i : ℕ) → i < n → f i ≡ true
-unfolding allBelow
-all-below zero f h i l = absurd (omega arith)
-all-below (suc n) f h i l =
-    let t = both (f n) (allBelow n f) h in
-    by-test (eqb i n) (λ e. rw (eqb-true i n e) (t .0)) (λ e. all-below n f (t .1) i (below e))
+all-below-at : (n : ℕ) (f : ℕ → Bool) → all-below n f ≡ true → (i : ℕ) → i < n → f i ≡ true
+unfolding all-below
+all-below-at zero f h i l = absurd (omega arith)
+all-below-at (suc n) f h i l =
+    let t = both (f n) (all-below n f) h in
+    by-test (eqb i n) (λ e. rw (eqb-true i n e) (t .0)) (λ e. all-below-at n f (t .1) i (below e))
   where
     below : eqb i n ≡ false → i < n
     below e = let ne : i ≡ n → ⊥ = λ z. false-true (sym e ∙ eq-eqb i n z) in omega arith
 
 -- the place of a byte in a list
-placeOf : ℕ → List ℕ → ℕ
-placeOf b [] = 0
-placeOf b (c ∷ l) = cond (eqb b c) 0 (suc (placeOf b l))
+place-of : ℕ → List ℕ → ℕ
+place-of b [] = 0
+place-of b (c ∷ l) = cond (eqb b c) 0 (suc (place-of b l))
 
 -- the table holds no letter twice
-places : (k : ℕ) → k < length letters → placeOf (getD letters k 0) letters ≡ k
-unfolding allBelow placeOf
-places k l = eqb-true _ k (all-below (length letters) (λ i. eqb (placeOf (getD letters i 0) letters) i) refl k l)
+places : (k : ℕ) → k < length letters → place-of (getD letters k 0) letters ≡ k
+unfolding all-below place-of
+places k l = eqb-true _ k (all-below-at (length letters) (λ i. eqb (place-of (getD letters i 0) letters) i) refl k l)
 
 pub letter-one : (j k : ℕ) → j < length letters → k < length letters → getD letters j 0 ≡ getD letters k 0 → j ≡ k
-letter-one j k a b e = sym (places j a) ∙ (ap (λ (c : ℕ). placeOf c letters) e ∙ places k b)
+letter-one j k a b e = sym (places j a) ∙ (ap (λ (c : ℕ). place-of c letters) e ∙ places k b)
 
 -- a test that holds of all of some kinds
-abbrev pub allOf : (ℕ → Bool) → List ℕ → Bool
-allOf f [] = true
-allOf f (k ∷ ks) = f k && allOf f ks
+abbrev pub all-of : (ℕ → Bool) → List ℕ → Bool
+all-of f [] = true
+all-of f (k ∷ ks) = f k && all-of f ks
 
-pub all-in : (f : ℕ → Bool) {k : ℕ} {ks : List ℕ} → k ∈ ks → allOf f ks ≡ true → f k ≡ true
-all-in f (List·Memᴰ·head {x} {xs} e) h = rw e (both (f x) (allOf f xs) h .0)
-all-in f (List·Memᴰ·tail {x} {xs} m) h = all-in f m (both (f x) (allOf f xs) h .1)
+pub all-in : (f : ℕ → Bool) {k : ℕ} {ks : List ℕ} → k ∈ ks → all-of f ks ≡ true → f k ≡ true
+all-in f (List·Memᴰ·head {x} {xs} e) h = rw e (both (f x) (all-of f xs) h .0)
+all-in f (List·Memᴰ·tail {x} {xs} m) h = all-in f m (both (f x) (all-of f xs) h .1)
 
 -- whether all of some kinds are in the table, and a byte is the letter of none of them
 abbrev pub lettered : List ℕ → Bool
-lettered ks = allOf (λ k. ltb k (length letters)) ks
+lettered ks = all-of (λ k. ltb k (length letters)) ks
 
-abbrev pub noneOf : ℕ → List ℕ → Bool
-noneOf b ks = allOf (λ k. not (eqb b (getD letters k 0))) ks
+abbrev pub none-of : ℕ → List ℕ → Bool
+none-of b ks = all-of (λ k. not (eqb b (getD letters k 0))) ks

@@ -12,7 +12,7 @@ use lib.Dec.{leb, eqb}
 use borrow.Author.Tests.{eqb-true, eq-eqb, leb-true, le-leb}
 use Rattle.grammar.specs.Tree.{Tree, size}
 use Rattle.grammar.specs.Grammar.{alternative, Derives, Requires}
-use Rattle.grammar.specs.Reading.{Reading, got, none, onGot, alternativeAt, whole, requirementTree}
+use Rattle.grammar.specs.Reading.{Reading, got, none, on-got, alternative-at, whole, requirement-tree}
 use Rattle.grammar.proofs.Sound.{Stands, none-got, got-taken, alternative-at-sound}
 use Rattle.grammar.proofs.Complete.{complete, alternative-done}
 
@@ -21,10 +21,10 @@ taken a n true x h = (refl, h)
 taken a n false x h = absurd (none-got h)
 
 -- sound: what is read, the grammar derives
-pub reading-sound : (s : List ℕ) (a : Tree) (n : ℕ) → requirementTree s ≡ got a n → Requires s a
-unfolding requirementTree
+pub reading-sound : (s : List ℕ) (a : Tree) (n : ℕ) → requirement-tree s ≡ got a n → Requires s a
+unfolding requirement-tree
 reading-sound s a n h =
-    let x = got-taken a n (alternativeAt 32 s 0) _ h in
+    let x = got-taken a n (alternative-at 32 s 0) _ h in
     let y = taken a n (eqb (x .1) (length s)) _ (x .3) in
     let z = taken a n (leb (size (x .0)) 64) _ (y .1) in
     let q = alternative-at-sound 32 s 0 (x .0) (x .1) (x .2) in
@@ -39,10 +39,10 @@ reading-sound s a n h =
     same {b} {m} g r = let y : b ≡ a = cc in rw (← y) r
 
 -- complete: what the grammar derives, is read
-pub reading-complete : (s : List ℕ) (a : Tree) → Requires s a → requirementTree s ≡ got a (length s)
-unfolding requirementTree
+pub reading-complete : (s : List ℕ) (a : Tree) → Requires s a → requirement-tree s ≡ got a (length s)
+unfolding requirement-tree
 reading-complete s a r =
-    let e : alternativeAt 32 s 0 ≡ got a (length s) =
+    let e : alternative-at 32 s 0 ≡ got a (length s) =
     alternative-done 32 s a (complete (r .derives)) s 0 [] (sym (append-nil s)) refl ∙ rw (zero-add (length s)) in
     rw (e, eq-eqb (length s) (length s) refl, le-leb (size a) 64 (r .nodes))
 
@@ -54,12 +54,12 @@ reading-one s a b x y = same (sym (reading-complete s a x) ∙ reading-complete 
     same h = cc
 
 -- none is read exactly where none is derived
-pub reading-none : (s : List ℕ) → requirementTree s ≡ none → (a : Tree) → Requires s a → ⊥
+pub reading-none : (s : List ℕ) → requirement-tree s ≡ none → (a : Tree) → Requires s a → ⊥
 reading-none s h a r = none-got (sym h ∙ reading-complete s a r)
 
-pub reading-refused : (s : List ℕ) → ((a : Tree) → Requires s a → ⊥) → requirementTree s ≡ none
-reading-refused s h = go (requirementTree s) refl
+pub reading-refused : (s : List ℕ) → ((a : Tree) → Requires s a → ⊥) → requirement-tree s ≡ none
+reading-refused s h = go (requirement-tree s) refl
   where
-    go : (x : Reading) → requirementTree s ≡ x → x ≡ none
+    go : (x : Reading) → requirement-tree s ≡ x → x ≡ none
     go (got a n) e = absurd (h a (reading-sound s a n e))
     go none e = refl

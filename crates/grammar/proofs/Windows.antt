@@ -11,8 +11,8 @@ use lib.Dec.{ltb, eqb}
 use borrow.Author.Tests.{ltb-true, ltb-false, le-ltb, ne-eqb, eqb-true, eq-eqb, not-true}
 use Rattle.text.specs.Bytes.{bytes}
 use Rattle.text.specs.Numeral.{Numeral}
-use Rattle.text.specs.Mark.{markAt, afterMark}
-use Rattle.text.specs.Number.{isDigit, numberAt, fieldAt, afterNumber}
+use Rattle.text.specs.Mark.{mark-at, after-mark}
+use Rattle.text.specs.Number.{is-digit, number-at, field-at, after-number}
 use Rattle.text.specs.declared.Mark.{Mark}
 use Rattle.text.specs.declared.Mark.the-variants.{Next, Bad as Mark·Bad}
 use Rattle.text.specs.declared.Field.the-variants.{Number}
@@ -27,10 +27,10 @@ use Rattle.grammar.specs.declared.Window.the-variants.{Ends, Bad as Wind
 use Rattle.grammar.specs.declared.Operator.{Operator}
 use Rattle.grammar.specs.declared.Operator.the-variants.{Absent, Over, Bad as Operator·Bad}
 use Rattle.grammar.specs.Operators.{letters, letter, _∈_}
-use Rattle.grammar.specs.Tree.{span, noEnd, furthest}
+use Rattle.grammar.specs.Tree.{span, no-end, furthest}
 use Rattle.grammar.specs.Grammar.{WindowText, closed, endless}
-use Rattle.grammar.specs.Reading.{windowAt, overWindow, timedAt, orElse, timedAmong}
-use Rattle.grammar.proofs.Letters.{letter-one, all-in, lettered, noneOf}
+use Rattle.grammar.specs.Reading.{window-at, over-window, timed-at, or-else, timed-among}
+use Rattle.grammar.proofs.Letters.{letter-one, all-in, lettered, none-of}
 
 -- ---- windows
 
@@ -46,28 +46,28 @@ bad-ends h = let z : _≡_ {A = ℕ} 0 1 = cc in omega arith
 module _ (s : List ℕ) (at : ℕ) (r : Span) (n : ℕ) where
   -- after `[lo,`: the end, or none
   upper-is : (lo comma end m : ℕ) → Between s at m (bytes "[") → Numbered s m furthest lo comma → Between s comma end (bytes ",")
-      → (x : Mark) → markAt (bytes "*]") s end ≡ x
-      → afterMark x
-      (λ next. Ends (span lo noEnd) next)
-      (afterNumber (numberAt s end furthest)
-      (λ hi close. afterMark (markAt (bytes "]") s close) (λ next. cond (ltb hi lo) Window·Bad (Ends (span lo hi) next)) Window·Bad)
+      → (x : Mark) → mark-at (bytes "*]") s end ≡ x
+      → after-mark x
+      (λ next. Ends (span lo no-end) next)
+      (after-number (number-at s end furthest)
+      (λ hi close. after-mark (mark-at (bytes "]") s close) (λ next. cond (ltb hi lo) Window·Bad (Ends (span lo hi) next)) Window·Bad)
       Window·Bad)
       ≡ Ends r n
       → WindowIs s at r n
   upper-is lo comma end m a b c (Next p) e h =
       let y : p ≡ n = cc in
-      let z : span lo noEnd ≡ r = cc in
+      let z : span lo no-end ≡ r = cc in
       record {
         written = bytes "[" ++ (b .written ++ (bytes "," ++ bytes "*]"));
         between = rw (← y) (between-both a (between-both (b .between) (between-both c (mark-is (bytes "*]") s end p e))));
         window = rw (← z) (endless (b .numeral) (b .bound));
       }
   upper-is lo comma end m a b c Mark·Bad e h =
-      let i = number-taken Window·Bad (Ends r n) bad-ends (numberAt s end furthest) _ h in
+      let i = number-taken Window·Bad (Ends r n) bad-ends (number-at s end furthest) _ h in
       let hi = i .0 in
       let close = i .1 in
       let j = number-is s end furthest hi close (i .2) in
-      let k = mark-taken Window·Bad (Ends r n) bad-ends (markAt (bytes "]") s close) _ (i .3) in
+      let k = mark-taken Window·Bad (Ends r n) bad-ends (mark-at (bytes "]") s close) _ (i .3) in
       last hi close j (k .0) (mark-is (bytes "]") s close (k .0) (k .1)) (ltb hi lo) refl (k .2)
     where
       last : (hi close : ℕ) → Numbered s end furthest hi close → (next : ℕ) → Between s close next (bytes "]") → (t : Bool) → ltb hi lo ≡ t
@@ -82,24 +82,24 @@ module _ (s : List ℕ) (at : ℕ) (r : Span) (n : ℕ) where
             window = rw (← z) (closed (b .numeral) (j .numeral) (ltb-false hi lo g) (j .bound));
           }
 
-  pub window-is : windowAt s at ≡ Ends r n → WindowIs s at r n
-  unfolding windowAt
+  pub window-is : window-at s at ≡ Ends r n → WindowIs s at r n
+  unfolding window-at
   window-is h =
-      let i = number-taken Window·Bad (Ends r n) bad-ends (fieldAt (bytes "[") s at furthest) _ h in
+      let i = number-taken Window·Bad (Ends r n) bad-ends (field-at (bytes "[") s at furthest) _ h in
       let f = field-is (bytes "[") s at furthest (i .0) (i .1) (i .2) in
-      let k = mark-taken Window·Bad (Ends r n) bad-ends (markAt (bytes ",") s (i .1)) _ (i .3) in
-      upper-is (i .0) (i .1) (k .0) (f .0) (f .1) (f .2) (mark-is (bytes ",") s (i .1) (k .0) (k .1)) (markAt (bytes "*]") s (k .0)) refl (k .2)
+      let k = mark-taken Window·Bad (Ends r n) bad-ends (mark-at (bytes ",") s (i .1)) _ (i .3) in
+      upper-is (i .0) (i .1) (k .0) (f .0) (f .1) (f .2) (mark-is (bytes ",") s (i .1) (k .0) (k .1)) (mark-at (bytes "*]") s (k .0)) refl (k .2)
 
 -- a number is no `*`
-star-missing : {w : List ℕ} {v : ℕ} → Numeral w v → (s : List ℕ) (at : ℕ) (t : List ℕ) → drop at s ≡ w ++ t → markAt (bytes "*]") s at ≡ Mark·Bad
+star-missing : {w : List ℕ} {v : ℕ} → Numeral w v → (s : List ℕ) (at : ℕ) (t : List ℕ) → drop at s ≡ w ++ t → mark-at (bytes "*]") s at ≡ Mark·Bad
 star-missing {w} n s at t e =
     let b = numeral-begins n in
     mark-first 42 (bytes "]") s at (w ++ t) e
     (rw (List·getD-append w t 0 0 (b .0)) (ne-eqb (getD w 0 0) 42 (λ z. let d = digit-range (getD w 0 0) (b .1) in omega arith)))
 
 -- the text of a window is read as it
-pub window-made : {x : List ℕ} {r : Span} → WindowText x r → (s : List ℕ) (at : ℕ) (t : List ℕ) → drop at s ≡ x ++ t → windowAt s at ≡ Ends r (at + length x)
-unfolding windowAt
+pub window-made : {x : List ℕ} {r : Span} → WindowText x r → (s : List ℕ) (at : ℕ) (t : List ℕ) → drop at s ≡ x ++ t → window-at s at ≡ Ends r (at + length x)
+unfolding window-at
 window-made (closed {v} {w} {lo} {hi} a b l m) s at t e =
     let e0 : drop at s ≡ bytes "[" ++ (v ++ (bytes "," ++ (w ++ (bytes "]" ++ t)))) =
     e ∙ ap (λ (l : List ℕ). bytes "[" ++ l) (append-assoc v _ t ∙ ap (λ (l : List ℕ). v ++ (bytes "," ++ l)) (append-assoc w (bytes "]") t)) in
@@ -135,12 +135,12 @@ pub record OperatorIs (ks s : List ℕ) (at k : ℕ) (r : Span) (n : ℕ) : Type
   pub between : Between s at n (letter k ++ written)
   pub window : WindowText written r
 
-pub timed-is : (ks s : List ℕ) (at k : ℕ) (r : Span) (n : ℕ) → timedAmong ks s at ≡ Over k r n → OperatorIs ks s at k r n
-unfolding timedAmong timedAt
+pub timed-is : (ks s : List ℕ) (at k : ℕ) (r : Span) (n : ℕ) → timed-among ks s at ≡ Over k r n → OperatorIs ks s at k r n
+unfolding timed-among timed-at
 timed-is [] s at k r n h = let z : _≡_ {A = ℕ} 0 1 = cc in absurd (omega arith)
-timed-is (j ∷ ks) s at k r n h = go (timed-is ks s at k r n) (markAt (letter j) s at) refl h
+timed-is (j ∷ ks) s at k r n h = go (timed-is ks s at k r n) (mark-at (letter j) s at) refl h
   where
-    over : (m : ℕ) → markAt (letter j) s at ≡ Next m → (x : Window) → windowAt s m ≡ x → orElse (overWindow j x) (timedAmong ks s at) ≡ Over k r n → OperatorIs (j ∷ ks) s at k r n
+    over : (m : ℕ) → mark-at (letter j) s at ≡ Next m → (x : Window) → window-at s m ≡ x → or-else (over-window j x) (timed-among ks s at) ≡ Over k r n → OperatorIs (j ∷ ks) s at k r n
     over m e (Ends q i) f g =
         let a : j ≡ k = cc in
         let b : q ≡ r = cc in
@@ -154,17 +154,17 @@ timed-is (j ∷ ks) s at k r n h = go (timed-is ks s at k r n) (markAt (letter j
         }
     over m e Window·Bad f g = let z : _≡_ {A = ℕ} 0 1 = cc in absurd (omega arith)
 
-    go : (timedAmong ks s at ≡ Over k r n → OperatorIs ks s at k r n) → (m : Mark) → markAt (letter j) s at ≡ m
-        → orElse (afterMark m (λ i. overWindow j (windowAt s i)) Absent) (timedAmong ks s at) ≡ Over k r n → OperatorIs (j ∷ ks) s at k r n
-    go more (Next m) e g = over m e (windowAt s m) refl g
+    go : (timed-among ks s at ≡ Over k r n → OperatorIs ks s at k r n) → (m : Mark) → mark-at (letter j) s at ≡ m
+        → or-else (after-mark m (λ i. over-window j (window-at s i)) Absent) (timed-among ks s at) ≡ Over k r n → OperatorIs (j ∷ ks) s at k r n
+    go more (Next m) e g = over m e (window-at s m) refl g
     go more Mark·Bad e g =
         let o = more g in
         record { among = List·Memᴰ·tail (o .among); written = o .written; between = o .between; window = o .window }
 
 -- the letter of one of the kinds and a window's bytes are read
 pub timed-made : (ks : List ℕ) → lettered ks ≡ true → {k : ℕ} {x : List ℕ} {r : Span} → k ∈ ks → WindowText x r
-    → (s : List ℕ) (at : ℕ) (t : List ℕ) → drop at s ≡ letter k ++ (x ++ t) → timedAmong ks s at ≡ Over k r (at + 1 + length x)
-unfolding timedAmong timedAt
+    → (s : List ℕ) (at : ℕ) (t : List ℕ) → drop at s ≡ letter k ++ (x ++ t) → timed-among ks s at ≡ Over k r (at + 1 + length x)
+unfolding timed-among timed-at
 timed-made [] l i w s at t e = absurd (List·Memᴰ·not-nil i)
 timed-made (j ∷ ks) l {k} {x} {r} i w s at t e =
     by-test (eqb (getD letters k 0) (getD letters j 0)) same (other (λ m. timed-made ks (both (ltb j (length letters)) (lettered ks) l .1) m w s at t e))
@@ -172,24 +172,24 @@ timed-made (j ∷ ks) l {k} {x} {r} i w s at t e =
     j-in : j < length letters
     j-in = ltb-true j (length letters) (both (ltb j (length letters)) (lettered ks) l .0)
 
-    here : j ≡ k → orElse (timedAt j s at) (timedAmong ks s at) ≡ Over k r (at + 1 + length x)
+    here : j ≡ k → or-else (timed-at j s at) (timed-among ks s at) ≡ Over k r (at + 1 + length x)
     here q = rw (q, mark-made (letter k) s (x ++ t) at (omega arith) e, window-made w s (at + 1) t (after-bytes s at (letter k) (x ++ t) e))
 
-    same : eqb (getD letters k 0) (getD letters j 0) ≡ true → orElse (timedAt j s at) (timedAmong ks s at) ≡ Over k r (at + 1 + length x)
+    same : eqb (getD letters k 0) (getD letters j 0) ≡ true → or-else (timed-at j s at) (timed-among ks s at) ≡ Over k r (at + 1 + length x)
     same q = here (letter-one j k j-in (ltb-true k (length letters) (all-in (λ m. ltb m (length letters)) i l)) (sym (eqb-true _ _ q)))
 
     later : eqb (getD letters k 0) (getD letters j 0) ≡ false → (k ≡ j) ⊎ (k ∈ ks) → k ∈ ks
     later q (inl z) = absurd (false-true (sym q ∙ eq-eqb _ _ (ap (λ (m : ℕ). getD letters m 0) z)))
     later q (inr m) = m
 
-    other : (k ∈ ks → timedAmong ks s at ≡ Over k r (at + 1 + length x)) → eqb (getD letters k 0) (getD letters j 0) ≡ false
-        → orElse (timedAt j s at) (timedAmong ks s at) ≡ Over k r (at + 1 + length x)
+    other : (k ∈ ks → timed-among ks s at ≡ Over k r (at + 1 + length x)) → eqb (getD letters k 0) (getD letters j 0) ≡ false
+        → or-else (timed-at j s at) (timed-among ks s at) ≡ Over k r (at + 1 + length x)
     other more q = rw (mark-first (getD letters j 0) [] s at (letter k ++ (x ++ t)) e q) (more (later q (List·Memᴰ·cases-cons i)))
 
 -- where a byte stands that is the letter of none of the kinds, none is read
-pub timed-none : (ks s : List ℕ) (at : ℕ) (l : List ℕ) → drop at s ≡ l → noneOf (getD l 0 0) ks ≡ true → timedAmong ks s at ≡ Absent
-unfolding timedAmong timedAt
+pub timed-none : (ks s : List ℕ) (at : ℕ) (l : List ℕ) → drop at s ≡ l → none-of (getD l 0 0) ks ≡ true → timed-among ks s at ≡ Absent
+unfolding timed-among timed-at
 timed-none [] s at l e h = refl
 timed-none (k ∷ ks) s at l e h =
-    let t = both (not (eqb (getD l 0 0) (getD letters k 0))) (noneOf (getD l 0 0) ks) h in
+    let t = both (not (eqb (getD l 0 0) (getD letters k 0))) (none-of (getD l 0 0) ks) h in
     rw (mark-first (getD letters k 0) [] s at l e (not-true _ (t .0))) (timed-none ks s at l e (t .1))

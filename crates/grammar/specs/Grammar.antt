@@ -4,15 +4,15 @@ use mathlib.Core.List.{List, _++_}
 use Rattle.text.specs.Bytes.{bytes}
 use Rattle.text.specs.Numeral.{Numeral}
 use Rattle.grammar.specs.declared.Span.{Span}
-use Rattle.grammar.specs.Operators.{letter, trueKind, predicateKind, notKind, andKind, orKind, binders, prefixes, _∈_}
-use Rattle.grammar.specs.Tree.{Tree, truth, predicate, one, two, size, span, noSpan, noEnd, furthest}
+use Rattle.grammar.specs.Operators.{letter, true-kind, predicate-kind, not-kind, and-kind, or-kind, binders, prefixes, _∈_}
+use Rattle.grammar.specs.Tree.{Tree, truth, predicate, one, two, size, span, no-span, no-end, furthest}
 
 -- a window is `[lo,hi]`, hi perhaps `*`; the ends obey the table's limits
 pub data WindowText : List ℕ → Span → Type 0 where
   closed : {v w : List ℕ} {lo hi : ℕ} → Numeral v lo → Numeral w hi → lo ≤ hi → hi ≤ furthest
       → WindowText (bytes "[" ++ (v ++ (bytes "," ++ (w ++ bytes "]")))) (span lo hi)
   endless : {v : List ℕ} {lo : ℕ} → Numeral v lo → lo ≤ furthest
-      → WindowText (bytes "[" ++ (v ++ (bytes "," ++ bytes "*]"))) (span lo noEnd)
+      → WindowText (bytes "[" ++ (v ++ (bytes "," ++ bytes "*]"))) (span lo no-end)
 
 pub data Part : Type 0 where
   alternative conjunction bind unary : Part
@@ -22,24 +22,24 @@ pub data Derives : Part → ℕ → List ℕ → Tree → Type 0 where
   -- alternative = conjunction, then any count of `|` conjunction, grouped to the left
   alternative-one : {d : ℕ} {w : List ℕ} {a : Tree} → Derives conjunction d w a → Derives alternative d w a
   alternative-more : {d : ℕ} {v w : List ℕ} {a b : Tree} → Derives alternative d v a → Derives conjunction d w b
-      → Derives alternative d (v ++ (letter orKind ++ w)) (two orKind noSpan a b)
+      → Derives alternative d (v ++ (letter or-kind ++ w)) (two or-kind no-span a b)
   -- conjunction = bind, then any count of `&` bind, grouped to the left
   conjunction-one : {d : ℕ} {w : List ℕ} {a : Tree} → Derives bind d w a → Derives conjunction d w a
   conjunction-more : {d : ℕ} {v w : List ℕ} {a b : Tree} → Derives conjunction d v a → Derives bind d w b
-      → Derives conjunction d (v ++ (letter andKind ++ w)) (two andKind noSpan a b)
+      → Derives conjunction d (v ++ (letter and-kind ++ w)) (two and-kind no-span a b)
   -- bind = unary, optionally followed by `U` or `R`, a window and a unary
   bind-one : {d : ℕ} {w : List ℕ} {a : Tree} → Derives unary d w a → Derives bind d w a
   bind-two : {d k : ℕ} {v x w : List ℕ} {r : Span} {a b : Tree} → Derives unary d v a → k ∈ binders → WindowText x r → Derives unary d w b
       → Derives bind d (v ++ (letter k ++ (x ++ w))) (two k r a b)
   -- unary = `!` unary
-  unary-not : {d : ℕ} {w : List ℕ} {a : Tree} → Derives unary d w a → Derives unary (suc d) (letter notKind ++ w) (one notKind noSpan a)
+  unary-not : {d : ℕ} {w : List ℕ} {a : Tree} → Derives unary d w a → Derives unary (suc d) (letter not-kind ++ w) (one not-kind no-span a)
   -- `G` or `F` window unary
   unary-timed : {d k : ℕ} {x w : List ℕ} {r : Span} {a : Tree} → k ∈ prefixes → WindowText x r → Derives unary d w a
       → Derives unary (suc d) (letter k ++ (x ++ w)) (one k r a)
   -- `T`
-  unary-true : {d : ℕ} → Derives unary d (letter trueKind) truth
+  unary-true : {d : ℕ} → Derives unary d (letter true-kind) truth
   -- `p` with 0 to 15
-  unary-predicate : {d p : ℕ} {w : List ℕ} → Numeral w p → p ≤ 15 → Derives unary d (letter predicateKind ++ w) (predicate p)
+  unary-predicate : {d p : ℕ} {w : List ℕ} → Numeral w p → p ≤ 15 → Derives unary d (letter predicate-kind ++ w) (predicate p)
   -- or a parenthesised alternative
   unary-group : {d : ℕ} {w : List ℕ} {a : Tree} → Derives alternative d w a → Derives unary (suc d) (bytes "(" ++ (w ++ bytes ")")) a
 

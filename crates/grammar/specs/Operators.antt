@@ -12,20 +12,20 @@ abbrev pub letter : ℕ → List ℕ
 letter k = getD letters k 0 ∷ []
 
 -- the kinds that stand alone in a production
-abbrev pub trueKind : ℕ
-trueKind = 0
+abbrev pub true-kind : ℕ
+true-kind = 0
 
-abbrev pub predicateKind : ℕ
-predicateKind = 1
+abbrev pub predicate-kind : ℕ
+predicate-kind = 1
 
-abbrev pub notKind : ℕ
-notKind = 2
+abbrev pub not-kind : ℕ
+not-kind = 2
 
-abbrev pub andKind : ℕ
-andKind = 3
+abbrev pub and-kind : ℕ
+and-kind = 3
 
-abbrev pub orKind : ℕ
-orKind = 4
+abbrev pub or-kind : ℕ
+or-kind = 4
 
 -- the kinds with a window that stand between two unaries (until, release), and before one (eventually, always)
 abbrev pub binders : List ℕ

@@ -9,9 +9,9 @@ fold o u f zero = u
 fold o u f (suc n) = o (fold o u f n) (f n)
 
 -- p holds of every number below n
-abbrev pub allBelow : (ℕ → Bool) → ℕ → Bool
-allBelow p n = fold _&&_ true p n
+abbrev pub all-below : (ℕ → Bool) → ℕ → Bool
+all-below p n = fold _&&_ true p n
 
 -- p holds of some number below n
-abbrev pub anyBelow : (ℕ → Bool) → ℕ → Bool
-anyBelow p n = fold _||_ false p n
+abbrev pub any-below : (ℕ → Bool) → ℕ → Bool
+any-below p n = fold _||_ false p n

@@ -8,7 +8,7 @@ use Prim.Native.Nat.{ℕ, _+_, _-_, _≤_, _<_}
 use native.Mathlib.Omega.{arith}
 use lib.Dec.{T}
 use mir.Facts.{or-yes}
-use Rattle.lists.specs.Fold.{anyBelow}
+use Rattle.lists.specs.Fold.{any-below}
 use Rattle.lists.proofs.Below.{all-at, at-all, any-at, at-any, yes-or}
 use Rattle.logic.specs.Window.{Window, inside}
 use Rattle.logic.specs.Formula.{Formula, truth, negation, until, release, eventually, always, future}
@@ -66,16 +66,16 @@ module _ {P : Type 0} (F : Places) (at : P → ℕ → Bool) (w : Window) (i : �
     where
       each : (j : ℕ) → Ahead F w i j → T (true-at r j) ⊎ ((k : ℕ) × (i ≤ k) × (k < j) × T (true-at l k))
       each j a =
-          elim (asked (inside w (offset future F i (j - i))) (true-at r (i + (j - i))) (anyBelow (λ m. true-at l (i + m)) (j - i))
+          elim (asked (inside w (offset future F i (j - i))) (true-at r (i + (j - i))) (any-below (λ m. true-at l (i + m)) (j - i))
           (all-at _ (F .end - i) t (j - i) (omega (arith, a .not-before, a .in-places))) (in-window-of j a)) [
             | inl y ↦ inl (subst (λ (n : ℕ). T (true-at r n)) (step-to j (a .not-before)) y)
             | inr y ↦ let f = any-at (λ m. true-at l (i + m)) (j - i) y in inr (i + f .0, omega arith, omega (arith, f .1, a .not-before), f .2)
           ]
 
   pub says-release : (l r : Formula P) → Release F w (true-at l) (true-at r) i → T (read booleans F at (release w l r) i)
-  says-release l r s = at-all _ (F .end - i) (λ m h. answered (inside w (offset future F i m)) (true-at r (i + m)) (anyBelow (λ m. true-at l (i + m)) m) (λ t. back m (s .each (i + m) (ahead-of m h t))))
+  says-release l r s = at-all _ (F .end - i) (λ m h. answered (inside w (offset future F i m)) (true-at r (i + m)) (any-below (λ m. true-at l (i + m)) m) (λ t. back m (s .each (i + m) (ahead-of m h t))))
     where
-      back : (m : ℕ) → T (true-at r (i + m)) ⊎ ((k : ℕ) × (i ≤ k) × (k < i + m) × T (true-at l k)) → T (true-at r (i + m)) ⊎ T (anyBelow (λ m. true-at l (i + m)) m)
+      back : (m : ℕ) → T (true-at r (i + m)) ⊎ ((k : ℕ) × (i ≤ k) × (k < i + m) × T (true-at l k)) → T (true-at r (i + m)) ⊎ T (any-below (λ m. true-at l (i + m)) m)
       back m (inl y) = inl y
       back m (inr (k, a, b, y)) = inr (at-any (λ m. true-at l (i + m)) m (k - i) (omega arith) (subst (λ (n : ℕ). T (true-at l n)) (sym (step-to k a)) y))
 

@@ -4,7 +4,7 @@
 use mathlib.Core.Bool.{Bool, true, false, not, _&&_, _||_, cond}
 use Prim.Native.Nat.{ℕ, _+_, _-_}
 use lib.IntN.{ℤ, pos, negℤ}
-use Rattle.numbers.specs.Order.{smallerOf, largerOf}
+use Rattle.numbers.specs.Order.{smaller-of, larger-of}
 use Rattle.lists.specs.Fold.{fold}
 use Rattle.logic.specs.Window.{Window, inside}
 use Rattle.logic.specs.Formula.{Extremum, largest, smallest, dual, Direction, future, Formula, truth, atom, negation, junction, temporal}
@@ -63,8 +63,8 @@ booleans = record { negate = not; extreme = boolean-extreme; over-nothing = bool
 
 -- whole numbers up to `top`: a largest over nothing is -top, a smallest over nothing is top
 abbrev pub margin-extreme : Extremum → ℤ → ℤ → ℤ
-margin-extreme largest a b = largerOf a b
-margin-extreme smallest a b = smallerOf a b
+margin-extreme largest a b = larger-of a b
+margin-extreme smallest a b = smaller-of a b
 
 abbrev pub margin-nothing : ℕ → Extremum → ℤ
 margin-nothing top largest = negℤ (pos top)

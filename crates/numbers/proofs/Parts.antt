@@ -10,7 +10,7 @@ use lib.IntN.{ℤ, pos, negsuc, negℤ, sucℤ, _-ℤ_, _+ℤ_, _*ℤ_, subℕ, 
 use lib.Signed.{ltZ, leZ, _≤ℤ_, mag}
 use mir.Syntax.{w64}
 use mir.Val.{SFits}
-use Rattle.numbers.specs.Order.{smallerOf, largerOf, Within}
+use Rattle.numbers.specs.Order.{smaller-of, larger-of, Within}
 
 abbrev pub plus : ℤ → ℕ
 plus (pos n) = n
@@ -134,14 +134,14 @@ order (pos a) (negsuc b) h = omega arith
 order (negsuc a) (pos b) h = omega arith
 order (negsuc a) (negsuc b) h = omega arith
 
-pub smaller-parts : (a b : ℤ) → Smaller a b (smallerOf a b)
+pub smaller-parts : (a b : ℤ) → Smaller a b (smaller-of a b)
 smaller-parts a b = go (ltZ b a) (lt-parts b a) (nlt-parts b a)
   where
     go : (t : Bool) → (T t → plus b + minus a < plus a + minus b) → (T (not t) → plus a + minus b ≤ plus b + minus a) → Smaller a b (cond t b a)
     go true h k = let x = h tt in omega (arith, order b a (omega arith))
     go false h k = omega (arith, order a b (k tt))
 
-pub larger-parts : (a b : ℤ) → Larger a b (largerOf a b)
+pub larger-parts : (a b : ℤ) → Larger a b (larger-of a b)
 larger-parts a b = go (ltZ a b) (lt-parts a b) (nlt-parts a b)
   where
     go : (t : Bool) → (T t → plus a + minus b < plus b + minus a) → (T (not t) → plus b + minus a ≤ plus a + minus b) → Larger a b (cond t b a)

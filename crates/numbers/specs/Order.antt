@@ -5,11 +5,11 @@ use Prim.Native.Nat.{ℕ, _≤_}
 use lib.IntN.{ℤ, natAbs}
 use lib.Signed.{ltZ}
 
-abbrev pub smallerOf : ℤ → ℤ → ℤ
-smallerOf a b = cond (ltZ b a) b a
+abbrev pub smaller-of : ℤ → ℤ → ℤ
+smaller-of a b = cond (ltZ b a) b a
 
-abbrev pub largerOf : ℤ → ℤ → ℤ
-largerOf a b = cond (ltZ a b) b a
+abbrev pub larger-of : ℤ → ℤ → ℤ
+larger-of a b = cond (ltZ a b) b a
 
 -- z lies from -n to n
 pub record Within (n : ℕ) (z : ℤ) : Type 0 where

@@ -4,16 +4,16 @@ ghost use mathlib.Core.Path.{_≡_};
 ghost use lib.IntN.{negℤ, _-ℤ_, natAbs};
 ghost use mir.Syntax.{w64};
 ghost use mir.Val.{SFits};
-ghost use Rattle.numbers.specs.Order.{smallerOf, largerOf};
+ghost use Rattle.numbers.specs.Order.{smaller-of, larger-of};
 
 pub fn smaller(a: i64, b: i64) -> i64
-    ensures { λ r. ⌜ r ≡ smallerOf a b ⌝ }
+    ensures { λ r. ⌜ r ≡ smaller-of a b ⌝ }
 {
     if b < a { b } else { a }
 }
 
 pub fn larger(a: i64, b: i64) -> i64
-    ensures { λ r. ⌜ r ≡ largerOf a b ⌝ }
+    ensures { λ r. ⌜ r ≡ larger-of a b ⌝ }
 {
     if a < b { b } else { a }
 }

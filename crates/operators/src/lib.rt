@@ -8,9 +8,9 @@ ghost use mathlib.Core.Path.{_≡_};
 ghost use Prim.Native.Nat.{_<_};
 ghost use mathlib.Core.List.{[], _∷_};
 ghost use lib.ListN.{length, getD};
-ghost use Rattle.text.specs.Mark.{markAt};
+ghost use Rattle.text.specs.Mark.{mark-at};
 ghost use Rattle.grammar.specs.Operators.{letter};
-ghost use Rattle.grammar.specs.Reading.{windowAt, overWindow, timedAt, orElse, binderAt, prefixAt};
+ghost use Rattle.grammar.specs.Reading.{window-at, over-window, timed-at, or-else, binder-at, prefix-at};
 
 // The kinds that stand alone in a production; kinds with a window have their numbers where they are read.
 pub const TRUE: u64 = 0;
@@ -25,7 +25,7 @@ pub const OR: u64 = 4;
 
 fn read_among(s: &[u8], at: usize, letters: &[u8], kind: u64) -> Mark
     requires { ⌜ kind < length (now letters) ⌝ }
-    ensures { λ r. ⌜ r ≡ markAt (getD (now (letters .entry)) kind 0 ∷ []) (now (s .entry)) at ⌝ }
+    ensures { λ r. ⌜ r ≡ mark-at (getD (now (letters .entry)) kind 0 ∷ []) (now (s .entry)) at ⌝ }
 {
     let from = kind as usize;
     let to = from + 1;
@@ -34,7 +34,7 @@ fn read_among(s: &[u8], at: usize, letters: &[u8], kind: u64) -> Mark
 
 // The letter of a kind, which stands at the kind's place of the one table of letters. A kind without one has NUL, which no text has.
 pub fn read_letter(s: &[u8], at: usize, kind: u64) -> Mark
-    ensures { λ r. ⌜ r ≡ markAt (letter kind) (now (s .entry)) at ⌝ }
+    ensures { λ r. ⌜ r ≡ mark-at (letter kind) (now (s .entry)) at ⌝ }
 {
     if kind < 9 {
         read_among(s, at, b"Tp!&|URFG", kind)
@@ -45,7 +45,7 @@ pub fn read_letter(s: &[u8], at: usize, kind: u64) -> Mark
 
 // A window, `[lo,hi]` or `[lo,*]`.
 fn read_window(s: &[u8], at: usize) -> Window
-    ensures { λ r. ⌜ r ≡ windowAt (now (s .entry)) at ⌝ }
+    ensures { λ r. ⌜ r ≡ window-at (now (s .entry)) at ⌝ }
 {
     let Field::Number(lo, comma) = text::read_field(s, at, b"[", 1_000_000_000) else {
         return Window::Bad;
@@ -75,7 +75,7 @@ fn read_window(s: &[u8], at: usize) -> Window
 }
 
 fn over(kind: u64, w: Window) -> Operator
-    ensures { λ r. ⌜ r ≡ overWindow kind w ⌝ }
+    ensures { λ r. ⌜ r ≡ over-window kind w ⌝ }
 {
     match w {
         Window::Ends(span, next) => Operator::Over(kind, span, next),
@@ -85,7 +85,7 @@ fn over(kind: u64, w: Window) -> Operator
 
 // The letter of a kind and its window.
 fn read_timed(s: &[u8], at: usize, kind: u64) -> Operator
-    ensures { λ r. ⌜ r ≡ timedAt kind (now (s .entry)) at ⌝ }
+    ensures { λ r. ⌜ r ≡ timed-at kind (now (s .entry)) at ⌝ }
 {
     let Mark::Next(next) = read_letter(s, at, kind) else {
         return Operator::Absent;
@@ -95,7 +95,7 @@ fn read_timed(s: &[u8], at: usize, kind: u64) -> Operator
 
 // The first operator, or the second where that is absent.
 fn or_else(first: Operator, second: Operator) -> Operator
-    ensures { λ r. ⌜ r ≡ orElse first second ⌝ }
+    ensures { λ r. ⌜ r ≡ or-else first second ⌝ }
 {
     match first {
         Operator::Absent => second,
@@ -106,14 +106,14 @@ fn or_else(first: Operator, second: Operator) -> Operator
 
 // What binds a unary to the one before it: until or release.
 pub fn read_binder(s: &[u8], at: usize) -> Operator
-    ensures { λ r. ⌜ r ≡ binderAt (now (s .entry)) at ⌝ }
+    ensures { λ r. ⌜ r ≡ binder-at (now (s .entry)) at ⌝ }
 {
     or_else(read_timed(s, at, 5), read_timed(s, at, 6))
 }
 
 // What a unary begins with, where it is an operator: not, eventually or always.
 pub fn read_prefix(s: &[u8], at: usize) -> Operator
-    ensures { λ r. ⌜ r ≡ prefixAt (now (s .entry)) at ⌝ }
+    ensures { λ r. ⌜ r ≡ prefix-at (now (s .entry)) at ⌝ }
 {
     if let Mark::Next(next) = read_letter(s, at, NOT) {
         return Operator::Over(NOT, Span { lo: 0, hi: 0 }, next);

@@ -9,7 +9,7 @@ use lib.ListN.{length, getD, set, drop, length-set, length-drop, length-append}
 use lib.Dec.{leb}
 use borrow.Author.Tests.{le-leb}
 use Rattle.text.specs.Bytes.{bytes}
-use Rattle.text.specs.Mark.{prefixOf, keyAt}
+use Rattle.text.specs.Mark.{prefix-of, key-at}
 use Rattle.text.proofs.Tests.{false-true, never}
 use Rattle.row_lines.specs.Form.{lines, size}
 use Rattle.row_lines.proofs.Fields.{test-case}
@@ -20,8 +20,8 @@ use Rattle.predicate_lines.specs.declared.Bound.the-variants.{Missing, A
 use Rattle.predicate_lines.specs.declared.Line.{Line}
 use Rattle.predicate_lines.specs.declared.Line.the-variants.{Set, Bad}
 use Rattle.predicate_lines.specs.declared.Predicates.{Predicates}
-use Rattle.predicate_lines.specs.Form.{rangeOf, Line as Form·Line, none, unset, isUnset, Lines, over, more}
-use Rattle.predicate_lines.specs.Lines.{lineAt, afterLine, brokenSet, storedIn, withLine, linesFrom, linesAt}
+use Rattle.predicate_lines.specs.Form.{range-of, Line as Form·Line, none, unset, is-unset, Lines, over, more}
+use Rattle.predicate_lines.specs.Lines.{line-at, after-line, broken-set, stored-in, with-line, lines-from, lines-at}
 use Rattle.predicate_lines.proofs.Written.{line-is, line-taken, line-fed}
 
 -- ---- sound
@@ -41,23 +41,23 @@ record Stored (s : List ℕ) (ps q : Predicates) : Type 0 where
   number : ℕ
   predicate : Predicate
   next : ℕ
-  reads : lineAt s (ps .next) ≡ Set number predicate next
-  free : isUnset (getD (ps .all) number none .range) ≡ true
+  reads : line-at s (ps .next) ≡ Set number predicate next
+  free : is-unset (getD (ps .all) number none .range) ≡ true
   same : q ≡ record { ok = true; next = next; all = set (ps .all) number predicate }
 
-with-ok : (s : List ℕ) (ps : Predicates) → withLine s ps .ok ≡ true → Stored s ps (withLine s ps)
-unfolding withLine storedIn
-with-ok s ps h = go (lineAt s (ps .next)) refl h
+with-ok : (s : List ℕ) (ps : Predicates) → with-line s ps .ok ≡ true → Stored s ps (with-line s ps)
+unfolding with-line stored-in
+with-ok s ps h = go (line-at s (ps .next)) refl h
   where
-    then : (k : ℕ) (p : Predicate) (n : ℕ) → lineAt s (ps .next) ≡ Set k p n → (t : Bool) → isUnset (getD (ps .all) k none .range) ≡ t
-        → cond t (record { ok = true; next = n; all = set (ps .all) k p }) brokenSet .ok ≡ true
-        → Stored s ps (cond t (record { ok = true; next = n; all = set (ps .all) k p }) brokenSet)
+    then : (k : ℕ) (p : Predicate) (n : ℕ) → line-at s (ps .next) ≡ Set k p n → (t : Bool) → is-unset (getD (ps .all) k none .range) ≡ t
+        → cond t (record { ok = true; next = n; all = set (ps .all) k p }) broken-set .ok ≡ true
+        → Stored s ps (cond t (record { ok = true; next = n; all = set (ps .all) k p }) broken-set)
     then k p n e true f g = record { number = k; predicate = p; next = n; reads = e; free = f; same = refl }
     then k p n e false f g = absurd (false-true g)
 
-    go : (x : Line) → lineAt s (ps .next) ≡ x → afterLine x (λ k p n. storedIn ps k p n) brokenSet .ok ≡ true
-        → Stored s ps (afterLine x (λ k p n. storedIn ps k p n) brokenSet)
-    go (Set k p n) e g = then k p n e (isUnset (getD (ps .all) k none .range)) refl g
+    go : (x : Line) → line-at s (ps .next) ≡ x → after-line x (λ k p n. stored-in ps k p n) broken-set .ok ≡ true
+        → Stored s ps (after-line x (λ k p n. stored-in ps k p n) broken-set)
+    go (Set k p n) e g = then k p n e (is-unset (getD (ps .all) k none .range)) refl g
     go Bad e g = absurd (false-true g)
 
 more-here : (s : List ℕ) (ps q : Predicates) → Stored s ps q → (r : Predicates) → LinesHere s q r → LinesHere s ps r
@@ -72,18 +72,18 @@ more-here s ps q w r h o =
       place = omega (arith, l .1 .end, m .place);
     }
 
-lines-here : (f : ℕ) (s : List ℕ) (ps : Predicates) → LinesHere s ps (linesFrom f s ps)
-unfolding linesFrom LinesHere size
+lines-here : (f : ℕ) (s : List ℕ) (ps : Predicates) → LinesHere s ps (lines-from f s ps)
+unfolding lines-from LinesHere size
 lines-here zero s ps = λ o. record { taken = []; cuts = refl; form = over; place = omega arith }
 lines-here (suc f) s ps =
-    test-case (LinesHere s ps) (keyAt (bytes "p=") s (ps .next)) _ _
-    (λ t. test-case (LinesHere s ps) (withLine s ps .ok) _ _
-    (λ o. more-here s ps (withLine s ps) (with-ok s ps o) (linesFrom f s (withLine s ps)) (lines-here f s (withLine s ps)))
+    test-case (LinesHere s ps) (key-at (bytes "p=") s (ps .next)) _ _
+    (λ t. test-case (LinesHere s ps) (with-line s ps .ok) _ _
+    (λ o. more-here s ps (with-line s ps) (with-ok s ps o) (lines-from f s (with-line s ps)) (lines-here f s (with-line s ps)))
     (λ o g. absurd (false-true (sym o ∙ g))))
     (λ t o. record { taken = []; cuts = refl; form = over; place = omega arith })
 
-pub predicates-are : (s : List ℕ) (at : ℕ) → linesAt s at .ok ≡ true → LinesRead s at unset (linesAt s at .next) (linesAt s at .all)
-unfolding linesAt LinesHere
+pub predicates-are : (s : List ℕ) (at : ℕ) → lines-at s at .ok ≡ true → LinesRead s at unset (lines-at s at .next) (lines-at s at .all)
+unfolding lines-at LinesHere
 predicates-are s at o = lines-here 16 s (record { ok = true; next = at; all = unset }) o
 
 -- ---- complete
@@ -91,57 +91,57 @@ predicates-are s at o = lines-here 16 s (record { ok = true; next = at; all = un
 -- how many numbers are free
 unsets : List Predicate → ℕ
 unsets [] = 0
-unsets (p ∷ ps) = cond (isUnset (p .range)) 1 0 + unsets ps
+unsets (p ∷ ps) = cond (is-unset (p .range)) 1 0 + unsets ps
 
-range-set : (lo hi : Bound) → isUnset (rangeOf lo hi) ≡ false
+range-set : (lo hi : Bound) → is-unset (range-of lo hi) ≡ false
 range-set Missing Missing = refl
 range-set (At lo) Missing = refl
 range-set Missing (At hi) = refl
 range-set (At lo) (At hi) = refl
 
-unsets-set : (ps : List Predicate) (k : ℕ) (p : Predicate) → k < length ps → isUnset (getD ps k none .range) ≡ true → isUnset (p .range) ≡ false
+unsets-set : (ps : List Predicate) (k : ℕ) (p : Predicate) → k < length ps → is-unset (getD ps k none .range) ≡ true → is-unset (p .range) ≡ false
     → unsets ps ≡ suc (unsets (set ps k p))
 unfolding unsets
 unsets-set [] k p l f h = absurd (omega arith)
 unsets-set (q ∷ ps) zero p l f h = rw (f, h) (omega arith)
 unsets-set (q ∷ ps) (suc k) p l f h = let e : unsets ps ≡ suc (unsets (set ps k p)) = unsets-set ps k p (omega arith) f h in omega arith
 
-due-over : (f : ℕ) (s : List ℕ) (ps : Predicates) → prefixOf (bytes "p=") (drop (ps .next) s) ≡ false → linesFrom f s ps ≡ ps
-unfolding linesFrom
+due-over : (f : ℕ) (s : List ℕ) (ps : Predicates) → prefix-of (bytes "p=") (drop (ps .next) s) ≡ false → lines-from f s ps ≡ ps
+unfolding lines-from
 due-over zero s ps h = refl
 due-over (suc f) s ps h = rw (h, never (leb (ps .next) (length s)))
 
-due-more : (f : ℕ) (s : List ℕ) (at k : ℕ) (p : Predicate) (n : ℕ) (ps : List Predicate) → at ≤ length s → prefixOf (bytes "p=") (drop at s) ≡ true
-    → lineAt s at ≡ Set k p n → isUnset (getD ps k none .range) ≡ true
-    → linesFrom (suc f) s (record { ok = true; next = at; all = ps }) ≡ linesFrom f s (record { ok = true; next = n; all = set ps k p })
-unfolding linesFrom withLine storedIn
+due-more : (f : ℕ) (s : List ℕ) (at k : ℕ) (p : Predicate) (n : ℕ) (ps : List Predicate) → at ≤ length s → prefix-of (bytes "p=") (drop at s) ≡ true
+    → line-at s at ≡ Set k p n → is-unset (getD ps k none .range) ≡ true
+    → lines-from (suc f) s (record { ok = true; next = at; all = ps }) ≡ lines-from f s (record { ok = true; next = n; all = set ps k p })
+unfolding lines-from with-line stored-in
 due-more f s at k p n ps l h e g = rw (le-leb at (length s) l, h, e, g)
 
 -- a predicate's line has the key `p=`
-line-due : {k : ℕ} {p : Predicate} {l : List ℕ} (r : List ℕ) → Form·Line l k p → prefixOf (bytes "p=") (l ++ r) ≡ true
-unfolding prefixOf
+line-due : {k : ℕ} {p : Predicate} {l : List ℕ} (r : List ℕ) → Form·Line l k p → prefix-of (bytes "p=") (l ++ r) ≡ true
+unfolding prefix-of
 line-due r f = rw (f .written)
 
 lines-taken : {ps qs : List Predicate} {ls : List (List ℕ)} → Lines ps ls qs → (f : ℕ) (s : List ℕ) (at : ℕ) (rest : List (List ℕ))
-    → length ps ≡ 16 → unsets ps ≤ f → lines (drop at s) ≡ ls ++ rest → ((x : List ℕ) → lines x ≡ rest → prefixOf (bytes "p=") x ≡ false)
-    → (n : ℕ) × (linesFrom f s (record { ok = true; next = at; all = ps }) ≡ record { ok = true; next = n; all = qs }) × (lines (drop n s) ≡ rest)
+    → length ps ≡ 16 → unsets ps ≤ f → lines (drop at s) ≡ ls ++ rest → ((x : List ℕ) → lines x ≡ rest → prefix-of (bytes "p=") x ≡ false)
+    → (n : ℕ) × (lines-from f s (record { ok = true; next = at; all = ps }) ≡ record { ok = true; next = n; all = qs }) × (lines (drop n s) ≡ rest)
 lines-taken {ps} over f s at rest w u e stop = (at, due-over f s (record { ok = true; next = at; all = ps }) (stop (drop at s) e), e)
 lines-taken {ps} {qs} (more {l} {ls} {number = k} {predicate = p} line free lines′) f s at rest w u e stop =
     let a = lines-split (drop at s) l (ls ++ rest) e in
     let b = line-taken s at (a .0) line (a .1) in
-    let c : unsets ps ≡ suc (unsets (set ps k p)) = unsets-set ps k p (omega (arith, line .known)) free (ap isUnset (line .range) ∙ range-set (line .low) (line .high)) in
+    let c : unsets ps ≡ suc (unsets (set ps k p)) = unsets-set ps k p (omega (arith, line .known)) free (ap is-unset (line .range) ∙ range-set (line .low) (line .high)) in
     let d = lines-taken lines′ (f - 1) s (b .0) rest (length-set ps k p ∙ w) (omega arith) (ap lines (b .2) ∙ a .2) stop in
     let g : f ≡ suc (f - 1) = omega arith in
     let y : length l ≡ length (line-fed line .body) + 1 = ap length (line-fed line .ends) ∙ length-append (line-fed line .body) (bytes "\n") in
     let z : length s - at ≡ length l + length (a .0) = sym (length-drop at s) ∙ (ap length (a .1) ∙ length-append l (a .0)) in (
       d .0,
-      ap (λ (j : ℕ). linesFrom j s (record { ok = true; next = at; all = ps })) g
-          ∙ (due-more (f - 1) s at k p (b .0) ps (omega arith) (ap (prefixOf (bytes "p=")) (a .1) ∙ line-due (a .0) line) (b .1) free ∙ d .1),
+      ap (λ (j : ℕ). lines-from j s (record { ok = true; next = at; all = ps })) g
+          ∙ (due-more (f - 1) s at k p (b .0) ps (omega arith) (ap (prefix-of (bytes "p=")) (a .1) ∙ line-due (a .0) line) (b .1) free ∙ d .1),
       d .2,
     )
 
 pub predicates-taken : {qs : List Predicate} {ls : List (List ℕ)} → Lines unset ls qs → (s : List ℕ) (at : ℕ) (rest : List (List ℕ))
-    → lines (drop at s) ≡ ls ++ rest → ((x : List ℕ) → lines x ≡ rest → prefixOf (bytes "p=") x ≡ false)
-    → (n : ℕ) × (linesAt s at ≡ record { ok = true; next = n; all = qs }) × (lines (drop n s) ≡ rest)
-unfolding linesAt unsets
+    → lines (drop at s) ≡ ls ++ rest → ((x : List ℕ) → lines x ≡ rest → prefix-of (bytes "p=") x ≡ false)
+    → (n : ℕ) × (lines-at s at ≡ record { ok = true; next = n; all = qs }) × (lines (drop n s) ≡ rest)
+unfolding lines-at unsets
 predicates-taken form s at rest e stop = lines-taken form 16 s at rest refl (omega arith) e stop

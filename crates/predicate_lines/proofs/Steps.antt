@@ -7,62 +7,62 @@ use mathlib.Core.Bool.{true, false}
 use Prim.Native.Nat.{ℕ, suc, _+_, _-_, _≤_, _<_}
 use native.Mathlib.Omega.{arith}
 use Rattle.text.specs.Bytes.{bytes}
-use Rattle.text.specs.Mark.{keyAt, markAt}
-use Rattle.text.specs.Number.{largest, fieldAt}
+use Rattle.text.specs.Mark.{key-at, mark-at}
+use Rattle.text.specs.Number.{largest, field-at}
 use Rattle.text.specs.declared.Mark.the-variants.{Next, Bad as Mark·Bad}
 use Rattle.text.specs.declared.Field.the-variants.{Number, Bad as Field·Bad}
 use Rattle.recordings.specs.declared.Range.{Range}
 use Rattle.predicate_lines.specs.declared.Bound.{Bound}
 use Rattle.predicate_lines.specs.declared.End.the-variants.{Read, Bad as End·Bad}
 use Rattle.predicate_lines.specs.declared.Line.the-variants.{Set, Bad}
-use Rattle.predicate_lines.specs.Form.{rangeOf}
+use Rattle.predicate_lines.specs.Form.{range-of}
 use Rattle.predicate_lines.specs.declared.Predicates.{Predicates}
-use Rattle.predicate_lines.specs.Lines.{endAt, lineAt, withLine, linesFrom}
+use Rattle.predicate_lines.specs.Lines.{end-at, line-at, with-line, lines-from}
 
 module _ (s : List ℕ) (at : ℕ) where
-  pub line-number : fieldAt (bytes "p=") s at 15 ≡ Field·Bad → Bad ≡ lineAt s at
-  unfolding lineAt
+  pub line-number : field-at (bytes "p=") s at 15 ≡ Field·Bad → Bad ≡ line-at s at
+  unfolding line-at
   line-number e = rw e
 
-  module _ (k a : ℕ) (e : fieldAt (bytes "p=") s at 15 ≡ Number k a) where
-    pub line-channel : fieldAt (bytes " ch=") s a largest ≡ Field·Bad → Bad ≡ lineAt s at
-    unfolding lineAt
+  module _ (k a : ℕ) (e : field-at (bytes "p=") s at 15 ≡ Number k a) where
+    pub line-channel : field-at (bytes " ch=") s a largest ≡ Field·Bad → Bad ≡ line-at s at
+    unfolding line-at
     line-channel f = rw (e, f)
 
-    module _ (ch b : ℕ) (f : fieldAt (bytes " ch=") s a largest ≡ Number ch b) where
-      pub line-low : endAt (bytes " lo=") s b ≡ End·Bad → Bad ≡ lineAt s at
-      unfolding lineAt
+    module _ (ch b : ℕ) (f : field-at (bytes " ch=") s a largest ≡ Number ch b) where
+      pub line-low : end-at (bytes " lo=") s b ≡ End·Bad → Bad ≡ line-at s at
+      unfolding line-at
       line-low g = rw (e, f, g)
 
-      module _ (lo : Bound) (c : ℕ) (g : endAt (bytes " lo=") s b ≡ Read lo c) where
-        pub line-high : endAt (bytes " hi=") s c ≡ End·Bad → Bad ≡ lineAt s at
-        unfolding lineAt
+      module _ (lo : Bound) (c : ℕ) (g : end-at (bytes " lo=") s b ≡ Read lo c) where
+        pub line-high : end-at (bytes " hi=") s c ≡ End·Bad → Bad ≡ line-at s at
+        unfolding line-at
         line-high h = rw (e, f, g, h)
 
-        module _ (hi : Bound) (d : ℕ) (h : endAt (bytes " hi=") s c ≡ Read hi d) where
-          pub line-open : markAt (bytes "\n") s d ≡ Mark·Bad → Bad ≡ lineAt s at
-          unfolding lineAt
+        module _ (hi : Bound) (d : ℕ) (h : end-at (bytes " hi=") s c ≡ Read hi d) where
+          pub line-open : mark-at (bytes "\n") s d ≡ Mark·Bad → Bad ≡ line-at s at
+          unfolding line-at
           line-open i = rw (e, f, g, h, i)
 
-          pub line-set : (n : ℕ) (r : Range) → markAt (bytes "\n") s d ≡ Next n → r ≡ rangeOf lo hi → Set k (record { channel = ch; range = r }) n ≡ lineAt s at
-          unfolding lineAt
+          pub line-set : (n : ℕ) (r : Range) → mark-at (bytes "\n") s d ≡ Next n → r ≡ range-of lo hi → Set k (record { channel = ch; range = r }) n ≡ line-at s at
+          unfolding line-at
           line-set n r i q = rw (e, f, g, h, i, q)
 
 module _ (f i : ℕ) (s : List ℕ) (ps : Predicates) where
-  pub lines-end : f ≤ i → ps ≡ linesFrom (f - i) s ps
-  unfolding linesFrom
+  pub lines-end : f ≤ i → ps ≡ lines-from (f - i) s ps
+  unfolding lines-from
   lines-end l = let e : f - i ≡ 0 = omega arith in rw e
 
   module _ (l : i < f) where
-    pub lines-over : keyAt (bytes "p=") s (ps .next) ≡ false → ps ≡ linesFrom (f - i) s ps
-    unfolding linesFrom
+    pub lines-over : key-at (bytes "p=") s (ps .next) ≡ false → ps ≡ lines-from (f - i) s ps
+    unfolding lines-from
     lines-over h = let e : f - i ≡ suc (f - (i + 1)) = omega arith in rw (e, h)
 
-    module _ (q : Predicates) (h : keyAt (bytes "p=") s (ps .next) ≡ true) (g : q ≡ withLine s ps) where
-      pub lines-bad : q .ok ≡ false → q ≡ linesFrom (f - i) s ps
-      unfolding linesFrom
+    module _ (q : Predicates) (h : key-at (bytes "p=") s (ps .next) ≡ true) (g : q ≡ with-line s ps) where
+      pub lines-bad : q .ok ≡ false → q ≡ lines-from (f - i) s ps
+      unfolding lines-from
       lines-bad o = let e : f - i ≡ suc (f - (i + 1)) = omega arith in rw (e, h, ← g, o)
 
-      pub lines-more : q .ok ≡ true → linesFrom (f - (i + 1)) s q ≡ linesFrom (f - i) s ps
-      unfolding linesFrom
+      pub lines-more : q .ok ≡ true → lines-from (f - (i + 1)) s q ≡ lines-from (f - i) s ps
+      unfolding lines-from
       lines-more o = let e : f - i ≡ suc (f - (i + 1)) = omega arith in rw (e, h, ← g, o)

@@ -9,8 +9,8 @@ use lib.ListN.{length, getD, drop}
 use lib.IntN.{ℤ}
 use borrow.Author.Tests.{ne-eqb}
 use Rattle.text.specs.Bytes.{bytes}
-use Rattle.text.specs.Mark.{prefixOf, markAt}
-use Rattle.text.specs.Number.{isDigit, largest, fieldAt, signedAt}
+use Rattle.text.specs.Mark.{prefix-of, mark-at}
+use Rattle.text.specs.Number.{is-digit, largest, field-at, signed-at}
 use Rattle.text.specs.Numeral.{Numeral}
 use Rattle.text.specs.declared.Mark.the-variants.{Next}
 use Rattle.text.specs.declared.Field.the-variants.{Number}
@@ -27,8 +27,8 @@ use Rattle.predicate_lines.specs.declared.End.{End}
 use Rattle.predicate_lines.specs.declared.End.the-variants.{Read, Bad as End·Bad}
 use Rattle.predicate_lines.specs.declared.Line.{Line}
 use Rattle.predicate_lines.specs.declared.Line.the-variants.{Set, Bad}
-use Rattle.predicate_lines.specs.Form.{End as Form·End, star, number, rangeOf, Line as Form·Line}
-use Rattle.predicate_lines.specs.Lines.{endAt, afterEnd, lineAt}
+use Rattle.predicate_lines.specs.Form.{End as Form·End, star, number, range-of, Line as Form·Line}
+use Rattle.predicate_lines.specs.Lines.{end-at, after-end, line-at}
 use Rattle.predicate_lines.proofs.Steps.{line-set}
 
 -- ---- an end
@@ -37,41 +37,41 @@ abbrev EndHere : List ℕ → List ℕ → ℕ → End → Type 0
 EndHere key s at (Read b n) = (w : List ℕ) × Between s at n (key ++ w) × Form·End w b
 EndHere key s at End·Bad = Unit
 
-end-here : (key s : List ℕ) (at : ℕ) → EndHere key s at (endAt key s at)
-unfolding endAt
+end-here : (key s : List ℕ) (at : ℕ) → EndHere key s at (end-at key s at)
+unfolding end-at
 end-here key s at =
-    mark-case (EndHere key s at) (markAt key s at) _ _
-    (λ b e. mark-case (EndHere key s at) (markAt (bytes "*") s b) _ _
+    mark-case (EndHere key s at) (mark-at key s at) _ _
+    (λ b e. mark-case (EndHere key s at) (mark-at (bytes "*") s b) _ _
     (λ n f. (bytes "*", between-both (mark-is key s at b e) (mark-is (bytes "*") s b n f), star))
-    (λ f. signed-case (EndHere key s at) (signedAt s b) _ _
+    (λ f. signed-case (EndHere key s at) (signed-at s b) _ _
     (λ v n g. let w = signed-bytes s b v n g in (w .0, between-both (mark-is key s at b e) (w .1), number (w .2)))
     (λ g. tt)))
     (λ e. tt)
 
-end-case : {A : Type 0} (P : A → Type 0) (x : End) (f : Bound → ℕ → A) (a : A) → ((b : Bound) (n : ℕ) → x ≡ Read b n → P (f b n)) → P a → P (afterEnd x f a)
+end-case : {A : Type 0} (P : A → Type 0) (x : End) (f : Bound → ℕ → A) (a : A) → ((b : Bound) (n : ℕ) → x ≡ Read b n → P (f b n)) → P a → P (after-end x f a)
 end-case P (Read b n) f a h k = h b n refl
 end-case P End·Bad f a h k = k
 
-end-is : (key s : List ℕ) (at : ℕ) (b : Bound) (n : ℕ) → endAt key s at ≡ Read b n → (w : List ℕ) × Between s at n (key ++ w) × Form·End w b
+end-is : (key s : List ℕ) (at : ℕ) (b : Bound) (n : ℕ) → end-at key s at ≡ Read b n → (w : List ℕ) × Between s at n (key ++ w) × Form·End w b
 end-is key s at b n h = rw h at (end-here key s at)
 
 -- a number does not begin with `*`
-numeral-starless : {w : List ℕ} {v : ℕ} (r : List ℕ) → Numeral w v → prefixOf (bytes "*") (w ++ r) ≡ false
-unfolding prefixOf
+numeral-starless : {w : List ℕ} {v : ℕ} (r : List ℕ) → Numeral w v → prefix-of (bytes "*") (w ++ r) ≡ false
+unfolding prefix-of
 numeral-starless {w} r m = go w (numeral-begins m)
   where
-    go : (w : List ℕ) → (0 < length w) × (isDigit (getD w 0 0) ≡ true) → prefixOf (bytes "*") (w ++ r) ≡ false
+    go : (w : List ℕ) → (0 < length w) × (is-digit (getD w 0 0) ≡ true) → prefix-of (bytes "*") (w ++ r) ≡ false
     go [] h = absurd (omega (arith, h .0))
     go (b ∷ w) h = let d = digit-range b (h .1) in rw (ne-eqb b 42 (λ (e : b ≡ 42). omega arith))
 
-starless : {w : List ℕ} {v : ℤ} (r : List ℕ) → Signed w v → prefixOf (bytes "*") (w ++ r) ≡ false
-unfolding prefixOf
+starless : {w : List ℕ} {v : ℤ} (r : List ℕ) → Signed w v → prefix-of (bytes "*") (w ++ r) ≡ false
+unfolding prefix-of
 starless r (plain m l) = numeral-starless r m
 starless r (minus m p l) = refl
 
-end-taken : (s : List ℕ) (at : ℕ) (r : List ℕ) → isDigit (getD r 0 0) ≡ false → (key : List ℕ) → 0 < length key
-    → {w : List ℕ} {b : Bound} → drop at s ≡ key ++ (w ++ r) → Form·End w b → (n : ℕ) × (endAt key s at ≡ Read b n) × (drop n s ≡ r)
-unfolding endAt
+end-taken : (s : List ℕ) (at : ℕ) (r : List ℕ) → is-digit (getD r 0 0) ≡ false → (key : List ℕ) → 0 < length key
+    → {w : List ℕ} {b : Bound} → drop at s ≡ key ++ (w ++ r) → Form·End w b → (n : ℕ) × (end-at key s at ≡ Read b n) × (drop n s ≡ r)
+unfolding end-at
 end-taken s at r stop key p e star =
     let k = mark-taken s at (bytes "*" ++ r) key p e in
     let n = mark-taken s (k .0) r (bytes "*") (omega arith) (k .2) in
@@ -88,14 +88,14 @@ abbrev pub LineHere : List ℕ → ℕ → Line → Type 0
 LineHere s at (Set k p n) = (l : List ℕ) × Between s at n l × Form·Line l k p
 LineHere s at Bad = Unit
 
-pub line-here : (s : List ℕ) (at : ℕ) → LineHere s at (lineAt s at)
-unfolding lineAt
+pub line-here : (s : List ℕ) (at : ℕ) → LineHere s at (line-at s at)
+unfolding line-at
 line-here s at =
-    number-case (LineHere s at) (fieldAt (bytes "p=") s at 15) _ _
-    (λ k a e. number-case (LineHere s at) (fieldAt (bytes " ch=") s a largest) _ _
-    (λ ch b f. end-case (LineHere s at) (endAt (bytes " lo=") s b) _ _
-    (λ lo c g. end-case (LineHere s at) (endAt (bytes " hi=") s c) _ _
-    (λ hi d h. mark-case (LineHere s at) (markAt (bytes "\n") s d) _ _
+    number-case (LineHere s at) (field-at (bytes "p=") s at 15) _ _
+    (λ k a e. number-case (LineHere s at) (field-at (bytes " ch=") s a largest) _ _
+    (λ ch b f. end-case (LineHere s at) (end-at (bytes " lo=") s b) _ _
+    (λ lo c g. end-case (LineHere s at) (end-at (bytes " hi=") s c) _ _
+    (λ hi d h. mark-case (LineHere s at) (mark-at (bytes "\n") s d) _ _
     (λ n i. whole k a e ch b f lo c g hi d h n i)
     (λ i. tt))
     tt)
@@ -103,9 +103,9 @@ line-here s at =
     (λ f. tt))
     (λ e. tt)
   where
-    whole : (k a : ℕ) → fieldAt (bytes "p=") s at 15 ≡ Number k a → (ch b : ℕ) → fieldAt (bytes " ch=") s a largest ≡ Number ch b
-        → (lo : Bound) (c : ℕ) → endAt (bytes " lo=") s b ≡ Read lo c → (hi : Bound) (d : ℕ) → endAt (bytes " hi=") s c ≡ Read hi d
-        → (n : ℕ) → markAt (bytes "\n") s d ≡ Next n → LineHere s at (Set k (record { channel = ch; range = rangeOf lo hi }) n)
+    whole : (k a : ℕ) → field-at (bytes "p=") s at 15 ≡ Number k a → (ch b : ℕ) → field-at (bytes " ch=") s a largest ≡ Number ch b
+        → (lo : Bound) (c : ℕ) → end-at (bytes " lo=") s b ≡ Read lo c → (hi : Bound) (d : ℕ) → end-at (bytes " hi=") s c ≡ Read hi d
+        → (n : ℕ) → mark-at (bytes "\n") s d ≡ Next n → LineHere s at (Set k (record { channel = ch; range = range-of lo hi }) n)
     whole k a e ch b f lo c g hi d h n i =
         let p = field-is (bytes "p=") s at 15 k a e in
         let q = field-is (bytes " ch=") s a largest ch b f in
@@ -135,7 +135,7 @@ line-here s at =
           },
         )
 
-pub line-is : (s : List ℕ) (at k : ℕ) (p : Predicate) (n : ℕ) → lineAt s at ≡ Set k p n → (l : List ℕ) × Between s at n l × Form·Line l k p
+pub line-is : (s : List ℕ) (at k : ℕ) (p : Predicate) (n : ℕ) → line-at s at ≡ Set k p n → (l : List ℕ) × Between s at n l × Form·Line l k p
 line-is s at k p n h = rw h at (line-here s at)
 
 -- a place that was taken, by its name
@@ -143,7 +143,7 @@ taking : {P Q : ℕ → Type 0} {B : Type 0} → (n : ℕ) × P n × Q n → ((n
 taking t f = f (t .0) (t .1) (t .2)
 
 pub line-taken : {k : ℕ} {p : Predicate} {l : List ℕ} (s : List ℕ) (at : ℕ) (r : List ℕ) → Form·Line l k p → drop at s ≡ l ++ r
-    → (n : ℕ) × (lineAt s at ≡ Set k p n) × (drop n s ≡ r)
+    → (n : ℕ) × (line-at s at ≡ Set k p n) × (drop n s ≡ r)
 line-taken {k} {p} s at r t e =
     let w : List ℕ = bytes "\n" ++ r in
     let x : List ℕ = bytes " hi=" ++ (t .hi ++ w) in

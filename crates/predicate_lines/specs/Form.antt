@@ -22,11 +22,11 @@ pub data End : List ℕ → Bound → Type 0 where
   number : {w : List ℕ} {v : ℤ} → Signed w v → End w (At v)
 
 -- the range that two ends make; without an end it is free
-abbrev pub rangeOf : Bound → Bound → Range
-rangeOf Missing Missing = Free
-rangeOf (At lo) Missing = AtLeast lo
-rangeOf Missing (At hi) = AtMost hi
-rangeOf (At lo) (At hi) = Between lo hi
+abbrev pub range-of : Bound → Bound → Range
+range-of Missing Missing = Free
+range-of (At lo) Missing = AtLeast lo
+range-of Missing (At hi) = AtMost hi
+range-of (At lo) (At hi) = Between lo hi
 
 -- a predicate's line: its number is 0 to 15
 pub record Line (line : List ℕ) (number : ℕ) (predicate : Predicate) : Type 0 where
@@ -42,7 +42,7 @@ pub record Line (line : List ℕ) (number : ℕ) (predicate : Predicate) : Type 
   pub high : Bound
   pub from : End lo low
   pub to : End hi high
-  pub range : predicate .range ≡ rangeOf low high
+  pub range : predicate .range ≡ range-of low high
   pub written : line ≡ bytes "p=" ++ p ++ bytes " ch=" ++ ch ++ bytes " lo=" ++ lo ++ bytes " hi=" ++ hi ++ bytes "\n"
 
 abbrev pub none : Predicate
@@ -52,15 +52,15 @@ none = record { channel = 0; range = Unset }
 abbrev pub unset : List Predicate
 unset = replicate 16 none
 
-abbrev pub isUnset : Range → Bool
-isUnset Unset = true
-isUnset Free = false
-isUnset (AtLeast lo) = false
-isUnset (AtMost hi) = false
-isUnset (Between lo hi) = false
+abbrev pub is-unset : Range → Bool
+is-unset Unset = true
+is-unset Free = false
+is-unset (AtLeast lo) = false
+is-unset (AtMost hi) = false
+is-unset (Between lo hi) = false
 
 -- lines that set predicates, one after the other: each number once
 pub data Lines : List Predicate → List (List ℕ) → List Predicate → Type 0 where
   over : {ps : List Predicate} → Lines ps [] ps
   more : {l : List ℕ} {ls : List (List ℕ)} {ps qs : List Predicate} {number : ℕ} {predicate : Predicate}
-      → Line l number predicate → isUnset (getD ps number none .range) ≡ true → Lines (set ps number predicate) ls qs → Lines ps (l ∷ ls) qs
+      → Line l number predicate → is-unset (getD ps number none .range) ≡ true → Lines (set ps number predicate) ls qs → Lines ps (l ∷ ls) qs

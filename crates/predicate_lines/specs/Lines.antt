@@ -5,8 +5,8 @@ use mathlib.Core.Bool.{true, false, cond}
 use mathlib.Core.List.{List}
 use lib.ListN.{getD, set}
 use Rattle.text.specs.Bytes.{bytes}
-use Rattle.text.specs.Mark.{keyAt, markAt, afterMark}
-use Rattle.text.specs.Number.{largest, fieldAt, signedAt, afterNumber, afterSigned}
+use Rattle.text.specs.Mark.{key-at, mark-at, after-mark}
+use Rattle.text.specs.Number.{largest, field-at, signed-at, after-number, after-signed}
 use Rattle.recordings.specs.declared.Predicate.{Predicate}
 use Rattle.predicate_lines.specs.declared.Bound.{Bound}
 use Rattle.predicate_lines.specs.declared.Bound.the-variants.{Missing, At}
@@ -15,52 +15,52 @@ use Rattle.predicate_lines.specs.declared.End.the-variants.{Read, Bad as
 use Rattle.predicate_lines.specs.declared.Line.{Line}
 use Rattle.predicate_lines.specs.declared.Line.the-variants.{Set, Bad}
 use Rattle.predicate_lines.specs.declared.Predicates.{Predicates}
-use Rattle.predicate_lines.specs.Form.{rangeOf, none, unset, isUnset}
+use Rattle.predicate_lines.specs.Form.{range-of, none, unset, is-unset}
 
 -- an end behind its key
-unfoldable pub endAt : List ℕ → List ℕ → ℕ → End
-endAt key s at =
-    afterMark (markAt key s at)
-    (λ b. afterMark (markAt (bytes "*") s b) (λ n. Read Missing n) (afterSigned (signedAt s b) (λ v n. Read (At v) n) End·Bad))
+unfoldable pub end-at : List ℕ → List ℕ → ℕ → End
+end-at key s at =
+    after-mark (mark-at key s at)
+    (λ b. after-mark (mark-at (bytes "*") s b) (λ n. Read Missing n) (after-signed (signed-at s b) (λ v n. Read (At v) n) End·Bad))
     End·Bad
 
-abbrev pub afterEnd : {A : Type 0} → End → (Bound → ℕ → A) → A → A
-afterEnd (Read b n) f x = f b n
-afterEnd End·Bad f x = x
+abbrev pub after-end : {A : Type 0} → End → (Bound → ℕ → A) → A → A
+after-end (Read b n) f x = f b n
+after-end End·Bad f x = x
 
 -- the predicate line at a place
-unfoldable pub lineAt : List ℕ → ℕ → Line
-lineAt s at =
-    afterNumber (fieldAt (bytes "p=") s at 15)
-    (λ number a. afterNumber (fieldAt (bytes " ch=") s a largest)
-    (λ channel b. afterEnd (endAt (bytes " lo=") s b)
-    (λ lo c. afterEnd (endAt (bytes " hi=") s c)
-    (λ hi d. afterMark (markAt (bytes "\n") s d) (λ n. Set number (record { channel = channel; range = rangeOf lo hi }) n) Bad)
+unfoldable pub line-at : List ℕ → ℕ → Line
+line-at s at =
+    after-number (field-at (bytes "p=") s at 15)
+    (λ number a. after-number (field-at (bytes " ch=") s a largest)
+    (λ channel b. after-end (end-at (bytes " lo=") s b)
+    (λ lo c. after-end (end-at (bytes " hi=") s c)
+    (λ hi d. after-mark (mark-at (bytes "\n") s d) (λ n. Set number (record { channel = channel; range = range-of lo hi }) n) Bad)
     Bad)
     Bad)
     Bad)
     Bad
 
-abbrev pub afterLine : {A : Type 0} → Line → (ℕ → Predicate → ℕ → A) → A → A
-afterLine (Set k p n) f x = f k p n
-afterLine Bad f x = x
+abbrev pub after-line : {A : Type 0} → Line → (ℕ → Predicate → ℕ → A) → A → A
+after-line (Set k p n) f x = f k p n
+after-line Bad f x = x
 
-abbrev pub brokenSet : Predicates
-brokenSet = record { ok = false; next = 0; all = unset }
+abbrev pub broken-set : Predicates
+broken-set = record { ok = false; next = 0; all = unset }
 
 -- one predicate more, where its number is not set yet
-unfoldable pub storedIn : Predicates → ℕ → Predicate → ℕ → Predicates
-storedIn ps number predicate n =
-    cond (isUnset (getD (ps .all) number none .range)) (record { ok = true; next = n; all = set (ps .all) number predicate }) brokenSet
+unfoldable pub stored-in : Predicates → ℕ → Predicate → ℕ → Predicates
+stored-in ps number predicate n =
+    cond (is-unset (getD (ps .all) number none .range)) (record { ok = true; next = n; all = set (ps .all) number predicate }) broken-set
 
-unfoldable pub withLine : List ℕ → Predicates → Predicates
-withLine s ps = afterLine (lineAt s (ps .next)) (λ k p n. storedIn ps k p n) brokenSet
+unfoldable pub with-line : List ℕ → Predicates → Predicates
+with-line s ps = after-line (line-at s (ps .next)) (λ k p n. stored-in ps k p n) broken-set
 
 -- up to f lines with the key `p=`
-unfoldable pub linesFrom : ℕ → List ℕ → Predicates → Predicates
-linesFrom zero s ps = ps
-linesFrom (suc f) s ps = cond (keyAt (bytes "p=") s (ps .next)) (cond (withLine s ps .ok) (linesFrom f s (withLine s ps)) (withLine s ps)) ps
+unfoldable pub lines-from : ℕ → List ℕ → Predicates → Predicates
+lines-from zero s ps = ps
+lines-from (suc f) s ps = cond (key-at (bytes "p=") s (ps .next)) (cond (with-line s ps .ok) (lines-from f s (with-line s ps)) (with-line s ps)) ps
 
 -- sixteen numbers, each once, are sixteen lines at most
-unfoldable pub linesAt : List ℕ → ℕ → Predicates
-linesAt s at = linesFrom 16 s (record { ok = true; next = at; all = unset })
+unfoldable pub lines-at : List ℕ → ℕ → Predicates
+lines-at s at = lines-from 16 s (record { ok = true; next = at; all = unset })

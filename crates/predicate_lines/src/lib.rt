@@ -7,9 +7,9 @@ use text::signed;
 ghost use mathlib.Core.Path.{_≡_};
 ghost use Prim.Native.Nat.{_<_};
 ghost use Rattle.text.specs.Bytes.{bytes};
-ghost use Rattle.text.specs.Mark.{keyAt};
-ghost use Rattle.predicate_lines.specs.Form.{rangeOf, isUnset, unset};
-ghost use Rattle.predicate_lines.specs.Lines.{endAt, lineAt, brokenSet, storedIn, withLine, linesFrom, linesAt};
+ghost use Rattle.text.specs.Mark.{key-at};
+ghost use Rattle.predicate_lines.specs.Form.{range-of, is-unset, unset};
+ghost use Rattle.predicate_lines.specs.Lines.{end-at, line-at, broken-set, stored-in, with-line, lines-from, lines-at};
 
 // An end of a range; a missing one is written `*`.
 pub enum Bound {
@@ -37,7 +37,7 @@ pub struct Predicates {
 }
 
 fn read_end(s: &[u8], at: usize, key: &[u8]) -> End
-    ensures { λ r. ⌜ r ≡ endAt (now (key .entry)) (now (s .entry)) at ⌝ }
+    ensures { λ r. ⌜ r ≡ end-at (now (key .entry)) (now (s .entry)) at ⌝ }
 {
     let Mark::Next(start) = text::read_mark(s, at, key) else {
         return End::Bad;
@@ -52,7 +52,7 @@ fn read_end(s: &[u8], at: usize, key: &[u8]) -> End
 }
 
 fn range_of(lo: Bound, hi: Bound) -> Range
-    ensures { λ r. ⌜ r ≡ rangeOf lo hi ⌝ }
+    ensures { λ r. ⌜ r ≡ range-of lo hi ⌝ }
 {
     match lo {
         Bound::Missing => match hi {
@@ -68,7 +68,7 @@ fn range_of(lo: Bound, hi: Bound) -> Range
 
 // The predicate line at a place.
 fn read_line(s: &[u8], at: usize) -> Line
-    ensures { λ r. ⌜ r ≡ lineAt (now (s .entry)) at ⌝ }
+    ensures { λ r. ⌜ r ≡ line-at (now (s .entry)) at ⌝ }
 {
     let Field::Number(number, channel_at) = text::read_field(s, at, b"p=", 15) else {
         return Line::Bad;
@@ -94,7 +94,7 @@ fn read_line(s: &[u8], at: usize) -> Line
 }
 
 fn is_unset(range: Range) -> bool
-    ensures { λ r. ⌜ r ≡ isUnset range ⌝ }
+    ensures { λ r. ⌜ r ≡ is-unset range ⌝ }
 {
     match range {
         Range::Unset => true,
@@ -117,7 +117,7 @@ pub fn unset_predicates() -> [Predicate; 16]
 }
 
 fn broken() -> Predicates
-    ensures { λ r. ⌜ r ≡ brokenSet ⌝ }
+    ensures { λ r. ⌜ r ≡ broken-set ⌝ }
 {
     let all = unset_predicates();
     Predicates {
@@ -130,7 +130,7 @@ fn broken() -> Predicates
 // One predicate more, where its number is not set yet.
 fn store(ps: Predicates, number: usize, predicate: Predicate, next: usize) -> Predicates
     requires { ⌜ number < 16 ⌝ }
-    ensures { λ r. ⌜ r ≡ storedIn ps number predicate next ⌝ }
+    ensures { λ r. ⌜ r ≡ stored-in ps number predicate next ⌝ }
 {
     let old = ps.all[number];
     let range = old.range;
@@ -148,7 +148,7 @@ fn store(ps: Predicates, number: usize, predicate: Predicate, next: usize) -> Pr
 
 // The predicates with those of the next line.
 fn with_line(s: &[u8], ps: Predicates) -> Predicates
-    ensures { λ r. ⌜ r ≡ withLine (now (s .entry)) ps ⌝ }
+    ensures { λ r. ⌜ r ≡ with-line (now (s .entry)) ps ⌝ }
 {
     let at = ps.next;
     let Line::Set(number, predicate, next) = read_line(s, at) else {
@@ -159,14 +159,14 @@ fn with_line(s: &[u8], ps: Predicates) -> Predicates
 
 // Whether a predicate line is due at a place.
 fn is_due(s: &[u8], at: usize) -> bool
-    ensures { λ r. ⌜ r ≡ keyAt (bytes "p=") (now (s .entry)) at ⌝ }
+    ensures { λ r. ⌜ r ≡ key-at (bytes "p=") (now (s .entry)) at ⌝ }
 {
     text::key_at(s, at, b"p=")
 }
 
 // The predicates of the lines from a place on, of which there are at most sixteen.
 pub fn read_predicates(s: &[u8], at: usize) -> Predicates
-    ensures { λ r. ⌜ r ≡ linesAt (now (s .entry)) at ⌝ }
+    ensures { λ r. ⌜ r ≡ lines-at (now (s .entry)) at ⌝ }
 {
     let none = unset_predicates();
     let mut ps = Predicates {

@@ -8,7 +8,7 @@ use lib.Dec.{leb, ltb, eqb}
 use lib.ListN.{getD}
 use lib.IntN.{ℤ, pos, negℤ}
 use lib.Signed.{leZ}
-use Rattle.lists.specs.Fold.{allBelow}
+use Rattle.lists.specs.Fold.{all-below}
 use Rattle.recordings.specs.declared.Predicate.{Predicate}
 use Rattle.recordings.specs.declared.Range.{Range}
 use Rattle.recordings.specs.declared.Range.the-variants.{Unset, Free, AtLeast, AtMost, Between}
@@ -35,7 +35,7 @@ unfoldable pub names-set : List Predicate → Node → Bool
 names-set ps n = not (eqb (n .kind) 1) || is-set (predicate-at ps (n .left) .range)
 
 unfoldable pub all-named : List Predicate → List Node → ℕ → Bool
-all-named ps ns n = allBelow (λ k. names-set ps (node-at ns k)) n
+all-named ps ns n = all-below (λ k. names-set ps (node-at ns k)) n
 
 -- refusal 3 whole: the table's own rules, and what it names
 unfoldable pub requirement-obeys : Table → List Predicate → Bool
@@ -60,7 +60,7 @@ unfoldable pub predicate-obeys : ℕ → Predicate → Bool
 predicate-obeys channels p = (not (is-set (p .range)) || ltb (p .channel) channels) && range-obeys (p .range)
 
 unfoldable pub predicates-obey : ℕ → List Predicate → ℕ → Bool
-predicates-obey channels ps n = allBelow (λ p. predicate-obeys channels (predicate-at ps p)) n
+predicates-obey channels ps n = all-below (λ p. predicate-obeys channels (predicate-at ps p)) n
 
 unfoldable pub channels-obey : ℕ → List Predicate → Bool
 channels-obey channels ps = leb 1 channels && (leb channels 8 && predicates-obey channels ps 16)

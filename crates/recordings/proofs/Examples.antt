@@ -12,7 +12,7 @@ use lib.ListN.{length, getD}
 use lib.IntN.{ℤ, pos, _-ℤ_, natAbs}
 use Rattle.numbers.specs.Order.{Within}
 use Rattle.numbers.proofs.Parts.{plus, minus, abs-parts, sub-parts}
-use Rattle.lists.specs.Fold.{allBelow}
+use Rattle.lists.specs.Fold.{all-below}
 use Rattle.lists.proofs.Below.{all-at}
 use Rattle.recordings.specs.declared.Predicate.{Predicate}
 use Rattle.recordings.specs.declared.Range.the-variants.{Unset, AtLeast}
@@ -28,14 +28,14 @@ record Computed (c : Card) (step drift : ℕ) : Type 0 where
   some-row : T (leb 1 (rows c))
   few-rows : T (leb (rows c) 4_096)
   all-values : length (c .values) ≡ rows c * c .channels
-  rising : T (allBelow (λ i. ltb (time c i) (time c (suc i))) (rows c - 1))
-  small-times : T (allBelow (λ i. leb (time c i) 2_000_000_000) (rows c))
-  in-range : T (allBelow (λ m. leb (natAbs (getD (c .values) m (pos 0))) 1_000_000_000) (length (c .values)))
+  rising : T (all-below (λ i. ltb (time c i) (time c (suc i))) (rows c - 1))
+  small-times : T (all-below (λ i. leb (time c i) 2_000_000_000) (rows c))
+  in-range : T (all-below (λ m. leb (natAbs (getD (c .values) m (pos 0))) 1_000_000_000) (length (c .values)))
   some-step : T (leb 1 step)
   short-step : T (leb step 1_000_000_000)
   small-drift : T (leb drift 1_000_000_000)
-  no-gap : T (allBelow (λ i. leb (time c (suc i)) (time c i + step)) (rows c - 1))
-  no-jump : T (allBelow (λ i. leb (natAbs (value c 0 (suc i) -ℤ value c 0 i)) (2 * drift)) (rows c - 1))
+  no-gap : T (all-below (λ i. leb (time c (suc i)) (time c i + step)) (rows c - 1))
+  no-jump : T (all-below (λ i. leb (natAbs (value c 0 (suc i) -ℤ value c 0 i)) (2 * drift)) (rows c - 1))
 
 accepted : {c : Card} {step drift : ℕ} → Computed c step drift → Accepted c step drift
 accepted {c} {step} {drift} t = record {
@@ -92,7 +92,7 @@ example-has-history = record { follows = λ ch i t h k s o. let e : ch ≡ 0 = o
     apart t i = leb (natAbs (value example 0 t -ℤ value example 0 i)) 2
 
     near : (i t : ℕ) → i < 5 → t < 5 → natAbs (value example 0 t -ℤ value example 0 i) ≤ 2
-    near i t k l = leb→le _ _ (all-at (apart t) 5 (all-at (λ u. allBelow (apart u) 5) 5 tt t l) i k)
+    near i t k l = leb→le _ _ (all-at (apart t) 5 (all-at (λ u. all-below (apart u) 5) 5 tt t l) i k)
 
 -- ---- the ramp
 pub ramp-accepted : Accepted ramp 1 1

@@ -10,7 +10,7 @@ use lib.Dec.{T}
 use mir.Facts.{and-yes, yes-and, and-no}
 use lib.IntN.{ℤ, pos, negsuc, negℤ, sucℤ, _-ℤ_, natAbs, negℤ-negℤ}
 use lib.Signed.{leZ, ltZ}
-use Rattle.numbers.specs.Order.{smallerOf}
+use Rattle.numbers.specs.Order.{smaller-of}
 use Rattle.numbers.proofs.Parts.{plus, minus, lt-parts, parts-lt, parts-nlt, nlt-parts, le-parts, parts-le, nle-parts, parts-nle, parts-eq, plus-neg, minus-neg, abs-parts, parts-apart, suc-parts, sub-parts}
 use Rattle.lists.proofs.Below.{same-test}
 use Rattle.recordings.specs.declared.Range.{Range}
@@ -154,7 +154,7 @@ either-breaks p q x m n k a b c u v = go c
 
 module _ (lo hi x : ℤ) where
   abbrev d : ℤ
-  d = smallerOf (clearance lo x) (clearance x hi)
+  d = smaller-of (clearance lo x) (clearance x hi)
 
   abbrev in-between : ℤ → Bool
   in-between y = leZ lo y && leZ y hi
@@ -162,7 +162,7 @@ module _ (lo hi x : ℤ) where
   inside-between : T (leZ lo x) → T (leZ x hi) → (n : ℕ) × (d ≡ pos n) × Nearest (λ y. not (in-between y)) x n
   inside-between a b = go (kept lo x a) (kept-high hi x b)
     where
-      smaller-is : (m n : ℕ) → (k : ℕ) × (smallerOf (pos m) (pos n) ≡ pos k) × (k ≤ m) × (k ≤ n) × ((k ≡ m) ⊎ (k ≡ n))
+      smaller-is : (m n : ℕ) → (k : ℕ) × (smaller-of (pos m) (pos n) ≡ pos k) × (k ≤ m) × (k ≤ n) × ((k ≡ m) ⊎ (k ≡ n))
       smaller-is m n = pick (ltZ (pos n) (pos m)) (lt-parts (pos n) (pos m)) (nlt-parts (pos n) (pos m))
         where
           pick : (c : Bool) → (T c → n + 0 < m + 0) → (T (not c) → m + 0 ≤ n + 0) → (k : ℕ) × (cond c (pos n) (pos m) ≡ pos k) × (k ≤ m) × (k ≤ n) × ((k ≡ m) ⊎ (k ≡ n))

@@ -6,7 +6,7 @@ use Prim.Native.Nat.{ℕ, _≤_}
 use lib.Dec.{T}
 use lib.IntN.{ℤ, pos, negℤ, sucℤ, _-ℤ_, natAbs}
 use lib.Signed.{leZ}
-use Rattle.numbers.specs.Order.{smallerOf}
+use Rattle.numbers.specs.Order.{smaller-of}
 use Rattle.recordings.specs.declared.Range.{Range}
 use Rattle.recordings.specs.declared.Range.the-variants.{Unset, Free, AtLeast, AtMost, Between}
 
@@ -32,7 +32,7 @@ distance top Unset v = pos top
 distance top Free v = pos top
 distance top (AtLeast lo) v = clearance lo v
 distance top (AtMost hi) v = clearance v hi
-distance top (Between lo hi) v = smallerOf (clearance lo v) (clearance v hi)
+distance top (Between lo hi) v = smaller-of (clearance lo v) (clearance v hi)
 
 -- of the numbers that pass the test, the nearest to x is n away
 pub record Nearest (test : ℤ → Bool) (x : ℤ) (n : ℕ) : Type 0 where

@@ -2,31 +2,27 @@
 -- Assumes nothing.
 use mathlib.Core.Path.{_≡_, refl, sym, ap, _∙_}
 use mathlib.Core.List.{List, [], _∷_, map}
-use Prim.Native.Nat.{ℕ, zero, suc}
+use Prim.Native.Nat.{ℕ}
 use lib.ListN.{getD}
-use Rattle.text.specs.Mark.{prefixOf, markAt}
-use Rattle.text.specs.Number.{digits, value, numberAt, fieldAt}
+use Rattle.lists.proofs.Maps.{map-at}
+use Rattle.text.specs.Mark.{prefix-of, mark-at}
+use Rattle.text.specs.Number.{digits, value, number-at, field-at}
 use Rattle.grammar.specs.Tree.{size}
-use Rattle.grammar.specs.Reading.{windowAt, timedAt, timedAmong, leafAt, moreTurns, bindBy, unaryBy, unaryAt, requirementTree}
+use Rattle.grammar.specs.Reading.{window-at, timed-at, timed-among, leaf-at, more-turns, bind-by, unary-by, unary-at, requirement-tree}
 use Rattle.requirements.specs.declared.Requirement.{Requirement}
-use Rattle.requirements.specs.Requirement.{refused, requirementOf}
-use Rattle.requirements.specs.Examples.{Example, examples, isNone}
+use Rattle.requirements.specs.Requirement.{refused, requirement-of}
+use Rattle.requirements.specs.Examples.{Example, examples, is-none}
 
-table : map (λ (e : Example). requirementOf (e .text)) examples ≡ map (λ (e : Example). e .answer) examples
-unfolding prefixOf markAt digits value numberAt fieldAt size windowAt timedAt timedAmong leafAt moreTurns bindBy unaryBy unaryAt requirementTree
+table : map (λ (e : Example). requirement-of (e .text)) examples ≡ map (λ (e : Example). e .answer) examples
+unfolding prefix-of mark-at digits value number-at field-at size window-at timed-at timed-among leaf-at more-turns bind-by unary-by unary-at requirement-tree
 table = refl
 
-mapped : {X Y : Type 0} (f : X → Y) (xs : List X) (k : ℕ) (d : X) → getD (map f xs) k (f d) ≡ f (getD xs k d)
-mapped f [] k d = refl
-mapped f (x ∷ xs) zero d = refl
-mapped f (x ∷ xs) (suc k) d = mapped f xs k d
-
 -- the text of entry k is answered as entry k says
-pub example : (k : ℕ) → requirementOf (getD examples k (isNone []) .text) ≡ getD examples k (isNone []) .answer
+pub example : (k : ℕ) → requirement-of (getD examples k (is-none []) .text) ≡ getD examples k (is-none []) .answer
 example k =
-    sym (mapped (λ (e : Example). requirementOf (e .text)) examples k (isNone []))
-    ∙ (ap (λ (l : List Requirement). getD l k (requirementOf [])) table ∙ (ap (λ (d : Requirement). getD (map (λ (e : Example). e .answer) examples) k d) nothing
-    ∙ mapped (λ (e : Example). e .answer) examples k (isNone [])))
+    sym (map-at (λ (e : Example). requirement-of (e .text)) examples k (is-none []))
+    ∙ (ap (λ (l : List Requirement). getD l k (requirement-of [])) table ∙ (ap (λ (d : Requirement). getD (map (λ (e : Example). e .answer) examples) k d) nothing
+    ∙ map-at (λ (e : Example). e .answer) examples k (is-none [])))
   where
-    nothing : requirementOf [] ≡ refused
+    nothing : requirement-of [] ≡ refused
     nothing = ap (λ (l : List Requirement). getD l 14 refused) table

@@ -19,11 +19,11 @@ use Rattle.tables.specs.Rules.{Use, child, number, unused, left-use, right-use,
 use Rattle.tables.proofs.Rules.{table-passes}
 use Rattle.grammar.specs.declared.Span.{Span}
 use Rattle.grammar.specs.Operators.{binders, prefixes, _∈_}
-use Rattle.grammar.specs.Tree.{Tree, truth, predicate, one, two, size, noSpan}
+use Rattle.grammar.specs.Tree.{Tree, truth, predicate, one, two, size, no-span}
 use Rattle.grammar.specs.Grammar.{WindowText, closed, endless, Part, Derives, alternative-one, alternative-more, conjunction-one, conjunction-more, bind-one, bind-two, unary-not, unary-timed, unary-true, unary-predicate, unary-group, Requires}
-use Rattle.building.specs.Nodes.{node, emptyNode, nodesOf, tableOf}
+use Rattle.building.specs.Nodes.{node, empty-node, nodes-of, table-of}
 use Rattle.building.proofs.Cells.{size-some, length-nodes}
-use Rattle.requirements.specs.Requirement.{accepted, requirementOf}
+use Rattle.requirements.specs.Requirement.{accepted, requirement-of}
 use Rattle.requirements.proofs.Answers.{answer-sound}
 
 -- ---- what a kind asks for over one or two children
@@ -88,29 +88,29 @@ used-as : {u v : Use} (k x : ℕ) → u ≡ v → Used v k x → Used u k x
 used-as {u} {v} k x e h = subst (λ (y : Use). Used y k x) (sym e) h
 
 -- a node after n others
-module _ (us : List Node) (x : Node) (k n i : ℕ) (l : length us ≡ n) (rest : (j : ℕ) → j < n → NodeRules (getD us j emptyNode) (k + j)) (last : NodeRules x (k + n)) where
-  after-nodes : i < n + 1 → NodeRules (getD (us ++ (x ∷ [])) i emptyNode) (k + i)
+module _ (us : List Node) (x : Node) (k n i : ℕ) (l : length us ≡ n) (rest : (j : ℕ) → j < n → NodeRules (getD us j empty-node) (k + j)) (last : NodeRules x (k + n)) where
+  after-nodes : i < n + 1 → NodeRules (getD (us ++ (x ∷ [])) i empty-node) (k + i)
   after-nodes h = by-test (leb n i) (λ e. here (leb-true n i e)) (λ e. before (leb-false n i e))
     where
-      before : i < n → NodeRules (getD (us ++ (x ∷ [])) i emptyNode) (k + i)
-      before g = rw (List·getD-append us (x ∷ []) emptyNode i (rw l g)) (rest i g)
+      before : i < n → NodeRules (getD (us ++ (x ∷ [])) i empty-node) (k + i)
+      before g = rw (List·getD-append us (x ∷ []) empty-node i (rw l g)) (rest i g)
 
-      here : n ≤ i → NodeRules (getD (us ++ (x ∷ [])) i emptyNode) (k + i)
+      here : n ≤ i → NodeRules (getD (us ++ (x ∷ [])) i empty-node) (k + i)
       here g =
           let e : i ≡ length us + 0 = omega arith in
           let f : i ≡ n = omega arith in
-          let y : getD (us ++ (x ∷ [])) i emptyNode ≡ x = rw (e, getD-append-add us (x ∷ []) 0 emptyNode) in
+          let y : getD (us ++ (x ∷ [])) i empty-node ≡ x = rw (e, getD-append-add us (x ∷ []) 0 empty-node) in
           rw (y, f) last
 
-nodes-rules : (o : ℕ) (a : Tree) → Proper a → (i : ℕ) → i < size a → NodeRules (getD (nodesOf o a) i emptyNode) (o + i)
-unfolding nodesOf size
+nodes-rules : (o : ℕ) (a : Tree) → Proper a → (i : ℕ) → i < size a → NodeRules (getD (nodes-of o a) i empty-node) (o + i)
+unfolding nodes-of size
 nodes-rules o truth p zero h = record { known = omega arith; left = refl; right = refl; ends = (refl, refl) }
 nodes-rules o truth p (suc i) h = absurd (omega arith)
 nodes-rules o (predicate q) p zero h = record { known = omega arith; left = p; right = refl; ends = (refl, refl) }
 nodes-rules o (predicate q) p (suc i) h = absurd (omega arith)
 nodes-rules o (one k w a) p i h =
     let s = size-some a in
-    after-nodes (nodesOf o a) (node k (o + size a - 1) 0 w) o (size a) i (length-nodes o a) (λ j g. nodes-rules o a (p .1) j g)
+    after-nodes (nodes-of o a) (node k (o + size a - 1) 0 w) o (size a) i (length-nodes o a) (λ j g. nodes-rules o a (p .1) j g)
     (record {
       known = p .0 .known;
       left = used-as _ _ (p .0 .lefts) (omega arith);
@@ -121,9 +121,9 @@ nodes-rules o (one k w a) p i h =
 nodes-rules o (two k w a b) p i h =
     let s = size-some a in
     let t = size-some b in
-    let us = nodesOf o a ++ nodesOf (o + size a) b in
+    let us = nodes-of o a ++ nodes-of (o + size a) b in
     let x = node k (o + size a - 1) (o + size a + size b - 1) w in
-    let e : nodesOf o a ++ (nodesOf (o + size a) b ++ (x ∷ [])) ≡ us ++ (x ∷ []) = sym (append-assoc (nodesOf o a) (nodesOf (o + size a) b) (x ∷ [])) in
+    let e : nodes-of o a ++ (nodes-of (o + size a) b ++ (x ∷ [])) ≡ us ++ (x ∷ []) = sym (append-assoc (nodes-of o a) (nodes-of (o + size a) b) (x ∷ [])) in
     rw e
     (after-nodes us x o (size a + size b) i (rw (length-append, length-nodes o a, length-nodes (o + size a) b))
     (both-nodes (λ j g. nodes-rules o a (p .1) j g) (λ j g. nodes-rules (o + size a) b (p .2) j g))
@@ -135,39 +135,39 @@ nodes-rules o (two k w a b) p i h =
     })
     h)
   where
-    both-nodes : ((j : ℕ) → j < size a → NodeRules (getD (nodesOf o a) j emptyNode) (o + j))
-        → ((j : ℕ) → j < size b → NodeRules (getD (nodesOf (o + size a) b) j emptyNode) (o + size a + j))
-        → (j : ℕ) → j < size a + size b → NodeRules (getD (nodesOf o a ++ nodesOf (o + size a) b) j emptyNode) (o + j)
+    both-nodes : ((j : ℕ) → j < size a → NodeRules (getD (nodes-of o a) j empty-node) (o + j))
+        → ((j : ℕ) → j < size b → NodeRules (getD (nodes-of (o + size a) b) j empty-node) (o + size a + j))
+        → (j : ℕ) → j < size a + size b → NodeRules (getD (nodes-of o a ++ nodes-of (o + size a) b) j empty-node) (o + j)
     both-nodes l r j g = by-test (leb (size a) j) (λ e. right (leb-true _ _ e)) (λ e. left (leb-false _ _ e))
       where
-        left : j < size a → NodeRules (getD (nodesOf o a ++ nodesOf (o + size a) b) j emptyNode) (o + j)
-        left c = rw (List·getD-append (nodesOf o a) (nodesOf (o + size a) b) emptyNode j (rw (length-nodes o a) c)) (l j c)
+        left : j < size a → NodeRules (getD (nodes-of o a ++ nodes-of (o + size a) b) j empty-node) (o + j)
+        left c = rw (List·getD-append (nodes-of o a) (nodes-of (o + size a) b) empty-node j (rw (length-nodes o a) c)) (l j c)
 
-        right : size a ≤ j → NodeRules (getD (nodesOf o a ++ nodesOf (o + size a) b) j emptyNode) (o + j)
+        right : size a ≤ j → NodeRules (getD (nodes-of o a ++ nodes-of (o + size a) b) j empty-node) (o + j)
         right c =
-            let n : j ≡ length (nodesOf o a) + (j - size a) = rw (length-nodes o a) (omega arith) in
-            let y : getD (nodesOf o a ++ nodesOf (o + size a) b) j emptyNode ≡ getD (nodesOf (o + size a) b) (j - size a) emptyNode =
-            ap (λ (m : ℕ). getD (nodesOf o a ++ nodesOf (o + size a) b) m emptyNode) n ∙ getD-append-add (nodesOf o a) (nodesOf (o + size a) b) (j - size a) emptyNode in
+            let n : j ≡ length (nodes-of o a) + (j - size a) = rw (length-nodes o a) (omega arith) in
+            let y : getD (nodes-of o a ++ nodes-of (o + size a) b) j empty-node ≡ getD (nodes-of (o + size a) b) (j - size a) empty-node =
+            ap (λ (m : ℕ). getD (nodes-of o a ++ nodes-of (o + size a) b) m empty-node) n ∙ getD-append-add (nodes-of o a) (nodes-of (o + size a) b) (j - size a) empty-node in
             let m : o + j ≡ o + size a + (j - size a) = omega arith in
             rw (y, m) (r (j - size a) (omega arith))
 
 -- ---- the whole table
 
-tree-rules : (a : Tree) → Proper a → size a ≤ 64 → TableRules (tableOf a)
+tree-rules : (a : Tree) → Proper a → size a ≤ 64 → TableRules (table-of a)
 tree-rules a p h =
     record {
       some-node = size-some a;
       few-nodes = h;
       each = λ k i.
-          rw (List·getD-append (nodesOf 0 a) (replicate (64 - size a) emptyNode) emptyNode k (rw (length-nodes 0 a) i)) (rw zero-add at (nodes-rules 0 a p k i));
+          rw (List·getD-append (nodes-of 0 a) (replicate (64 - size a) empty-node) empty-node k (rw (length-nodes 0 a) i)) (rw zero-add at (nodes-rules 0 a p k i));
     }
 
 -- the table of a requirement obeys every rule of a table
-pub required-rules : (s : List ℕ) (a : Tree) → Requires s a → TableRules (tableOf a)
+pub required-rules : (s : List ℕ) (a : Tree) → Requires s a → TableRules (table-of a)
 required-rules s a r = tree-rules a (derives-proper (r .derives)) (r .nodes)
 
 -- so the reader's table passes the test of refusal 3, which leaves only that each predicate is set
-pub answer-rules : (s : List ℕ) → requirementOf s .refusal ≡ 0 → T (table-obeys (requirementOf s .table))
+pub answer-rules : (s : List ℕ) → requirement-of s .refusal ≡ 0 → T (table-obeys (requirement-of s .table))
 answer-rules s h =
     let x = answer-sound s h in
-    rw (x .2) (table-passes (tableOf (x .0)) (required-rules s (x .0) (x .1)))
+    rw (x .2) (table-passes (table-of (x .0)) (required-rules s (x .0) (x .1)))

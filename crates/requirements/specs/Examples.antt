@@ -3,8 +3,8 @@ use Prim.Native.Nat.{ℕ, zero, suc}
 use Prim.Native.String.{String}
 use mathlib.Core.List.{List, [], _∷_, _++_}
 use Rattle.text.specs.Bytes.{bytes}
-use Rattle.grammar.specs.Operators.{notKind, andKind, orKind}
-use Rattle.grammar.specs.Tree.{Tree, truth, predicate, one, two, span, noSpan, noEnd}
+use Rattle.grammar.specs.Operators.{not-kind, and-kind, or-kind}
+use Rattle.grammar.specs.Tree.{Tree, truth, predicate, one, two, span, no-span, no-end}
 use Rattle.requirements.specs.declared.Requirement.{Requirement}
 use Rattle.requirements.specs.Requirement.{accepted, refused}
 
@@ -15,8 +15,8 @@ pub record Example : Type 0 where
 abbrev pub says : List ℕ → Tree → Example
 says t a = record { text = t; answer = accepted a }
 
-abbrev pub isNone : List ℕ → Example
-isNone t = record { text = t; answer = refused }
+abbrev pub is-none : List ℕ → Example
+is-none t = record { text = t; answer = refused }
 
 -- a text n times
 abbrev pub times : ℕ → String → List ℕ
@@ -28,13 +28,13 @@ abbrev pub p : ℕ → Tree
 p n = predicate n
 
 abbrev pub no : Tree → Tree
-no a = one notKind noSpan a
+no a = one not-kind no-span a
 
 abbrev pub and : Tree → Tree → Tree
-and a b = two andKind noSpan a b
+and a b = two and-kind no-span a b
 
 abbrev pub or : Tree → Tree → Tree
-or a b = two orKind noSpan a b
+or a b = two or-kind no-span a b
 
 abbrev pub until : ℕ → ℕ → Tree → Tree → Tree
 until lo hi a b = two 5 (span lo hi) a b
@@ -63,32 +63,32 @@ examples =
     says (bytes "p0|p1&p2") (or (p 0) (and (p 1) (p 2)))
     ∷ says (bytes "p0&p1U[0,1]p2") (and (p 0) (until 0 1 (p 1) (p 2)))
     ∷ says (bytes "!p0U[0,1]p1") (until 0 1 (no (p 0)) (p 1))
-    ∷ says (bytes "G[0,1]p0R[2,*]p1") (release 2 noEnd (always 0 1 (p 0)) (p 1))
+    ∷ says (bytes "G[0,1]p0R[2,*]p1") (release 2 no-end (always 0 1 (p 0)) (p 1))
     -- grouped to the left, unless parentheses say otherwise; a bind is not repeated
     ∷ says (bytes "p0|p1|p2") (or (or (p 0) (p 1)) (p 2))
     ∷ says (bytes "p0&(p1&p2)") (and (p 0) (and (p 1) (p 2)))
-    ∷ isNone (bytes "p0U[0,1]p1U[0,1]p2")
+    ∷ is-none (bytes "p0U[0,1]p1U[0,1]p2")
     ∷ says (bytes "p0U[0,1](p1U[0,1]p2)") (until 0 1 (p 0) (until 0 1 (p 1) (p 2)))
     -- numbers
     ∷ says (bytes "F[0,1000000000]p15") (eventually 0 1_000_000_000 (p 15))
-    ∷ isNone (bytes "p16")
-    ∷ isNone (bytes "p01")
-    ∷ isNone (bytes "G[0,4294967295]p0")
-    ∷ isNone (bytes "G[0,1000000001]p0")
-    ∷ isNone (bytes "G[5,2]p0")
+    ∷ is-none (bytes "p16")
+    ∷ is-none (bytes "p01")
+    ∷ is-none (bytes "G[0,4294967295]p0")
+    ∷ is-none (bytes "G[0,1000000001]p0")
+    ∷ is-none (bytes "G[5,2]p0")
     -- nothing else may stand there
-    ∷ isNone []
-    ∷ isNone (bytes "p0 ")
-    ∷ isNone (bytes "\0")
-    ∷ isNone (255 ∷ [])
-    ∷ isNone (bytes "(p0")
-    ∷ isNone (bytes "p0|")
+    ∷ is-none []
+    ∷ is-none (bytes "p0 ")
+    ∷ is-none (bytes "\0")
+    ∷ is-none (255 ∷ [])
+    ∷ is-none (bytes "(p0")
+    ∷ is-none (bytes "p0|")
     -- 32 enclosings and 33, of both sorts
     ∷ says (times 32 "(" ++ (bytes "T" ++ times 32 ")")) truth
-    ∷ isNone (times 33 "(" ++ (bytes "T" ++ times 33 ")"))
+    ∷ is-none (times 33 "(" ++ (bytes "T" ++ times 33 ")"))
     ∷ says (times 32 "!" ++ bytes "T") (nots 32 truth)
-    ∷ isNone (times 33 "!" ++ bytes "T")
+    ∷ is-none (times 33 "!" ++ bytes "T")
     -- 64 nodes and 65
     ∷ says (bytes "!T" ++ times 31 "&T") (ands 31 (no truth))
-    ∷ isNone (bytes "!!T" ++ times 31 "&T")
+    ∷ is-none (bytes "!!T" ++ times 31 "&T")
     ∷ []

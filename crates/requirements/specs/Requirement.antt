@@ -2,22 +2,22 @@
 use Prim.Native.Nat.{ℕ}
 use mathlib.Core.List.{List}
 use Rattle.grammar.specs.Tree.{Tree}
-use Rattle.grammar.specs.Reading.{Reading, got, none, requirementTree}
+use Rattle.grammar.specs.Reading.{Reading, got, none, requirement-tree}
 use Rattle.requirements.specs.declared.Requirement.{Requirement}
-use Rattle.building.specs.Nodes.{emptyTable, tableOf}
+use Rattle.building.specs.Nodes.{empty-table, table-of}
 
 -- no refusal, and the table of what the grammar reads
 abbrev pub accepted : Tree → Requirement
-accepted a = record { refusal = 0; table = tableOf a }
+accepted a = record { refusal = 0; table = table-of a }
 
 -- refusal 2, and the empty table
 abbrev pub refused : Requirement
-refused = record { refusal = 2; table = emptyTable }
+refused = record { refusal = 2; table = empty-table }
 
-abbrev pub answerOf : Reading → Requirement
-answerOf (got a n) = accepted a
-answerOf none = refused
+abbrev pub answer-of : Reading → Requirement
+answer-of (got a n) = accepted a
+answer-of none = refused
 
 -- the answer to a text
-abbrev pub requirementOf : List ℕ → Requirement
-requirementOf s = answerOf (requirementTree s)
+abbrev pub requirement-of : List ℕ → Requirement
+requirement-of s = answer-of (requirement-tree s)

@@ -6,9 +6,9 @@ use grammar::Span;
 use tables::Table;
 use text::Mark;
 ghost use mathlib.Core.Path.{_≡_};
-ghost use Rattle.grammar.specs.Reading.{unaryAt, bindAt, conjunctionAt, alternativeAt};
+ghost use Rattle.grammar.specs.Reading.{unary-at, bind-at, conjunction-at, alternative-at};
 ghost use Rattle.building.specs.Storing.{Done};
-ghost use Rattle.requirements.specs.Requirement.{refused, requirementOf};
+ghost use Rattle.requirements.specs.Requirement.{refused, requirement-of};
 
 // What a requirement text says: refusal 0 and its table, or refusal 2 and the empty table.
 pub struct Requirement {
@@ -27,7 +27,7 @@ fn read_unary(
     free: usize,
     cells: &mut [u64; building::CELLS],
 ) -> Step
-    ensures { λ r. ⌜ Done free (unaryAt depth (now (s .entry)) at) r (now (cells .entry)) (now (cells .exit)) ⌝ }
+    ensures { λ r. ⌜ Done free (unary-at depth (now (s .entry)) at) r (now (cells .entry)) (now (cells .exit)) ⌝ }
 {
     if depth == 0 {
         return building::read_leaf(s, at, free, cells);
@@ -55,7 +55,7 @@ fn read_bind(
     free: usize,
     cells: &mut [u64; building::CELLS],
 ) -> Step
-    ensures { λ r. ⌜ Done free (bindAt depth (now (s .entry)) at) r (now (cells .entry)) (now (cells .exit)) ⌝ }
+    ensures { λ r. ⌜ Done free (bind-at depth (now (s .entry)) at) r (now (cells .entry)) (now (cells .exit)) ⌝ }
 {
     let left = read_unary(s, at, depth, free, cells);
     let Step::Read(end, root, after) = left else {
@@ -82,7 +82,7 @@ fn read_conjunction(
     free: usize,
     cells: &mut [u64; building::CELLS],
 ) -> Step
-    ensures { λ r. ⌜ Done free (conjunctionAt depth (now (s .entry)) at) r (now (cells .entry)) (now (cells .exit)) ⌝ }
+    ensures { λ r. ⌜ Done free (conjunction-at depth (now (s .entry)) at) r (now (cells .entry)) (now (cells .exit)) ⌝ }
 {
     let mut p = read_bind(s, at, depth, free, cells);
     loop {
@@ -110,7 +110,7 @@ fn read_alternative(
     free: usize,
     cells: &mut [u64; building::CELLS],
 ) -> Step
-    ensures { λ r. ⌜ Done free (alternativeAt depth (now (s .entry)) at) r (now (cells .entry)) (now (cells .exit)) ⌝ }
+    ensures { λ r. ⌜ Done free (alternative-at depth (now (s .entry)) at) r (now (cells .entry)) (now (cells .exit)) ⌝ }
 {
     let mut p = read_conjunction(s, at, depth, free, cells);
     loop {
@@ -142,7 +142,7 @@ fn refuse() -> Requirement
 
 // The whole text, within the limits of enclosings and nodes.
 pub fn read_requirement(text: &[u8]) -> Requirement
-    ensures { λ r. ⌜ r ≡ requirementOf (now (text .entry)) ⌝ }
+    ensures { λ r. ⌜ r ≡ requirement-of (now (text .entry)) ⌝ }
 {
     let mut cells = [0u64; building::CELLS];
     let Step::Read(end, root, count) = read_alternative(text, 0, ENCLOSINGS, 0, &mut cells) else {

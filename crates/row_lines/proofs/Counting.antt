@@ -11,7 +11,7 @@ use Rattle.row_lines.specs.declared.Row.the-variants.{Measured, Filled, 
 use Rattle.row_lines.specs.declared.Counts.{Counts}
 use Rattle.row_lines.specs.declared.Counts.the-variants.{Rows as Counts·Rows, Bad as Counts·Bad}
 use Rattle.row_lines.specs.Form.{Sample}
-use Rattle.row_lines.specs.Rows.{rowAt, Listing, listed, broken, alsoMeasured, alsoFilled, sampleAt, rowsFrom, rowsOf, counts}
+use Rattle.row_lines.specs.Rows.{row-at, Listing, listed, broken, also-measured, also-filled, sample-at, rows-from, rows-of, counts}
 use Rattle.row_lines.proofs.Exact.{row-past, rows-over, rows-turn}
 
 -- the counts after m measured and k filled rows
@@ -23,11 +23,11 @@ tally-none : (x : Listing) → tally 0 0 x ≡ counts x
 tally-none (listed xs f) = simp zero-add
 tally-none broken = refl
 
-tally-measured : (m k : ℕ) (x : Sample) (y : Listing) → tally m k (alsoMeasured x y) ≡ tally (m + 1) k y
+tally-measured : (m k : ℕ) (x : Sample) (y : Listing) → tally m k (also-measured x y) ≡ tally (m + 1) k y
 tally-measured m k x (listed xs f) = let e : m + suc (length xs) ≡ m + 1 + length xs = omega arith in rw e
 tally-measured m k x broken = refl
 
-tally-filled : (m k : ℕ) (y : Listing) → tally m k (alsoFilled y) ≡ tally m (k + 1) y
+tally-filled : (m k : ℕ) (y : Listing) → tally m k (also-filled y) ≡ tally m (k + 1) y
 tally-filled m k (listed xs f) = let e : k + suc f ≡ k + 1 + f = omega arith in rw e
 tally-filled m k broken = refl
 
@@ -36,19 +36,19 @@ pub record Counting (ch : ℕ) (s : List ℕ) (at m k : ℕ) : Type 0 where
   pub fuel : ℕ
   pub enough : length s ≤ at + fuel
   pub few : m + k ≤ at
-  pub same : tally m k (rowsFrom fuel ch s at) ≡ counts (rowsOf ch s)
+  pub same : tally m k (rows-from fuel ch s at) ≡ counts (rows-of ch s)
 
 pub count-start : (ch : ℕ) (s : List ℕ) → Counting ch s 0 0 0
-count-start ch s = record { fuel = length s; enough = omega arith; few = omega arith; same = tally-none (rowsOf ch s) }
+count-start ch s = record { fuel = length s; enough = omega arith; few = omega arith; same = tally-none (rows-of ch s) }
 
 module _ (ch : ℕ) (s : List ℕ) (at m k : ℕ) (i : Counting ch s at m k) where
-  pub count-over : length s ≤ at → Counts·Rows m k ≡ counts (rowsOf ch s)
+  pub count-over : length s ≤ at → Counts·Rows m k ≡ counts (rows-of ch s)
   count-over l =
-      let e : Counts·Rows (m + 0) (k + 0) ≡ counts (rowsOf ch s) = rw (rows-over (i .fuel) ch s at l) at (i .same) in
+      let e : Counts·Rows (m + 0) (k + 0) ≡ counts (rows-of ch s) = rw (rows-over (i .fuel) ch s at l) at (i .same) in
       simp add-zero at e
 
-  module _ (x : Row) (l : at < length s) (e : x ≡ rowAt s at ch) where
-    pub count-bad : x ≡ Bad → Counts·Bad ≡ counts (rowsOf ch s)
+  module _ (x : Row) (l : at < length s) (e : x ≡ row-at s at ch) where
+    pub count-bad : x ≡ Bad → Counts·Bad ≡ counts (rows-of ch s)
     count-bad h = rw (rows-turn (i .fuel) ch s at Bad (i .enough) l (sym h ∙ e)) at (i .same)
 
     pub count-measured : (t a n : ℕ) → x ≡ Measured t a n → (at < n) × Counting ch s n (m + 1) k
@@ -59,7 +59,7 @@ module _ (ch : ℕ) (s : List ℕ) (at m k : ℕ) (i : Counting ch s at m k) whe
             fuel = i .fuel - 1;
             enough = omega (arith, i .enough);
             few = omega (arith, i .few);
-            same = sym (tally-measured m k (sampleAt s ch t a) (rowsFrom (i .fuel - 1) ch s n))
+            same = sym (tally-measured m k (sample-at s ch t a) (rows-from (i .fuel - 1) ch s n))
                 ∙ (rw (rows-turn (i .fuel) ch s at (Measured t a n) (i .enough) l (sym h ∙ e)) at (i .same));
           },
         )
@@ -72,7 +72,7 @@ module _ (ch : ℕ) (s : List ℕ) (at m k : ℕ) (i : Counting ch s at m k) whe
             fuel = i .fuel - 1;
             enough = omega (arith, i .enough);
             few = omega (arith, i .few);
-            same = sym (tally-filled m k (rowsFrom (i .fuel - 1) ch s n))
+            same = sym (tally-filled m k (rows-from (i .fuel - 1) ch s n))
                 ∙ (rw (rows-turn (i .fuel) ch s at (Filled n) (i .enough) l (sym h ∙ e)) at (i .same));
           },
         )

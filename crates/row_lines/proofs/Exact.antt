@@ -14,7 +14,7 @@ use Rattle.text.proofs.Places.{Between}
 use Rattle.row_lines.specs.declared.Row.{Row}
 use Rattle.row_lines.specs.declared.Row.the-variants.{Measured, Filled, Bad}
 use Rattle.row_lines.specs.Form.{lines, Sample, Rows, none, measured, filled}
-use Rattle.row_lines.specs.Rows.{rowAt, afterRow, Listing, listed, broken, alsoMeasured, alsoFilled, sampleAt, rowsFrom, rowsOf}
+use Rattle.row_lines.specs.Rows.{row-at, after-row, Listing, listed, broken, also-measured, also-filled, sample-at, rows-from, rows-of}
 use Rattle.row_lines.specs.Same.{Alike, none as Alike·none, same, filled as Alike·filled, SameButFilled}
 use Rattle.row_lines.proofs.Fields.{test-case}
 use Rattle.row_lines.proofs.Written.{RowHere, row-here, row-taken}
@@ -38,29 +38,29 @@ past-of ch s at (Filled n) h = fed-past (h .3) (row-fed (h .4))
 past-of ch s at Bad h = tt
 
 -- the next line begins past this one's beginning
-pub row-past : (ch : ℕ) (s : List ℕ) (at : ℕ) (x : Row) → x ≡ rowAt s at ch → Past at x
-row-past ch s at x e = rw e (past-of ch s at (rowAt s at ch) (row-here ch s at))
+pub row-past : (ch : ℕ) (s : List ℕ) (at : ℕ) (x : Row) → x ≡ row-at s at ch → Past at x
+row-past ch s at x e = rw e (past-of ch s at (row-at s at ch) (row-here ch s at))
 
 -- ---- the rows from a place on, one by one
 
 module _ (f ch : ℕ) (s : List ℕ) (at : ℕ) where
-  pub rows-over : length s ≤ at → rowsFrom f ch s at ≡ listed [] 0
-  unfolding rowsFrom
+  pub rows-over : length s ≤ at → rows-from f ch s at ≡ listed [] 0
+  unfolding rows-from
   rows-over l = go f
     where
-      go : (k : ℕ) → rowsFrom k ch s at ≡ listed [] 0
+      go : (k : ℕ) → rows-from k ch s at ≡ listed [] 0
       go zero = rw (le-leb _ _ l)
       go (suc k) = rw (le-leb _ _ l)
 
-rows-suc : (f ch : ℕ) (s : List ℕ) (at : ℕ) (x : Row) → at < length s → x ≡ rowAt s at ch
-    → rowsFrom (suc f) ch s at ≡ afterRow x (λ t a n. alsoMeasured (sampleAt s ch t a) (rowsFrom f ch s n)) (λ n. alsoFilled (rowsFrom f ch s n)) broken
-unfolding rowsFrom
+rows-suc : (f ch : ℕ) (s : List ℕ) (at : ℕ) (x : Row) → at < length s → x ≡ row-at s at ch
+    → rows-from (suc f) ch s at ≡ after-row x (λ t a n. also-measured (sample-at s ch t a) (rows-from f ch s n)) (λ n. also-filled (rows-from f ch s n)) broken
+unfolding rows-from
 rows-suc f ch s at x l e = rw (lt-leb _ _ l, e)
 
 -- f lines are enough from a place on
-pub rows-turn : (f ch : ℕ) (s : List ℕ) (at : ℕ) (x : Row) → length s ≤ at + f → at < length s → x ≡ rowAt s at ch
-    → rowsFrom f ch s at ≡ afterRow x (λ t a n. alsoMeasured (sampleAt s ch t a) (rowsFrom (f - 1) ch s n)) (λ n. alsoFilled (rowsFrom (f - 1) ch s n)) broken
-rows-turn f ch s at x h l e = let g : f ≡ suc (f - 1) = omega arith in ap (λ (k : ℕ). rowsFrom k ch s at) g ∙ rows-suc (f - 1) ch s at x l e
+pub rows-turn : (f ch : ℕ) (s : List ℕ) (at : ℕ) (x : Row) → length s ≤ at + f → at < length s → x ≡ row-at s at ch
+    → rows-from f ch s at ≡ after-row x (λ t a n. also-measured (sample-at s ch t a) (rows-from (f - 1) ch s n)) (λ n. also-filled (rows-from (f - 1) ch s n)) broken
+rows-turn f ch s at x h l e = let g : f ≡ suc (f - 1) = omega arith in ap (λ (k : ℕ). rows-from k ch s at) g ∙ rows-suc (f - 1) ch s at x l e
 
 -- ---- sound: lines that are read as rows are rows
 
@@ -72,31 +72,31 @@ RowsHere ch s at broken = Unit
 fed-lines : {s l : List ℕ} {at n : ℕ} → Between s at n l → Fed l → lines (drop at s) ≡ l ∷ lines (drop n s)
 fed-lines {s} {l} {at} {n} b f = rw (b .bytes) (lines-fed (drop n s) f)
 
-measured-here : (ch : ℕ) (s : List ℕ) (at t a n : ℕ) (y : Listing) → RowHere ch s at (Measured t a n) → RowsHere ch s n y → RowsHere ch s at (alsoMeasured (sampleAt s ch t a) y)
+measured-here : (ch : ℕ) (s : List ℕ) (at t a n : ℕ) (y : Listing) → RowHere ch s at (Measured t a n) → RowsHere ch s n y → RowsHere ch s at (also-measured (sample-at s ch t a) y)
 measured-here ch s at t a n (listed xs k) h r = rw (fed-lines (h .1) (row-fed (h .2))) (measured (h .2) r)
 measured-here ch s at t a n broken h r = tt
 
-filled-here : (ch : ℕ) (s : List ℕ) (at n : ℕ) (y : Listing) → RowHere ch s at (Filled n) → RowsHere ch s n y → RowsHere ch s at (alsoFilled y)
+filled-here : (ch : ℕ) (s : List ℕ) (at n : ℕ) (y : Listing) → RowHere ch s at (Filled n) → RowsHere ch s n y → RowsHere ch s at (also-filled y)
 filled-here ch s at n (listed xs k) h r = rw (fed-lines (h .3) (row-fed (h .4))) (filled (h .4) r)
 filled-here ch s at n broken h r = tt
 
-turn-here : (f ch : ℕ) (s : List ℕ) (at : ℕ) (x : Row) → RowHere ch s at x → ((n : ℕ) → RowsHere ch s n (rowsFrom f ch s n))
-    → RowsHere ch s at (afterRow x (λ t a n. alsoMeasured (sampleAt s ch t a) (rowsFrom f ch s n)) (λ n. alsoFilled (rowsFrom f ch s n)) broken)
-turn-here f ch s at (Measured t a n) h more = measured-here ch s at t a n (rowsFrom f ch s n) h (more n)
-turn-here f ch s at (Filled n) h more = filled-here ch s at n (rowsFrom f ch s n) h (more n)
+turn-here : (f ch : ℕ) (s : List ℕ) (at : ℕ) (x : Row) → RowHere ch s at x → ((n : ℕ) → RowsHere ch s n (rows-from f ch s n))
+    → RowsHere ch s at (after-row x (λ t a n. also-measured (sample-at s ch t a) (rows-from f ch s n)) (λ n. also-filled (rows-from f ch s n)) broken)
+turn-here f ch s at (Measured t a n) h more = measured-here ch s at t a n (rows-from f ch s n) h (more n)
+turn-here f ch s at (Filled n) h more = filled-here ch s at n (rows-from f ch s n) h (more n)
 turn-here f ch s at Bad h more = tt
 
 end-here : (ch : ℕ) (s : List ℕ) (at : ℕ) → length s ≤ at → RowsHere ch s at (listed [] 0)
 unfolding lines
 end-here ch s at l = rw (drop-of-length-le s l) none
 
-rows-here : (f ch : ℕ) (s : List ℕ) (at : ℕ) → RowsHere ch s at (rowsFrom f ch s at)
-unfolding rowsFrom
+rows-here : (f ch : ℕ) (s : List ℕ) (at : ℕ) → RowsHere ch s at (rows-from f ch s at)
+unfolding rows-from
 rows-here zero ch s at = test-case (RowsHere ch s at) (leb (length s) at) _ _ (λ t. end-here ch s at (leb-true _ _ t)) (λ t. tt)
 rows-here (suc f) ch s at =
     test-case (RowsHere ch s at) (leb (length s) at) _ _
     (λ t. end-here ch s at (leb-true _ _ t))
-    (λ t. turn-here f ch s at (rowAt s at ch) (row-here ch s at) (λ n. rows-here f ch s n))
+    (λ t. turn-here f ch s at (row-at s at ch) (row-here ch s at) (λ n. rows-here f ch s n))
 
 -- ---- complete: lines that are rows are read as such
 
@@ -107,7 +107,7 @@ starts s at l r e f =
     omega arith
 
 rows-taken : {ch k : ℕ} {ls : List (List ℕ)} {xs : List Sample} → Rows ch ls xs k
-    → (f : ℕ) (s : List ℕ) (at : ℕ) → length s ≤ at + f → lines (drop at s) ≡ ls → rowsFrom f ch s at ≡ listed xs k
+    → (f : ℕ) (s : List ℕ) (at : ℕ) → length s ≤ at + f → lines (drop at s) ≡ ls → rows-from f ch s at ≡ listed xs k
 rows-taken {ch} none f s at h e =
     let g : 0 ≡ length s - at = sym (ap length (lines-none (drop at s) e)) ∙ length-drop at s in
     rows-over f ch s at (omega arith)
@@ -116,25 +116,25 @@ rows-taken {ch} (measured {l} {ls} {t} {vs} {samples = xs} {filled = k} row rest
     let a = row-taken true s at (p .0) row (p .1) in
     let n : ℕ = a .1 in
     let past : at < n = row-past ch s at (Measured t (a .0) n) (sym (a .2)) in
-    let more : rowsFrom (f - 1) ch s n ≡ listed xs k = rows-taken rest (f - 1) s n (omega arith) (ap lines (a .4) ∙ p .2) in
+    let more : rows-from (f - 1) ch s n ≡ listed xs k = rows-taken rest (f - 1) s n (omega arith) (ap lines (a .4) ∙ p .2) in
     rows-turn f ch s at (Measured t (a .0) n) h (starts s at l (p .0) (p .1) (row-fed row)) (sym (a .2)) ∙ (rw (more, a .3))
 rows-taken {ch} (filled {l} {ls} {t} {vs} {samples = xs} {filled = k} row rest) f s at h e =
     let p = lines-split (drop at s) l ls e in
     let a = row-taken false s at (p .0) row (p .1) in
     let n : ℕ = a .0 in
     let past : at < n = row-past ch s at (Filled n) (sym (a .1)) in
-    let more : rowsFrom (f - 1) ch s n ≡ listed xs k = rows-taken rest (f - 1) s n (omega arith) (ap lines (a .2) ∙ p .2) in
+    let more : rows-from (f - 1) ch s n ≡ listed xs k = rows-taken rest (f - 1) s n (omega arith) (ap lines (a .2) ∙ p .2) in
     rows-turn f ch s at (Filled n) h (starts s at l (p .0) (p .1) (row-fed row)) (sym (a .1)) ∙ rw more
 
 -- a text is read as rows exactly when its lines are rows
-pub rows-exact : (ch : ℕ) (s : List ℕ) (xs : List Sample) (k : ℕ) → (rowsOf ch s ≡ listed xs k) ↔ Rows ch (lines s) xs k
+pub rows-exact : (ch : ℕ) (s : List ℕ) (xs : List Sample) (k : ℕ) → (rows-of ch s ≡ listed xs k) ↔ Rows ch (lines s) xs k
 rows-exact ch s xs k = ((λ e. rw e at (rows-here (length s) ch s 0)), (λ h. rows-taken h (length s) s 0 (omega arith) refl))
 
 -- and is broken exactly when they are not, whichever samples and count are tried
-pub rows-broken : (ch : ℕ) (s : List ℕ) → (rowsOf ch s ≡ broken) ↔ ((xs : List Sample) (k : ℕ) → Rows ch (lines s) xs k → ⊥)
-rows-broken ch s = ((λ e xs k h. let f : broken ≡ listed xs k = sym e ∙ rows-exact ch s xs k .1 h in let z : _≡_ {A = ℕ} 0 1 = cc in omega arith), go (rowsOf ch s) refl)
+pub rows-broken : (ch : ℕ) (s : List ℕ) → (rows-of ch s ≡ broken) ↔ ((xs : List Sample) (k : ℕ) → Rows ch (lines s) xs k → ⊥)
+rows-broken ch s = ((λ e xs k h. let f : broken ≡ listed xs k = sym e ∙ rows-exact ch s xs k .1 h in let z : _≡_ {A = ℕ} 0 1 = cc in omega arith), go (rows-of ch s) refl)
   where
-    go : (x : Listing) → rowsOf ch s ≡ x → ((xs : List Sample) (k : ℕ) → Rows ch (lines s) xs k → ⊥) → rowsOf ch s ≡ broken
+    go : (x : Listing) → rows-of ch s ≡ x → ((xs : List Sample) (k : ℕ) → Rows ch (lines s) xs k → ⊥) → rows-of ch s ≡ broken
     go (listed xs k) e h = absurd (h xs k (rows-exact ch s xs k .0 e))
     go broken e h = e
 
@@ -153,13 +153,13 @@ alike-rows (Alike·filled f g a) (measured row rest) = absurd (one-source row f)
 alike-rows (Alike·filled f g a) (filled row rest) = filled (rw (one-width f row) at g) (alike-rows a rest)
 
 -- two texts that differ in filled rows alone have the same measured rows and the same count of filled ones, or are both broken
-pub rows-alike : (a b : List ℕ) → SameButFilled a b → (ch : ℕ) → rowsOf ch a ≡ rowsOf ch b
-rows-alike a b h ch = go (rowsOf ch a) (rowsOf ch b) refl refl
+pub rows-alike : (a b : List ℕ) → SameButFilled a b → (ch : ℕ) → rows-of ch a ≡ rows-of ch b
+rows-alike a b h ch = go (rows-of ch a) (rows-of ch b) refl refl
   where
-    lead : (a b : List ℕ) → SameButFilled a b → (xs : List Sample) (k : ℕ) → rowsOf ch a ≡ listed xs k → rowsOf ch b ≡ listed xs k
+    lead : (a b : List ℕ) → SameButFilled a b → (xs : List Sample) (k : ℕ) → rows-of ch a ≡ listed xs k → rows-of ch b ≡ listed xs k
     lead a b h xs k e = rows-exact ch b xs k .1 (alike-rows h (rows-exact ch a xs k .0 e))
 
-    go : (x y : Listing) → rowsOf ch a ≡ x → rowsOf ch b ≡ y → rowsOf ch a ≡ rowsOf ch b
+    go : (x y : Listing) → rows-of ch a ≡ x → rows-of ch b ≡ y → rows-of ch a ≡ rows-of ch b
     go (listed xs k) y e f = e ∙ sym (lead a b h xs k e)
     go broken (listed xs k) e f = lead b a (alike-sym h) xs k f ∙ sym f
     go broken broken e f = e ∙ sym f

@@ -10,8 +10,8 @@ use lib.IntN.{ℤ}
 use lib.Dec.{eqb}
 use borrow.Author.Tests.{ne-eqb, eqb-false}
 use Rattle.text.specs.Bytes.{bytes}
-use Rattle.text.specs.Mark.{prefixOf, markAt, afterMark}
-use Rattle.text.specs.Number.{isDigit, largestSigned, numberAt, fieldAt, signedAt, signedFieldAt, afterNumber, afterSigned}
+use Rattle.text.specs.Mark.{prefix-of, mark-at, after-mark}
+use Rattle.text.specs.Number.{is-digit, largest-signed, number-at, field-at, signed-at, signed-field-at, after-number, after-signed}
 use Rattle.text.specs.Numeral.{Numeral}
 use Rattle.text.specs.declared.Mark.{Mark}
 use Rattle.text.specs.declared.Mark.the-variants.{Next, Bad as Mark·Bad}
@@ -27,15 +27,15 @@ use Rattle.row_lines.specs.Form.{Signed, plain, minus}
 
 -- ---- what holds of an answer, by its cases
 module _ {A : Type 0} (P : A → Type 0) where
-  pub mark-case : (x : Mark) (f : ℕ → A) (a : A) → ((n : ℕ) → x ≡ Next n → P (f n)) → (x ≡ Mark·Bad → P a) → P (afterMark x f a)
+  pub mark-case : (x : Mark) (f : ℕ → A) (a : A) → ((n : ℕ) → x ≡ Next n → P (f n)) → (x ≡ Mark·Bad → P a) → P (after-mark x f a)
   mark-case (Next n) f a h k = h n refl
   mark-case Mark·Bad f a h k = k refl
 
-  pub number-case : (x : Field) (f : ℕ → ℕ → A) (a : A) → ((v n : ℕ) → x ≡ Number v n → P (f v n)) → (x ≡ Bad → P a) → P (afterNumber x f a)
+  pub number-case : (x : Field) (f : ℕ → ℕ → A) (a : A) → ((v n : ℕ) → x ≡ Number v n → P (f v n)) → (x ≡ Bad → P a) → P (after-number x f a)
   number-case (Number v n) f a h k = h v n refl
   number-case Bad f a h k = k refl
 
-  pub signed-case : (x : SignedField) (f : ℤ → ℕ → A) (a : A) → ((v : ℤ) (n : ℕ) → x ≡ Signed·Number v n → P (f v n)) → (x ≡ Signed·Bad → P a) → P (afterSigned x f a)
+  pub signed-case : (x : SignedField) (f : ℤ → ℕ → A) (a : A) → ((v : ℤ) (n : ℕ) → x ≡ Signed·Number v n → P (f v n)) → (x ≡ Signed·Bad → P a) → P (after-signed x f a)
   signed-case (Signed·Number v n) f a h k = h v n refl
   signed-case Signed·Bad f a h k = k refl
 
@@ -48,77 +48,77 @@ abbrev SignedHere : List ℕ → ℕ → SignedField → Type 0
 SignedHere s at (Signed·Number v n) = (w : List ℕ) × Between s at n w × Signed w v
 SignedHere s at Signed·Bad = Unit
 
-signed-here : (s : List ℕ) (at : ℕ) → SignedHere s at (signedAt s at)
-unfolding signedAt
+signed-here : (s : List ℕ) (at : ℕ) → SignedHere s at (signed-at s at)
+unfolding signed-at
 signed-here s at =
-    mark-case (SignedHere s at) (markAt (bytes "-") s at) _ _
-    (λ d e. number-case (SignedHere s at) (numberAt s d largestSigned) _ _
+    mark-case (SignedHere s at) (mark-at (bytes "-") s at) _ _
+    (λ d e. number-case (SignedHere s at) (number-at s d largest-signed) _ _
     (λ v n f. test-case (SignedHere s at) (eqb v 0) _ _ (λ z. tt)
-    (λ z. let a = number-is s d largestSigned v n f in
+    (λ z. let a = number-is s d largest-signed v n f in
     (bytes "-" ++ a .written, between-both (mark-is (bytes "-") s at d e) (a .between), minus (a .numeral) (above v (eqb-false v 0 z)) (a .bound))))
     (λ f. tt))
-    (λ e. number-case (SignedHere s at) (numberAt s at largestSigned) _ _
-    (λ v n f. let a = number-is s at largestSigned v n f in (a .written, a .between, plain (a .numeral) (a .bound)))
+    (λ e. number-case (SignedHere s at) (number-at s at largest-signed) _ _
+    (λ v n f. let a = number-is s at largest-signed v n f in (a .written, a .between, plain (a .numeral) (a .bound)))
     (λ f. tt))
   where
     above : (v : ℕ) → (v ≡ 0 → ⊥) → 0 < v
     above v g = omega arith
 
-pub signed-bytes : (s : List ℕ) (at : ℕ) (v : ℤ) (n : ℕ) → signedAt s at ≡ Signed·Number v n → (w : List ℕ) × Between s at n w × Signed w v
+pub signed-bytes : (s : List ℕ) (at : ℕ) (v : ℤ) (n : ℕ) → signed-at s at ≡ Signed·Number v n → (w : List ℕ) × Between s at n w × Signed w v
 signed-bytes s at v n h = rw h at (signed-here s at)
 
-pub signed-field-bytes : (key s : List ℕ) (at : ℕ) (v : ℤ) (n : ℕ) → signedFieldAt key s at ≡ Signed·Number v n
+pub signed-field-bytes : (key s : List ℕ) (at : ℕ) (v : ℤ) (n : ℕ) → signed-field-at key s at ≡ Signed·Number v n
     → (w : List ℕ) × Between s at n (key ++ w) × Signed w v
-unfolding signedFieldAt
-signed-field-bytes key s at v n h = go (markAt key s at) refl h
+unfolding signed-field-at
+signed-field-bytes key s at v n h = go (mark-at key s at) refl h
   where
-    go : (m : Mark) → markAt key s at ≡ m → afterMark m (λ k. signedAt s k) Signed·Bad ≡ Signed·Number v n → (w : List ℕ) × Between s at n (key ++ w) × Signed w v
+    go : (m : Mark) → mark-at key s at ≡ m → after-mark m (λ k. signed-at s k) Signed·Bad ≡ Signed·Number v n → (w : List ℕ) × Between s at n (key ++ w) × Signed w v
     go (Next m) e g = let b = signed-bytes s m v n g in (b .0, between-both (mark-is key s at m e) (b .1), b .2)
     go Mark·Bad e g = let z : _≡_ {A = ℕ} 0 1 = cc in absurd (omega arith)
 
 -- ---- what stands at a place is read, and the rest follows it
 module _ (s : List ℕ) (at : ℕ) (r : List ℕ) where
-  pub mark-taken : (key : List ℕ) → 0 < length key → drop at s ≡ key ++ r → (n : ℕ) × (markAt key s at ≡ Next n) × (drop n s ≡ r)
+  pub mark-taken : (key : List ℕ) → 0 < length key → drop at s ≡ key ++ r → (n : ℕ) × (mark-at key s at ≡ Next n) × (drop n s ≡ r)
   mark-taken key p e = (at + length key, mark-made key s r at p e, after-bytes s at key r e)
 
-  module _ (stop : isDigit (getD r 0 0) ≡ false) where
+  module _ (stop : is-digit (getD r 0 0) ≡ false) where
     pub number-taken : (max : ℕ) {v : ℕ} {w : List ℕ} → drop at s ≡ w ++ r → Numeral w v → v ≤ max → max < 10 ^ 10
-        → (n : ℕ) × (numberAt s at max ≡ Number v n) × (drop n s ≡ r)
+        → (n : ℕ) × (number-at s at max ≡ Number v n) × (drop n s ≡ r)
     number-taken max {v} {w} e m l b = (at + length w, number-made s at max v w r e m l b stop, after-bytes s at w r e)
 
-pub field-taken : (s : List ℕ) (at : ℕ) (r : List ℕ) → isDigit (getD r 0 0) ≡ false → (key : List ℕ) → 0 < length key
+pub field-taken : (s : List ℕ) (at : ℕ) (r : List ℕ) → is-digit (getD r 0 0) ≡ false → (key : List ℕ) → 0 < length key
     → (max : ℕ) {v : ℕ} {w : List ℕ} → drop at s ≡ key ++ (w ++ r) → Numeral w v → v ≤ max → max < 10 ^ 10
-    → (n : ℕ) × (fieldAt key s at max ≡ Number v n) × (drop n s ≡ r)
-unfolding fieldAt
+    → (n : ℕ) × (field-at key s at max ≡ Number v n) × (drop n s ≡ r)
+unfolding field-at
 field-taken s at r stop key p max {v} {w} e m l b =
     let k = mark-taken s at (w ++ r) key p e in
     let n = number-taken s (k .0) r stop max (k .2) m l b in
     (n .0, rw (k .1) (n .1), n .2)
 
 -- a numeral does not begin with `-`
-unsigned : {w : List ℕ} {v : ℕ} (r : List ℕ) → Numeral w v → prefixOf (bytes "-") (w ++ r) ≡ false
-unfolding prefixOf
+unsigned : {w : List ℕ} {v : ℕ} (r : List ℕ) → Numeral w v → prefix-of (bytes "-") (w ++ r) ≡ false
+unfolding prefix-of
 unsigned {w} r m = go w (numeral-begins m)
   where
-    go : (w : List ℕ) → (0 < length w) × (isDigit (getD w 0 0) ≡ true) → prefixOf (bytes "-") (w ++ r) ≡ false
+    go : (w : List ℕ) → (0 < length w) × (is-digit (getD w 0 0) ≡ true) → prefix-of (bytes "-") (w ++ r) ≡ false
     go [] h = absurd (omega (arith, h .0))
     go (b ∷ w) h = let d = digit-range b (h .1) in rw (ne-eqb b 45 (λ (e : b ≡ 45). omega arith))
 
-pub signed-taken : (s : List ℕ) (at : ℕ) (r : List ℕ) → isDigit (getD r 0 0) ≡ false → {w : List ℕ} {v : ℤ} → drop at s ≡ w ++ r → Signed w v
-    → (n : ℕ) × (signedAt s at ≡ Signed·Number v n) × (drop n s ≡ r)
-unfolding signedAt
+pub signed-taken : (s : List ℕ) (at : ℕ) (r : List ℕ) → is-digit (getD r 0 0) ≡ false → {w : List ℕ} {v : ℤ} → drop at s ≡ w ++ r → Signed w v
+    → (n : ℕ) × (signed-at s at ≡ Signed·Number v n) × (drop n s ≡ r)
+unfolding signed-at
 signed-taken s at r stop e (plain {w} {v} m l) =
-    let n = number-taken s at r stop largestSigned e m l (omega arith) in
+    let n = number-taken s at r stop largest-signed e m l (omega arith) in
     (n .0, rw (mark-missing (bytes "-") s at e (unsigned r m), n .1), n .2)
 signed-taken s at r stop e (minus {w} {v} m p l) =
     let k = mark-taken s at (w ++ r) (bytes "-") (omega arith) e in
-    let n = number-taken s (k .0) r stop largestSigned (k .2) m l (omega arith) in
+    let n = number-taken s (k .0) r stop largest-signed (k .2) m l (omega arith) in
     (n .0, rw (k .1, n .1, ne-eqb v 0 (λ (z : v ≡ 0). omega arith)), n .2)
 
-pub signed-field-taken : (s : List ℕ) (at : ℕ) (r : List ℕ) → isDigit (getD r 0 0) ≡ false → (key : List ℕ) → 0 < length key
+pub signed-field-taken : (s : List ℕ) (at : ℕ) (r : List ℕ) → is-digit (getD r 0 0) ≡ false → (key : List ℕ) → 0 < length key
     → {w : List ℕ} {v : ℤ} → drop at s ≡ key ++ (w ++ r) → Signed w v
-    → (n : ℕ) × (signedFieldAt key s at ≡ Signed·Number v n) × (drop n s ≡ r)
-unfolding signedFieldAt
+    → (n : ℕ) × (signed-field-at key s at ≡ Signed·Number v n) × (drop n s ≡ r)
+unfolding signed-field-at
 signed-field-taken s at r stop key p {w} {v} e m =
     let k = mark-taken s at (w ++ r) key p e in
     let n = signed-taken s (k .0) r stop (k .2) m in

@@ -11,7 +11,7 @@ use lib.IntN.{ℤ}
 use lib.Dec.{eqb}
 use borrow.Author.Tests.{ne-eqb}
 use Rattle.text.specs.Bytes.{bytes}
-use Rattle.text.specs.Number.{isDigit}
+use Rattle.text.specs.Number.{is-digit}
 use Rattle.text.specs.Numeral.{Numeral, digit, longer}
 use Rattle.text.proofs.Tests.{by-test, false-true}
 use Rattle.text.proofs.Numerals.{numeral-begins}
@@ -28,7 +28,7 @@ count-append b [] w = sym (zero-add (count b w))
 count-append b (x ∷ v) w = let h : count b (v ++ w) ≡ count b v + count b w = count-append b v w in omega arith
 
 -- ---- the bytes of a row that are no digit and no `-`
-module _ (b : ℕ) (no-digit : isDigit b ≡ false) where
+module _ (b : ℕ) (no-digit : is-digit b ≡ false) where
   other : (d : ℕ) → d ≤ 9 → eqb (48 + d) b ≡ false
   other d h = ne-eqb (48 + d) b (λ e. false-true (sym no-digit ∙ (rw e at (numeral-begins (digit {d = d} h) .1))))
 

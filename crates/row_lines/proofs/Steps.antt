@@ -6,27 +6,27 @@ use Prim.Native.Nat.{ℕ, suc, _+_, _-_, _≤_, _<_}
 use native.Mathlib.Omega.{arith}
 use lib.IntN.{ℤ}
 use Rattle.text.specs.declared.signed.Field.the-variants.{Number as Signed·Number, Bad as Signed·Bad}
-use Rattle.row_lines.specs.Rows.{valueAt, Values, read, missing, also, valuesFrom, endOf}
+use Rattle.row_lines.specs.Rows.{value-at, Values, read, missing, also, values-from, end-of}
 
 module _ (k c : ℕ) (s : List ℕ) (at : ℕ) where
-  pub values-over : k ≤ c → valuesFrom (k - c) c s at ≡ read [] at
-  unfolding valuesFrom
+  pub values-over : k ≤ c → values-from (k - c) c s at ≡ read [] at
+  unfolding values-from
   values-over l = let e : k - c ≡ 0 = omega arith in rw e
 
-  pub values-none : c < k → valueAt s at c ≡ Signed·Bad → valuesFrom (k - c) c s at ≡ missing
-  unfolding valuesFrom
+  pub values-none : c < k → value-at s at c ≡ Signed·Bad → values-from (k - c) c s at ≡ missing
+  unfolding values-from
   values-none l h = let e : k - c ≡ suc (k - (c + 1)) = omega arith in rw (e, h)
 
-  pub values-next : (v : ℤ) (n : ℕ) → c < k → valueAt s at c ≡ Signed·Number v n
-      → valuesFrom (k - c) c s at ≡ also v (valuesFrom (k - (c + 1)) (c + 1) s n)
-  unfolding valuesFrom
+  pub values-next : (v : ℤ) (n : ℕ) → c < k → value-at s at c ≡ Signed·Number v n
+      → values-from (k - c) c s at ≡ also v (values-from (k - (c + 1)) (c + 1) s n)
+  unfolding values-from
   values-next v n l h = let e : k - c ≡ suc (k - (c + 1)) = omega arith in rw (e, h)
 
-end-also : (v : ℤ) (x : Values) → endOf (also v x) ≡ endOf x
+end-also : (v : ℤ) (x : Values) → end-of (also v x) ≡ end-of x
 end-also v (read vs n) = refl
 end-also v missing = refl
 
 -- the values that are left end where all of them do
-pub ends-next : (k c : ℕ) (s : List ℕ) (at : ℕ) (v : ℤ) (n : ℕ) → c < k → valueAt s at c ≡ Signed·Number v n
-    → endOf (valuesFrom (k - (c + 1)) (c + 1) s n) ≡ endOf (valuesFrom (k - c) c s at)
-ends-next k c s at v n l h = sym (ap endOf (values-next k c s at v n l h) ∙ end-also v (valuesFrom (k - (c + 1)) (c + 1) s n))
+pub ends-next : (k c : ℕ) (s : List ℕ) (at : ℕ) (v : ℤ) (n : ℕ) → c < k → value-at s at c ≡ Signed·Number v n
+    → end-of (values-from (k - (c + 1)) (c + 1) s n) ≡ end-of (values-from (k - c) c s at)
+ends-next k c s at v n l h = sym (ap end-of (values-next k c s at v n l h) ∙ end-also v (values-from (k - (c + 1)) (c + 1) s n))

@@ -8,7 +8,7 @@ use lib.ListN.{length}
 use lib.IntN.{ℤ, pos, negℤ}
 use lib.Dec.{eqb}
 use Rattle.text.specs.Bytes.{bytes}
-use Rattle.text.specs.Number.{largest, largestSigned}
+use Rattle.text.specs.Number.{largest, largest-signed}
 use Rattle.text.specs.Numeral.{Numeral}
 
 -- a text cut after each line feed; what follows the last one is a line too, which no form has
@@ -28,8 +28,8 @@ size (l ∷ ls) = length l + size ls
 
 -- the bytes of a signed number: `-` before it or not, and no `-0`
 pub data Signed : List ℕ → ℤ → Type 0 where
-  plain : {w : List ℕ} {v : ℕ} → Numeral w v → v ≤ largestSigned → Signed w (pos v)
-  minus : {w : List ℕ} {v : ℕ} → Numeral w v → 0 < v → v ≤ largestSigned → Signed (bytes "-" ++ w) (negℤ (pos v))
+  plain : {w : List ℕ} {v : ℕ} → Numeral w v → v ≤ largest-signed → Signed w (pos v)
+  minus : {w : List ℕ} {v : ℕ} → Numeral w v → 0 < v → v ≤ largest-signed → Signed (bytes "-" ++ w) (negℤ (pos v))
 
 -- the fields ` v0=`, ` v1=` and so on: of k channels, from channel c on, whose number is written as any other
 pub data Values : ℕ → ℕ → List ℕ → List ℤ → Type 0 where

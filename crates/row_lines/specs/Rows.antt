@@ -7,8 +7,8 @@ use lib.ListN.{length}
 use lib.IntN.{ℤ}
 use lib.Dec.{leb, eqb}
 use Rattle.text.specs.Bytes.{bytes}
-use Rattle.text.specs.Mark.{markAt, afterMark}
-use Rattle.text.specs.Number.{largest, fieldAt, signedFieldAt, afterNumber, afterSigned}
+use Rattle.text.specs.Mark.{mark-at, after-mark}
+use Rattle.text.specs.Number.{largest, field-at, signed-field-at, after-number, after-signed}
 use Rattle.text.specs.declared.Mark.{Mark}
 use Rattle.text.specs.declared.Mark.the-variants.{Next, Bad as Mark·Bad}
 use Rattle.text.specs.declared.signed.Field.{Field as Signed}
@@ -24,13 +24,13 @@ abbrev pub limit : ℕ
 limit = 65_536
 
 -- 1 to 8 channels
-abbrev pub channelsInRange : ℕ → Bool
-channelsInRange channels = leb 1 channels && leb channels 8
+abbrev pub channels-in-range : ℕ → Bool
+channels-in-range channels = leb 1 channels && leb channels 8
 
 -- the value of channel c at a place
-unfoldable pub valueAt : List ℕ → ℕ → ℕ → Signed
-valueAt s at c =
-    afterNumber (fieldAt (bytes " v") s at largest) (λ k n. cond (eqb k c) (signedFieldAt (bytes "=") s n) Signed·Bad) Signed·Bad
+unfoldable pub value-at : List ℕ → ℕ → ℕ → Signed
+value-at s at c =
+    after-number (field-at (bytes " v") s at largest) (λ k n. cond (eqb k c) (signed-field-at (bytes "=") s n) Signed·Bad) Signed·Bad
 
 -- values and the place after them
 pub data Values : Type 0 where
@@ -42,72 +42,72 @@ also v (read vs n) = read (v ∷ vs) n
 also v missing = missing
 
 -- the values of k channels from channel c on
-unfoldable pub valuesFrom : ℕ → ℕ → List ℕ → ℕ → Values
-valuesFrom zero c s at = read [] at
-valuesFrom (suc k) c s at = afterSigned (valueAt s at c) (λ v n. also v (valuesFrom k (c + 1) s n)) missing
+unfoldable pub values-from : ℕ → ℕ → List ℕ → ℕ → Values
+values-from zero c s at = read [] at
+values-from (suc k) c s at = after-signed (value-at s at c) (λ v n. also v (values-from k (c + 1) s n)) missing
 
-abbrev pub endOf : Values → Mark
-endOf (read vs n) = Next n
-endOf missing = Mark·Bad
+abbrev pub end-of : Values → Mark
+end-of (read vs n) = Next n
+end-of missing = Mark·Bad
 
-abbrev pub allOf : Values → List ℤ
-allOf (read vs n) = vs
-allOf missing = []
+abbrev pub all-of : Values → List ℤ
+all-of (read vs n) = vs
+all-of missing = []
 
 -- the place after a row's values and its line feed
-unfoldable pub restAt : List ℕ → ℕ → ℕ → Mark
-restAt s at channels = afterMark (endOf (valuesFrom channels 0 s at)) (λ n. markAt (bytes "\n") s n) Mark·Bad
+unfoldable pub rest-at : List ℕ → ℕ → ℕ → Mark
+rest-at s at channels = after-mark (end-of (values-from channels 0 s at)) (λ n. mark-at (bytes "\n") s n) Mark·Bad
 
 -- what follows ` src=` in the line of a row of time t
-abbrev pub afterSource : List ℕ → ℕ → ℕ → ℕ → Row
-afterSource s channels t b =
-    afterMark (markAt (bytes "m") s b)
-    (λ a. afterMark (restAt s a channels) (λ n. Measured t a n) Bad)
-    (afterMark (markAt (bytes "f") s b) (λ a. afterMark (restAt s a channels) (λ n. Filled n) Bad) Bad)
+abbrev pub after-source : List ℕ → ℕ → ℕ → ℕ → Row
+after-source s channels t b =
+    after-mark (mark-at (bytes "m") s b)
+    (λ a. after-mark (rest-at s a channels) (λ n. Measured t a n) Bad)
+    (after-mark (mark-at (bytes "f") s b) (λ a. after-mark (rest-at s a channels) (λ n. Filled n) Bad) Bad)
 
 -- the row whose line begins at a place
-unfoldable pub rowAt : List ℕ → ℕ → ℕ → Row
-rowAt s at channels =
-    afterNumber (fieldAt (bytes "t=") s at largest)
-    (λ t e. afterMark (markAt (bytes " src=") s e) (λ b. afterSource s channels t b) Bad)
+unfoldable pub row-at : List ℕ → ℕ → ℕ → Row
+row-at s at channels =
+    after-number (field-at (bytes "t=") s at largest)
+    (λ t e. after-mark (mark-at (bytes " src=") s e) (λ b. after-source s channels t b) Bad)
     Bad
 
-abbrev pub afterRow : {A : Type 0} → Row → (ℕ → ℕ → ℕ → A) → (ℕ → A) → A → A
-afterRow (Measured t a n) f g x = f t a n
-afterRow (Filled n) f g x = g n
-afterRow Bad f g x = x
+abbrev pub after-row : {A : Type 0} → Row → (ℕ → ℕ → ℕ → A) → (ℕ → A) → A → A
+after-row (Measured t a n) f g x = f t a n
+after-row (Filled n) f g x = g n
+after-row Bad f g x = x
 
 -- the measured rows of a text and the count of its filled ones, or broken where a line has not the form
 pub data Listing : Type 0 where
   listed : List Sample → ℕ → Listing
   broken : Listing
 
-abbrev pub isBroken : Listing → Bool
-isBroken (listed xs k) = false
-isBroken broken = true
+abbrev pub is-broken : Listing → Bool
+is-broken (listed xs k) = false
+is-broken broken = true
 
-abbrev pub alsoMeasured : Sample → Listing → Listing
-alsoMeasured x (listed xs k) = listed (x ∷ xs) k
-alsoMeasured x broken = broken
+abbrev pub also-measured : Sample → Listing → Listing
+also-measured x (listed xs k) = listed (x ∷ xs) k
+also-measured x broken = broken
 
-abbrev pub alsoFilled : Listing → Listing
-alsoFilled (listed xs k) = listed xs (suc k)
-alsoFilled broken = broken
+abbrev pub also-filled : Listing → Listing
+also-filled (listed xs k) = listed xs (suc k)
+also-filled broken = broken
 
 -- a measured row whose values begin at a place
-abbrev pub sampleAt : List ℕ → ℕ → ℕ → ℕ → Sample
-sampleAt s channels t a = record { time = t; values = allOf (valuesFrom channels 0 s a) }
+abbrev pub sample-at : List ℕ → ℕ → ℕ → ℕ → Sample
+sample-at s channels t a = record { time = t; values = all-of (values-from channels 0 s a) }
 
 -- the rows from a place to the end of the text, which f lines reach
-unfoldable pub rowsFrom : ℕ → ℕ → List ℕ → ℕ → Listing
-rowsFrom zero channels s at = cond (leb (length s) at) (listed [] 0) broken
-rowsFrom (suc f) channels s at =
+unfoldable pub rows-from : ℕ → ℕ → List ℕ → ℕ → Listing
+rows-from zero channels s at = cond (leb (length s) at) (listed [] 0) broken
+rows-from (suc f) channels s at =
     cond (leb (length s) at) (listed [] 0)
-    (afterRow (rowAt s at channels) (λ t a n. alsoMeasured (sampleAt s channels t a) (rowsFrom f channels s n)) (λ n. alsoFilled (rowsFrom f channels s n)) broken)
+    (after-row (row-at s at channels) (λ t a n. also-measured (sample-at s channels t a) (rows-from f channels s n)) (λ n. also-filled (rows-from f channels s n)) broken)
 
 -- a line has a byte at least
-abbrev pub rowsOf : ℕ → List ℕ → Listing
-rowsOf channels s = rowsFrom (length s) channels s 0
+abbrev pub rows-of : ℕ → List ℕ → Listing
+rows-of channels s = rows-from (length s) channels s 0
 
 abbrev pub counts : Listing → Counts
 counts (listed xs k) = Counts·Rows (length xs) k

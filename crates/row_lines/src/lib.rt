@@ -3,7 +3,7 @@ use text::Field;
 use text::Mark;
 use text::signed;
 ghost use mathlib.Core.Path.{_≡_};
-ghost use Rattle.row_lines.specs.Rows.{channelsInRange, valueAt, valuesFrom, endOf, restAt, rowAt, rowsOf, counts};
+ghost use Rattle.row_lines.specs.Rows.{channels-in-range, value-at, values-from, end-of, rest-at, row-at, rows-of, counts};
 
 // The longest text that is read.
 pub const LIMIT: usize = 65_536;
@@ -23,14 +23,14 @@ pub enum Counts {
 
 // Whether a sheet's channel count is one that a recording can have. Rows are read only then.
 pub fn channels_in_range(channels: usize) -> bool
-    ensures { λ r. ⌜ r ≡ channelsInRange channels ⌝ }
+    ensures { λ r. ⌜ r ≡ channels-in-range channels ⌝ }
 {
     if channels < 1 { false } else { channels <= 8 }
 }
 
 // The value of a channel: ` v`, the channel's number, `=` and a signed number.
 pub fn read_value(s: &[u8], at: usize, channel: usize) -> signed::Field
-    ensures { λ r. ⌜ r ≡ valueAt (now (s .entry)) at channel ⌝ }
+    ensures { λ r. ⌜ r ≡ value-at (now (s .entry)) at channel ⌝ }
 {
     let Field::Number(number, next) = text::read_field(s, at, b" v", text::LARGEST) else {
         return signed::Field::Bad;
@@ -43,7 +43,7 @@ pub fn read_value(s: &[u8], at: usize, channel: usize) -> signed::Field
 
 // The place after the values of all channels.
 fn read_values(s: &[u8], at: usize, channels: usize) -> Mark
-    ensures { λ r. ⌜ r ≡ endOf (valuesFrom channels 0 (now (s .entry)) at) ⌝ }
+    ensures { λ r. ⌜ r ≡ end-of (values-from channels 0 (now (s .entry)) at) ⌝ }
 {
     let mut next = at;
     let mut channel: usize = 0;
@@ -59,7 +59,7 @@ fn read_values(s: &[u8], at: usize, channels: usize) -> Mark
 
 // The place after a row's values and its line feed.
 fn read_rest(s: &[u8], at: usize, channels: usize) -> Mark
-    ensures { λ r. ⌜ r ≡ restAt (now (s .entry)) at channels ⌝ }
+    ensures { λ r. ⌜ r ≡ rest-at (now (s .entry)) at channels ⌝ }
 {
     let Mark::Next(end) = read_values(s, at, channels) else {
         return Mark::Bad;
@@ -69,7 +69,7 @@ fn read_rest(s: &[u8], at: usize, channels: usize) -> Mark
 
 // The row whose line begins at a place.
 pub fn read_row(s: &[u8], at: usize, channels: usize) -> Row
-    ensures { λ r. ⌜ r ≡ rowAt (now (s .entry)) at channels ⌝ }
+    ensures { λ r. ⌜ r ≡ row-at (now (s .entry)) at channels ⌝ }
 {
     let Field::Number(time, end) = text::read_field(s, at, b"t=", text::LARGEST) else {
         return Row::Bad;
@@ -94,7 +94,7 @@ pub fn read_row(s: &[u8], at: usize, channels: usize) -> Row
 
 // The counts of the rows of a text, all of which is read.
 pub fn count_rows(s: &[u8], channels: usize) -> Counts
-    ensures { λ r. ⌜ r ≡ counts (rowsOf channels (now (s .entry))) ⌝ }
+    ensures { λ r. ⌜ r ≡ counts (rows-of channels (now (s .entry))) ⌝ }
 {
     let mut at: usize = 0;
     let mut rows: usize = 0;

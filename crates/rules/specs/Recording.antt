@@ -7,7 +7,7 @@ use Prim.Native.Nat.{ℕ, suc, _-_, _*_, _≤_, _<_}
 use lib.Dec.{leb, ltb, eqb}
 use lib.ListN.{length, getD}
 use lib.IntN.{ℤ, pos}
-use Rattle.lists.specs.Fold.{allBelow}
+use Rattle.lists.specs.Fold.{all-below}
 use Rattle.recordings.specs.Card.{Card, rows, time}
 use Rattle.recordings.specs.Accepted.{InRange}
 use Rattle.predicates.specs.Predicates.{value-obeys}
@@ -23,10 +23,10 @@ pub record Lengths (c : Card) : Type 0 where
 
 -- ---- 6: times not rising, or one too large
 unfoldable pub all-rising : List ℕ → ℕ → Bool
-all-rising ts n = allBelow (λ i. ltb (getD ts i 0) (getD ts (suc i) 0)) n
+all-rising ts n = all-below (λ i. ltb (getD ts i 0) (getD ts (suc i) 0)) n
 
 unfoldable pub all-early : List ℕ → ℕ → Bool
-all-early ts n = allBelow (λ i. leb (getD ts i 0) 2_000_000_000) n
+all-early ts n = all-below (λ i. leb (getD ts i 0) 2_000_000_000) n
 
 unfoldable pub times-obey : List ℕ → Bool
 times-obey ts = all-rising ts (length ts - 1) && all-early ts (length ts)
@@ -37,7 +37,7 @@ pub record Times (c : Card) : Type 0 where
 
 -- ---- 7: a value out of range
 unfoldable pub all-in-range : List ℤ → ℕ → Bool
-all-in-range vs n = allBelow (λ m. value-obeys (getD vs m (pos 0))) n
+all-in-range vs n = all-below (λ m. value-obeys (getD vs m (pos 0))) n
 
 unfoldable pub values-obey : List ℤ → Bool
 values-obey vs = all-in-range vs (length vs)

@@ -6,7 +6,7 @@ use Prim.Native.Nat.{ℕ, suc, _+_, _-_, _*_, _≤_, _<_}
 use lib.Dec.{leb}
 use lib.ListN.{length, getD}
 use lib.IntN.{ℤ, pos, _-ℤ_, natAbs}
-use Rattle.lists.specs.Fold.{allBelow}
+use Rattle.lists.specs.Fold.{all-below}
 use Rattle.recordings.specs.Card.{Card, rows, time, value}
 use Rattle.recordings.specs.Accepted.{InRange}
 use Rattle.rules.specs.First.{Check}
@@ -23,7 +23,7 @@ pub record Step (step drift : ℕ) : Type 0 where
 
 -- ---- 10: two neighbouring times differ by more than the step
 unfoldable pub all-close : ℕ → List ℕ → ℕ → Bool
-all-close step ts n = allBelow (λ i. leb (getD ts (suc i) 0 - getD ts i 0) step) n
+all-close step ts n = all-below (λ i. leb (getD ts (suc i) 0 - getD ts i 0) step) n
 
 unfoldable pub times-close : ℕ → List ℕ → Bool
 times-close step ts = all-close step ts (length ts - 1)
@@ -37,7 +37,7 @@ near drift a b = leb (natAbs (b -ℤ a)) (2 * drift)
 
 -- the channel's next value stands `channels` places on
 unfoldable pub all-near : ℕ → ℕ → List ℤ → ℕ → Bool
-all-near drift channels vs n = allBelow (λ m. near drift (getD vs m (pos 0)) (getD vs (m + channels) (pos 0))) n
+all-near drift channels vs n = all-below (λ m. near drift (getD vs m (pos 0)) (getD vs (m + channels) (pos 0))) n
 
 unfoldable pub values-near : ℕ → ℕ → List ℤ → Bool
 values-near drift channels vs = all-near drift channels vs (length vs - channels)

@@ -2,11 +2,11 @@
 -- Assumes nothing.
 use mathlib.Core.Path.{_≡_, refl}
 use mathlib.Core.List.{map}
-use Rattle.text.specs.Mark.{prefixOf, markAt}
-use Rattle.text.specs.Number.{digits, value, numberAt, fieldAt, signedAt, signedFieldAt}
-use Rattle.row_lines.specs.Rows.{valueAt, valuesFrom, restAt, rowAt, rowsFrom}
+use Rattle.text.specs.Mark.{prefix-of, mark-at}
+use Rattle.text.specs.Number.{digits, value, number-at, field-at, signed-at, signed-field-at}
+use Rattle.row_lines.specs.Rows.{value-at, values-from, rest-at, row-at, rows-from}
 use Rattle.sheet_rows.specs.Examples.{asked, questions, answers}
 
 pub answers-given : map asked questions ≡ answers
-unfolding prefixOf markAt digits value numberAt fieldAt signedAt signedFieldAt valueAt valuesFrom restAt rowAt rowsFrom
+unfolding prefix-of mark-at digits value number-at field-at signed-at signed-field-at value-at values-from rest-at row-at rows-from
 answers-given = refl

@@ -13,15 +13,15 @@ use Rattle.text.specs.declared.signed.Field.the-variants.{Number as Signed·Num
 use Rattle.row_lines.specs.declared.Row.{Row}
 use Rattle.row_lines.specs.declared.Row.the-variants.{Measured, Filled, Bad}
 use Rattle.row_lines.specs.Form.{Sample, Rows, none, measured, filled}
-use Rattle.row_lines.specs.Rows.{valueAt, Values, read, missing, also, valuesFrom, allOf, rowAt, Listing, listed, broken, alsoMeasured, alsoFilled, sampleAt, rowsFrom, rowsOf}
+use Rattle.row_lines.specs.Rows.{value-at, Values, read, missing, also, values-from, all-of, row-at, Listing, listed, broken, also-measured, also-filled, sample-at, rows-from, rows-of}
 use Rattle.row_lines.proofs.Steps.{values-over, values-none, values-next}
 use Rattle.row_lines.proofs.Written.{RowHere, row-here, values-length}
 use Rattle.row_lines.proofs.Exact.{row-past, rows-over, rows-turn, rows-exact}
-use Rattle.sheet_rows.specs.Answer.{timesIn, valuesIn, timesOf, valuesOf, inFront}
+use Rattle.sheet_rows.specs.Answer.{times-in, values-in, times-of, values-of, in-front}
 use Rattle.sheet_rows.specs.Room.{Storable, Fitting}
 
 -- what is stored from the front on stands before what is kept
-front : {A : Type 0} (vs l : List A) → length vs ≤ length l → sets l 0 vs ≡ inFront vs l
+front : {A : Type 0} (vs l : List A) → length vs ≤ length l → sets l 0 vs ≡ in-front vs l
 front vs l h = rw zero-add at (sets-eq vs l 0 (omega arith))
 
 -- ---- the values of a row
@@ -35,9 +35,9 @@ pub record Storing (s : List ℕ) (at ch place : ℕ) (values₀ values : List �
   pub upto : c ≤ ch
   pub rest : List ℤ
   pub end : ℕ
-  pub reads : valuesFrom (ch - c) c s next ≡ read rest end
+  pub reads : values-from (ch - c) c s next ≡ read rest end
   pub long : length values ≡ length values₀
-  pub same : sets values (place + c) rest ≡ sets values₀ place (allOf (valuesFrom ch 0 s at))
+  pub same : sets values (place + c) rest ≡ sets values₀ place (all-of (values-from ch 0 s at))
 
 pub store-start : (s : List ℕ) (at ch place : ℕ) (values : List ℤ) → Storable s at ch place (length values) → Storing s at ch place values values at 0
 store-start s at ch place values p =
@@ -51,22 +51,22 @@ store-start s at ch place values p =
     }
 
 module _ (s : List ℕ) (at ch place : ℕ) (values₀ values : List ℤ) (next c : ℕ) (i : Storing s at ch place values₀ values next c) where
-  pub store-over : ch ≤ c → values ≡ sets values₀ place (allOf (valuesFrom ch 0 s at))
+  pub store-over : ch ≤ c → values ≡ sets values₀ place (all-of (values-from ch 0 s at))
   store-over l =
       let e : read (i .rest) (i .end) ≡ read [] next = sym (i .reads) ∙ values-over ch c s next l in
       let f : i .rest ≡ [] = cc in
       rw f at (i .same)
 
   module _ (l : c < ch) where
-    pub store-bad : valueAt s next c ≡ Signed·Bad → ⊥
+    pub store-bad : value-at s next c ≡ Signed·Bad → ⊥
     store-bad h =
         let e : read (i .rest) (i .end) ≡ missing = sym (i .reads) ∙ values-none ch c s next l h in
         let z : _≡_ {A = ℕ} 0 1 = cc in
         omega arith
 
-    pub store-next : (v : ℤ) (n : ℕ) → valueAt s next c ≡ Signed·Number v n → Storing s at ch place values₀ (set values (place + c) v) n (c + 1)
+    pub store-next : (v : ℤ) (n : ℕ) → value-at s next c ≡ Signed·Number v n → Storing s at ch place values₀ (set values (place + c) v) n (c + 1)
     store-next v n h =
-        let p = also-split v (valuesFrom (ch - (c + 1)) (c + 1) s n) (i .rest) (i .end) (sym (values-next ch c s next v n l h) ∙ i .reads) in
+        let p = also-split v (values-from (ch - (c + 1)) (c + 1) s n) (i .rest) (i .end) (sym (values-next ch c s next v n l h) ∙ i .reads) in
         let e : place + (c + 1) ≡ suc (place + c) = omega arith in
         record {
           upto = omega arith;
@@ -79,19 +79,19 @@ module _ (s : List ℕ) (at ch place : ℕ) (values₀ values : List ℤ) (next 
 
 -- ---- the rows
 
-length-times : (xs : List Sample) → length (timesIn xs) ≡ length xs
-unfolding timesIn
+length-times : (xs : List Sample) → length (times-in xs) ≡ length xs
+unfolding times-in
 length-times [] = refl
 length-times (x ∷ xs) = ap suc (length-times xs)
 
 -- as many values as rows × channels
-length-values : {ch k : ℕ} {ls : List (List ℕ)} {xs : List Sample} → Rows ch ls xs k → length (valuesIn xs) ≡ length xs * ch
-unfolding valuesIn
+length-values : {ch k : ℕ} {ls : List (List ℕ)} {xs : List Sample} → Rows ch ls xs k → length (values-in xs) ≡ length xs * ch
+unfolding values-in
 length-values {ch} none = sym (zero-mul ch)
 length-values {ch} (measured {vs} {samples} row rest) =
     let e : length vs ≡ ch = values-length (row .valued) in
-    let h : length (valuesIn samples) ≡ length samples * ch = length-values rest in
-    rw (length-append vs (valuesIn samples), suc-mul) (omega arith)
+    let h : length (values-in samples) ≡ length samples * ch = length-values rest in
+    rw (length-append vs (values-in samples), suc-mul) (omega arith)
 length-values (filled row rest) = length-values rest
 
 sets-append : (l : List ℤ) (i : ℕ) (vs ws : List ℤ) → sets l i (vs ++ ws) ≡ sets (sets l i vs) (i + length vs) ws
@@ -104,20 +104,20 @@ pub record Filling (s : List ℕ) (ch : ℕ) (times₀ : List ℕ) (values₀ : 
   pub rest : List Sample
   pub filled : ℕ
   pub enough : length s ≤ at + fuel
-  pub reads : rowsFrom fuel ch s at ≡ listed rest filled
+  pub reads : rows-from fuel ch s at ≡ listed rest filled
   pub rows-fit : n + length rest ≤ length times₀
   pub values-fit : (n + length rest) * ch ≤ length values₀
   pub t-long : length times ≡ length times₀
   pub v-long : length values ≡ length values₀
-  pub t-same : sets times n (timesIn rest) ≡ inFront (timesOf (rowsOf ch s)) times₀
-  pub v-same : sets values (n * ch) (valuesIn rest) ≡ inFront (valuesOf (rowsOf ch s)) values₀
+  pub t-same : sets times n (times-in rest) ≡ in-front (times-of (rows-of ch s)) times₀
+  pub v-same : sets values (n * ch) (values-in rest) ≡ in-front (values-of (rows-of ch s)) values₀
 
 pub fill-start : (s : List ℕ) (ch : ℕ) (times : List ℕ) (values : List ℤ) → Fitting s ch (length times) (length values) → Filling s ch times values times values 0 0
 fill-start s ch times values p =
     let xs : List Sample = p .samples in
-    let l : length (valuesIn xs) ≡ length xs * ch = length-values (rows-exact ch s xs (p .filled) .0 (p .reads)) in
-    let t : sets times 0 (timesIn xs) ≡ inFront (timesIn xs) times = front (timesIn xs) times (omega (arith, p .rows-fit, length-times xs)) in
-    let v : sets values 0 (valuesIn xs) ≡ inFront (valuesIn xs) values = front (valuesIn xs) values (omega (arith, p .values-fit)) in
+    let l : length (values-in xs) ≡ length xs * ch = length-values (rows-exact ch s xs (p .filled) .0 (p .reads)) in
+    let t : sets times 0 (times-in xs) ≡ in-front (times-in xs) times = front (times-in xs) times (omega (arith, p .rows-fit, length-times xs)) in
+    let v : sets values 0 (values-in xs) ≡ in-front (values-in xs) values = front (values-in xs) values (omega (arith, p .values-fit)) in
     record {
       fuel = length s;
       rest = xs;
@@ -132,23 +132,23 @@ fill-start s ch times values p =
       v-same = rw (p .reads, zero-mul) v;
     }
 
-measured-split : (x : Sample) (y : Listing) (xs : List Sample) (k : ℕ) → alsoMeasured x y ≡ listed xs k → (ys : List Sample) × (y ≡ listed ys k) × (xs ≡ x ∷ ys)
+measured-split : (x : Sample) (y : Listing) (xs : List Sample) (k : ℕ) → also-measured x y ≡ listed xs k → (ys : List Sample) × (y ≡ listed ys k) × (xs ≡ x ∷ ys)
 measured-split x (listed ys j) xs k h = let e : j ≡ k = cc in (ys, rw e, cc)
 measured-split x broken xs k h = let z : _≡_ {A = ℕ} 0 1 = cc in absurd (omega arith)
 
-filled-split : (y : Listing) (xs : List Sample) (k : ℕ) → alsoFilled y ≡ listed xs k → (j : ℕ) × (y ≡ listed xs j)
+filled-split : (y : Listing) (xs : List Sample) (k : ℕ) → also-filled y ≡ listed xs k → (j : ℕ) × (y ≡ listed xs j)
 filled-split (listed ys j) xs k h = let e : ys ≡ xs = cc in (j, rw e)
 filled-split broken xs k h = let z : _≡_ {A = ℕ} 0 1 = cc in absurd (omega arith)
 
 module _ (s : List ℕ) (ch : ℕ) (times₀ : List ℕ) (values₀ : List ℤ) (times : List ℕ) (values : List ℤ) (at n : ℕ) (i : Filling s ch times₀ values₀ times values at n) where
-  pub fill-over : length s ≤ at → (times ≡ inFront (timesOf (rowsOf ch s)) times₀) × (values ≡ inFront (valuesOf (rowsOf ch s)) values₀)
-  unfolding timesIn valuesIn
+  pub fill-over : length s ≤ at → (times ≡ in-front (times-of (rows-of ch s)) times₀) × (values ≡ in-front (values-of (rows-of ch s)) values₀)
+  unfolding times-in values-in
   fill-over l =
       let e : listed (i .rest) (i .filled) ≡ listed [] 0 = sym (i .reads) ∙ rows-over (i .fuel) ch s at l in
       let f : i .rest ≡ [] = cc in
       (rw f at (i .t-same), rw f at (i .v-same))
 
-  module _ (x : Row) (l : at < length s) (e : x ≡ rowAt s at ch) where
+  module _ (x : Row) (l : at < length s) (e : x ≡ row-at s at ch) where
     pub fill-bad : x ≡ Bad → ⊥
     fill-bad h =
         let f : broken ≡ listed (i .rest) (i .filled) = sym (rows-turn (i .fuel) ch s at Bad (i .enough) l (sym h ∙ e)) ∙ i .reads in
@@ -159,7 +159,7 @@ module _ (s : List ℕ) (ch : ℕ) (times₀ : List ℕ) (values₀ : List ℤ) 
     pub fill-filled : (m : ℕ) → x ≡ Filled m → (at < m) × Filling s ch times₀ values₀ times values m n
     fill-filled m h =
         let p : at < m = row-past ch s at (Filled m) (sym h ∙ e) in
-        let q = filled-split (rowsFrom (i .fuel - 1) ch s m) (i .rest) (i .filled) (sym (rows-turn (i .fuel) ch s at (Filled m) (i .enough) l (sym h ∙ e)) ∙ i .reads) in (
+        let q = filled-split (rows-from (i .fuel - 1) ch s m) (i .rest) (i .filled) (sym (rows-turn (i .fuel) ch s at (Filled m) (i .enough) l (sym h ∙ e)) ∙ i .reads) in (
           p,
           record {
             fuel = i .fuel - 1;
@@ -180,9 +180,9 @@ module _ (s : List ℕ) (ch : ℕ) (times₀ : List ℕ) (values₀ : List ℤ) 
       here : RowHere ch s at (Measured t a m)
       here = subst (λ (r : Row). RowHere ch s at r) (sym e ∙ h) (row-here ch s at)
 
-      turn : (ys : List Sample) × (rowsFrom (i .fuel - 1) ch s m ≡ listed ys (i .filled)) × (i .rest ≡ sampleAt s ch t a ∷ ys)
+      turn : (ys : List Sample) × (rows-from (i .fuel - 1) ch s m ≡ listed ys (i .filled)) × (i .rest ≡ sample-at s ch t a ∷ ys)
       turn =
-          measured-split (sampleAt s ch t a) (rowsFrom (i .fuel - 1) ch s m) (i .rest) (i .filled)
+          measured-split (sample-at s ch t a) (rows-from (i .fuel - 1) ch s m) (i .rest) (i .filled)
           (sym (rows-turn (i .fuel) ch s at (Measured t a m) (i .enough) l (sym h ∙ e)) ∙ i .reads)
 
       pub fill-past : at < m
@@ -199,12 +199,12 @@ module _ (s : List ℕ) (ch : ℕ) (times₀ : List ℕ) (values₀ : List ℤ) 
           omega (arith, i .v-long)
 
       pub fill-storable : Storable s a ch (n * ch) (length values)
-      fill-storable = record { worth = allOf (valuesFrom ch 0 s a); end = here .3; reads = here .4; fits = fill-room }
+      fill-storable = record { worth = all-of (values-from ch 0 s a); end = here .3; reads = here .4; fits = fill-room }
 
-      pub fill-measured : Filling s ch times₀ values₀ (set times n t) (sets values (n * ch) (allOf (valuesFrom ch 0 s a))) m (n + 1)
-      unfolding timesIn valuesIn
+      pub fill-measured : Filling s ch times₀ values₀ (set times n t) (sets values (n * ch) (all-of (values-from ch 0 s a))) m (n + 1)
+      unfolding times-in values-in
       fill-measured =
-          let vs : List ℤ = allOf (valuesFrom ch 0 s a) in
+          let vs : List ℤ = all-of (values-from ch 0 s a) in
           let w : length vs ≡ ch = values-length (here .2 .valued) in
           let k : n * ch + ch ≡ (n + 1) * ch = omega arith in
           let f : n + suc (length (turn .0)) ≤ length times₀ = rw (turn .2) at (i .rows-fit) in
@@ -221,7 +221,7 @@ module _ (s : List ℕ) (ch : ℕ) (times₀ : List ℕ) (values₀ : List ℤ) 
             v-long = length-sets values (n * ch) vs ∙ i .v-long;
             t-same = rw add-one (rw (turn .2) at (i .t-same));
             v-same =
-                let b : sets (sets values (n * ch) vs) (n * ch + ch) (valuesIn (turn .0)) ≡ inFront (valuesOf (rowsOf ch s)) values₀ =
-                rw (sets-append values (n * ch) vs (valuesIn (turn .0)), w) at (rw (turn .2) at (i .v-same)) in
+                let b : sets (sets values (n * ch) vs) (n * ch + ch) (values-in (turn .0)) ≡ in-front (values-of (rows-of ch s)) values₀ =
+                rw (sets-append values (n * ch) vs (values-in (turn .0)), w) at (rw (turn .2) at (i .v-same)) in
                 rw k at b;
           }

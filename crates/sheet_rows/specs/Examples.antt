@@ -5,7 +5,7 @@ use Prim.Native.String.{String}
 use mathlib.Core.List.{List, [], _∷_}
 use Rattle.text.specs.Bytes.{bytes}
 use Rattle.sheet_rows.specs.declared.Answer.{Answer}
-use Rattle.sheet_rows.specs.Answer.{answerOf}
+use Rattle.sheet_rows.specs.Answer.{answer-of}
 
 pub record Question : Type 0 where
   pub text : String
@@ -14,7 +14,7 @@ pub record Question : Type 0 where
   pub values : ℕ
 
 abbrev pub asked : Question → Answer
-asked q = answerOf (bytes (q .text)) (q .channels) (q .times) (q .values)
+asked q = answer-of (bytes (q .text)) (q .channels) (q .times) (q .values)
 
 abbrev pub figures : ℕ → ℕ → ℕ → Answer
 figures number rows filled = record { number = number; rows = rows; filled = filled }

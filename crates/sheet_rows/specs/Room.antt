@@ -6,17 +6,17 @@ use mathlib.Core.List.{List}
 use lib.ListN.{length}
 use lib.IntN.{ℤ}
 use Rattle.row_lines.specs.Form.{Sample}
-use Rattle.row_lines.specs.Rows.{read, valuesFrom, listed, rowsOf}
+use Rattle.row_lines.specs.Rows.{read, values-from, listed, rows-of}
 
 pub record Storable (s : List ℕ) (at channels place room : ℕ) : Type 0 where
   pub worth : List ℤ
   pub end : ℕ
-  pub reads : valuesFrom channels 0 s at ≡ read worth end
+  pub reads : values-from channels 0 s at ≡ read worth end
   pub fits : place + channels ≤ room
 
 pub record Fitting (s : List ℕ) (channels times values : ℕ) : Type 0 where
   pub samples : List Sample
   pub filled : ℕ
-  pub reads : rowsOf channels s ≡ listed samples filled
+  pub reads : rows-of channels s ≡ listed samples filled
   pub rows-fit : length samples ≤ times
   pub values-fit : length samples * channels ≤ values

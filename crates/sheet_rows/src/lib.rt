@@ -7,8 +7,8 @@ ghost use mathlib.Core.Path.{_≡_};
 ghost use Prim.Native.Nat.{_≤_};
 ghost use lib.ListN.{length};
 ghost use lib.Seq.{sets};
-ghost use Rattle.row_lines.specs.Rows.{valuesFrom, allOf, rowsOf};
-ghost use Rattle.sheet_rows.specs.Answer.{tooMany, none, answerOf, timesOf, valuesOf, inFront, after};
+ghost use Rattle.row_lines.specs.Rows.{values-from, all-of, rows-of};
+ghost use Rattle.sheet_rows.specs.Answer.{too-many, none, answer-of, times-of, values-of, in-front, after};
 ghost use Rattle.sheet_rows.specs.Room.{Storable, Fitting};
 
 // Document 01's number, 0 where no refusal applies, and the counts of measured and of filled rows.
@@ -31,7 +31,7 @@ fn refused(number: u64) -> Answer
 // Whether measured rows are too many for a recording or for the slices.
 fn too_many(rows: usize, channels: usize, times: usize, values: usize) -> bool
     requires { ⌜ channels ≤ 8 ⌝ }
-    ensures { λ r. ⌜ r ≡ tooMany rows channels times values ⌝ }
+    ensures { λ r. ⌜ r ≡ too-many rows channels times values ⌝ }
 {
     if 4_096 < rows {
         return true;
@@ -45,7 +45,7 @@ fn too_many(rows: usize, channels: usize, times: usize, values: usize) -> bool
 // Stores the values of a measured row from a place of the slice on.
 fn store_values(s: &[u8], at: usize, channels: usize, values: &mut [i64], place: usize)
     requires { ⌜ Storable (now s) at channels place (length (now values)) ⌝ }
-    ensures { λ _. ⌜ now (values .exit) ≡ sets (now (values .entry)) place (allOf (valuesFrom channels 0 (now (s .entry)) at)) ⌝ }
+    ensures { λ _. ⌜ now (values .exit) ≡ sets (now (values .entry)) place (all-of (values-from channels 0 (now (s .entry)) at)) ⌝ }
 {
     let mut next = at;
     let mut channel: usize = 0;
@@ -62,8 +62,8 @@ fn store_values(s: &[u8], at: usize, channels: usize, values: &mut [i64], place:
 // Stores the measured rows of a text that was counted and fits, in sheet order.
 fn store_rows(s: &[u8], channels: usize, times: &mut [u64], values: &mut [i64])
     requires { ⌜ Fitting (now s) channels (length (now times)) (length (now values)) ⌝ }
-    ensures times { λ _. ⌜ now (times .exit) ≡ inFront (timesOf (rowsOf channels (now (s .entry)))) (now (times .entry)) ⌝ }
-    ensures values { λ _. ⌜ now (values .exit) ≡ inFront (valuesOf (rowsOf channels (now (s .entry)))) (now (values .entry)) ⌝ }
+    ensures times { λ _. ⌜ now (times .exit) ≡ in-front (times-of (rows-of channels (now (s .entry)))) (now (times .entry)) ⌝ }
+    ensures values { λ _. ⌜ now (values .exit) ≡ in-front (values-of (rows-of channels (now (s .entry)))) (now (values .entry)) ⌝ }
 {
     let mut at: usize = 0;
     let mut rows: usize = 0;
@@ -87,9 +87,9 @@ fn store_rows(s: &[u8], channels: usize, times: &mut [u64], values: &mut [i64])
 
 // Reads the rows of a text, all of it. Times and values are stored from the slices' front on; places beyond the measured rows keep their contents.
 pub fn read_rows(s: &[u8], channels: usize, times: &mut [u64], values: &mut [i64]) -> Answer
-    ensures answer { λ r. ⌜ r ≡ answerOf (now (s .entry)) channels (length (now (times .entry))) (length (now (values .entry))) ⌝ }
-    ensures times { λ r. ⌜ now (times .exit) ≡ after (r .number) (timesOf (rowsOf channels (now (s .entry)))) (now (times .entry)) ⌝ }
-    ensures values { λ r. ⌜ now (values .exit) ≡ after (r .number) (valuesOf (rowsOf channels (now (s .entry)))) (now (values .entry)) ⌝ }
+    ensures answer { λ r. ⌜ r ≡ answer-of (now (s .entry)) channels (length (now (times .entry))) (length (now (values .entry))) ⌝ }
+    ensures times { λ r. ⌜ now (times .exit) ≡ after (r .number) (times-of (rows-of channels (now (s .entry)))) (now (times .entry)) ⌝ }
+    ensures values { λ r. ⌜ now (values .exit) ≡ after (r .number) (values-of (rows-of channels (now (s .entry)))) (now (values .entry)) ⌝ }
 {
     if row_lines::LIMIT < s.len() {
         return refused(1);

@@ -15,7 +15,7 @@ use Rattle.row_lines.specs.Same.{Alike, SameButFilled}
 use Rattle.row_lines.proofs.Lines.{lines-split}
 use Rattle.sheets.specs.declared.Sheet.{Sheet}
 use Rattle.sheets.specs.Form.{Form}
-use Rattle.sheets.specs.Sheets.{sheetOf}
+use Rattle.sheets.specs.Sheets.{sheet-of}
 use Rattle.sheets.proofs.Exact.{size-append, sheet-sound, alike-form}
 
 -- the lines behind the first ones
@@ -63,15 +63,15 @@ rows-behind s x f = let b = behind s x f in ap lines (b .follows) ∙ b .listed
 
 -- ---- two texts within the size limit that differ in filled rows alone
 
-module _ (a b : List ℕ) (h : SameButFilled a b) (short : length b ≤ limit) (e : sheetOf a .number ≡ 0) where
-  pub same-requirement : take (sheetOf a .to - sheetOf a .from) (drop (sheetOf a .from) a) ≡ take (sheetOf a .to - sheetOf a .from) (drop (sheetOf a .from) b)
+module _ (a b : List ℕ) (h : SameButFilled a b) (short : length b ≤ limit) (e : sheet-of a .number ≡ 0) where
+  pub same-requirement : take (sheet-of a .to - sheet-of a .from) (drop (sheet-of a .from) a) ≡ take (sheet-of a .to - sheet-of a .from) (drop (sheet-of a .from) b)
   same-requirement =
       let f = sheet-sound a e in
-      let g = alike-form a b (sheetOf a) h short f in
-      requirement-bytes a (sheetOf a) f ∙ (g .1 ∙ sym (requirement-bytes b (sheetOf a) (g .0)))
+      let g = alike-form a b (sheet-of a) h short f in
+      requirement-bytes a (sheet-of a) f ∙ (g .1 ∙ sym (requirement-bytes b (sheet-of a) (g .0)))
 
-  pub same-behind : SameButFilled (drop (sheetOf a .rows) a) (drop (sheetOf a .rows) b)
+  pub same-behind : SameButFilled (drop (sheet-of a .rows) a) (drop (sheet-of a .rows) b)
   same-behind =
       let f = sheet-sound a e in
-      let g = alike-form a b (sheetOf a) h short f in
-      rw (rows-behind a (sheetOf a) f, rows-behind b (sheetOf a) (g .0)) (g .2)
+      let g = alike-form a b (sheet-of a) h short f in
+      rw (rows-behind a (sheet-of a) f, rows-behind b (sheet-of a) (g .0)) (g .2)

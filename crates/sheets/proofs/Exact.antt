@@ -13,12 +13,12 @@ use lib.IntN.{ℤ}
 use lib.Dec.{ltb}
 use borrow.Author.Tests.{le-ltb, ltb-false}
 use Rattle.text.specs.Bytes.{bytes}
-use Rattle.text.specs.Mark.{prefixOf}
+use Rattle.text.specs.Mark.{prefix-of}
 use Rattle.text.specs.declared.Field.the-variants.{Number}
 use Rattle.text.proofs.Tests.{false-true}
 use Rattle.text.proofs.Places.{Between}
 use Rattle.row_lines.specs.Form.{lines, size, Sample, Rows, Row as Form·Row}
-use Rattle.row_lines.specs.Rows.{limit, channelsInRange, Listing, listed, broken, isBroken, rowsOf}
+use Rattle.row_lines.specs.Rows.{limit, channels-in-range, Listing, listed, broken, is-broken, rows-of}
 use Rattle.row_lines.specs.Same.{Alike, none, same, filled, SameButFilled}
 use Rattle.row_lines.proofs.Fields.{number-case, test-case}
 use Rattle.row_lines.proofs.Lines.{count, Fed, lines-fed, lines-split}
@@ -26,30 +26,30 @@ use Rattle.row_lines.proofs.Exact.{rows-exact, alike-sym, alike-rows}
 use Rattle.recordings.specs.declared.Predicate.{Predicate}
 use Rattle.predicate_lines.specs.declared.Predicates.{Predicates}
 use Rattle.predicate_lines.specs.Form.{unset, Lines, over, more}
-use Rattle.predicate_lines.specs.Lines.{linesAt}
+use Rattle.predicate_lines.specs.Lines.{lines-at}
 use Rattle.predicate_lines.proofs.Exact.{predicates-are, predicates-taken}
 use Rattle.sheets.specs.declared.Sheet.{Sheet}
 use Rattle.sheets.specs.declared.Requirement.{Requirement}
 use Rattle.sheets.specs.declared.Requirement.the-variants.{At, Bad}
 use Rattle.sheets.specs.Form.{NumberLine, Form, blank}
-use Rattle.sheets.specs.Sheets.{numberAt, requirementAt, afterRequirement, rowsKept, behindPredicates, sheetOf}
+use Rattle.sheets.specs.Sheets.{number-at, requirement-at, after-requirement, rows-kept, behind-predicates, sheet-of}
 use Rattle.sheets.proofs.Written.{number-line-is, number-line-taken, number-line-fed, requirement-is, requirement-taken, lines-clear}
 use Rattle.sheets.proofs.Chain.{chain-read}
 
 -- ---- the rows behind the head
 
-kept-listed : (ch : ℕ) (s : List ℕ) (at : ℕ) → rowsKept s at ch ≡ true → channelsInRange ch ≡ true
+kept-listed : (ch : ℕ) (s : List ℕ) (at : ℕ) → rows-kept s at ch ≡ true → channels-in-range ch ≡ true
     → (xs : List Sample) × (k : ℕ) × Rows ch (lines (drop at s)) xs k
-kept-listed ch s at h w = go (rowsOf ch (drop at s)) refl (rw w at h)
+kept-listed ch s at h w = go (rows-of ch (drop at s)) refl (rw w at h)
   where
-    go : (x : Listing) → rowsOf ch (drop at s) ≡ x → not (true && isBroken (rowsOf ch (drop at s))) ≡ true → (xs : List Sample) × (k : ℕ) × Rows ch (lines (drop at s)) xs k
+    go : (x : Listing) → rows-of ch (drop at s) ≡ x → not (true && is-broken (rows-of ch (drop at s))) ≡ true → (xs : List Sample) × (k : ℕ) × Rows ch (lines (drop at s)) xs k
     go (listed xs k) e g = (xs, k, rows-exact ch (drop at s) xs k .0 e)
     go broken e g = absurd (false-true (rw e at g))
 
-listed-kept : (ch : ℕ) (s : List ℕ) (at : ℕ) → (channelsInRange ch ≡ true → (xs : List Sample) × (k : ℕ) × Rows ch (lines (drop at s)) xs k) → rowsKept s at ch ≡ true
-listed-kept ch s at h = go (channelsInRange ch) refl
+listed-kept : (ch : ℕ) (s : List ℕ) (at : ℕ) → (channels-in-range ch ≡ true → (xs : List Sample) × (k : ℕ) × Rows ch (lines (drop at s)) xs k) → rows-kept s at ch ≡ true
+listed-kept ch s at h = go (channels-in-range ch) refl
   where
-    go : (t : Bool) → channelsInRange ch ≡ t → rowsKept s at ch ≡ true
+    go : (t : Bool) → channels-in-range ch ≡ t → rows-kept s at ch ≡ true
     go true e = let r = h e in rw (e, rows-exact ch (drop at s) (r .0) (r .1) .1 (r .2))
     go false e = rw e
 
@@ -62,7 +62,7 @@ blank-good : (s : List ℕ) → Good s blank
 unfolding Good
 blank-good s e = absurd (omega arith)
 
-requirement-case : {A : Type 0} (P : A → Type 0) (x : Requirement) (f : ℕ → ℕ → ℕ → A) (a : A) → ((i j n : ℕ) → x ≡ At i j n → P (f i j n)) → P a → P (afterRequirement x f a)
+requirement-case : {A : Type 0} (P : A → Type 0) (x : Requirement) (f : ℕ → ℕ → ℕ → A) (a : A) → ((i j n : ℕ) → x ≡ At i j n → P (f i j n)) → P a → P (after-requirement x f a)
 requirement-case P (At i j n) f a h k = h i j n refl
 requirement-case P Bad f a h k = k
 
@@ -70,20 +70,20 @@ requirement-case P Bad f a h k = k
 fed-lines : {s l : List ℕ} {at n : ℕ} → Between s at n l → Fed l → lines (drop at s) ≡ l ∷ lines (drop n s)
 fed-lines {s} {l} {at} {n} b f = rw (b .bytes) (lines-fed (drop n s) f)
 
-read-good : (s : List ℕ) → length s ≤ limit → (ch a : ℕ) → numberAt (bytes "chan=") s 0 ≡ Number ch a → linesAt s a .ok ≡ true
-    → (step c : ℕ) → numberAt (bytes "step=") s (linesAt s a .next) ≡ Number step c → (drift d : ℕ) → numberAt (bytes "drift=") s c ≡ Number drift d
-    → (from to rows : ℕ) → requirementAt s d ≡ At from to rows → rowsKept s rows ch ≡ true
-    → Form s (record { number = 0; channels = ch; predicates = linesAt s a .all; step = step; drift = drift; from = from; to = to; rows = rows })
+read-good : (s : List ℕ) → length s ≤ limit → (ch a : ℕ) → number-at (bytes "chan=") s 0 ≡ Number ch a → lines-at s a .ok ≡ true
+    → (step c : ℕ) → number-at (bytes "step=") s (lines-at s a .next) ≡ Number step c → (drift d : ℕ) → number-at (bytes "drift=") s c ≡ Number drift d
+    → (from to rows : ℕ) → requirement-at s d ≡ At from to rows → rows-kept s rows ch ≡ true
+    → Form s (record { number = 0; channels = ch; predicates = lines-at s a .all; step = step; drift = drift; from = from; to = to; rows = rows })
 unfolding count
 read-good s short ch a e o step c f drift d g from to rows r k =
     let x = number-line-is (bytes "chan=") s 0 ch a e in
     let p = predicates-are s a o in
-    let y = number-line-is (bytes "step=") s (linesAt s a .next) step c f in
+    let y = number-line-is (bytes "step=") s (lines-at s a .next) step c f in
     let z = number-line-is (bytes "drift=") s c drift d g in
     let q = requirement-is s d from to rows r in
     let fed : Fed (bytes "req=" ++ q .requirement ++ bytes "\n") = record { body = bytes "req=" ++ q .requirement; ends = refl; clear = omega (arith, q .clear) } in
     let l₁ : lines (drop 0 s) ≡ x .0 ∷ lines (drop a s) = fed-lines (x .1) (number-line-fed refl (x .2)) in
-    let l₂ : lines (drop (linesAt s a .next) s) ≡ y .0 ∷ lines (drop c s) = fed-lines (y .1) (number-line-fed refl (y .2)) in
+    let l₂ : lines (drop (lines-at s a .next) s) ≡ y .0 ∷ lines (drop c s) = fed-lines (y .1) (number-line-fed refl (y .2)) in
     let l₃ : lines (drop c s) ≡ z .0 ∷ lines (drop d s) = fed-lines (z .1) (number-line-fed refl (z .2)) in
     let l₄ : lines (drop d s) ≡ (bytes "req=" ++ q .requirement ++ bytes "\n") ∷ lines (drop rows s) = fed-lines (q .between) fed in
     record {
@@ -111,14 +111,14 @@ good : (s : List ℕ) (x : Sheet) → Form s x → Good s x
 unfolding Good
 good s x f = λ e. f
 
-behind-good : (s : List ℕ) → length s ≤ limit → (ch a : ℕ) → numberAt (bytes "chan=") s 0 ≡ Number ch a → Good s (behindPredicates s ch (linesAt s a))
-unfolding behindPredicates
+behind-good : (s : List ℕ) → length s ≤ limit → (ch a : ℕ) → number-at (bytes "chan=") s 0 ≡ Number ch a → Good s (behind-predicates s ch (lines-at s a))
+unfolding behind-predicates
 behind-good s short ch a e =
-    test-case (Good s) (linesAt s a .ok) _ _
-    (λ o. number-case (Good s) (numberAt (bytes "step=") s (linesAt s a .next)) _ _
-    (λ step c f. number-case (Good s) (numberAt (bytes "drift=") s c) _ _
-    (λ drift d g. requirement-case (Good s) (requirementAt s d) _ _
-    (λ from to rows r. test-case (Good s) (rowsKept s rows ch) _ _
+    test-case (Good s) (lines-at s a .ok) _ _
+    (λ o. number-case (Good s) (number-at (bytes "step=") s (lines-at s a .next)) _ _
+    (λ step c f. number-case (Good s) (number-at (bytes "drift=") s c) _ _
+    (λ drift d g. requirement-case (Good s) (requirement-at s d) _ _
+    (λ from to rows r. test-case (Good s) (rows-kept s rows ch) _ _
     (λ k. good s _ (read-good s short ch a e o step c f drift d g from to rows r k))
     (λ k. blank-good s))
     (blank-good s))
@@ -126,12 +126,12 @@ behind-good s short ch a e =
     (λ f. blank-good s))
     (λ o. blank-good s)
 
-pub sheet-sound : (s : List ℕ) → sheetOf s .number ≡ 0 → Form s (sheetOf s)
-unfolding sheetOf Good
+pub sheet-sound : (s : List ℕ) → sheet-of s .number ≡ 0 → Form s (sheet-of s)
+unfolding sheet-of Good
 sheet-sound s =
     test-case (Good s) (ltb limit (length s)) _ _
     (λ t. blank-good s)
-    (λ t. number-case (Good s) (numberAt (bytes "chan=") s 0) _ _ (λ ch a e. behind-good s (ltb-false limit (length s) t) ch a e) (λ e. blank-good s))
+    (λ t. number-case (Good s) (number-at (bytes "chan=") s 0) _ _ (λ ch a e. behind-good s (ltb-false limit (length s) t) ch a e) (λ e. blank-good s))
 
 -- ---- complete
 
@@ -141,29 +141,29 @@ size-append [] ms = sym (zero-add (size ms))
 size-append (l ∷ ls) ms = let h : size (ls ++ ms) ≡ size ls + size ms = size-append ls ms in omega arith
 
 -- a line `step=` is no predicate line
-step-stops : {l : List ℕ} {v : ℕ} (ls : List (List ℕ)) → NumberLine (bytes "step=") l v → (x : List ℕ) → lines x ≡ l ∷ ls → prefixOf (bytes "p=") x ≡ false
-unfolding prefixOf
-step-stops {l} ls f x h = let t = lines-split x l ls h in ap (prefixOf (bytes "p=")) (t .1 ∙ ap (λ (y : List ℕ). y ++ t .0) (f .written))
+step-stops : {l : List ℕ} {v : ℕ} (ls : List (List ℕ)) → NumberLine (bytes "step=") l v → (x : List ℕ) → lines x ≡ l ∷ ls → prefix-of (bytes "p=") x ≡ false
+unfolding prefix-of
+step-stops {l} ls f x h = let t = lines-split x l ls h in ap (prefix-of (bytes "p=")) (t .1 ∙ ap (λ (y : List ℕ). y ++ t .0) (f .written))
 
-predicates-place : (s : List ℕ) (a b : ℕ) (qs : List Predicate) (ps rest : List (List ℕ)) → linesAt s a ≡ record { ok = true; next = b; all = qs }
+predicates-place : (s : List ℕ) (a b : ℕ) (qs : List Predicate) (ps rest : List (List ℕ)) → lines-at s a ≡ record { ok = true; next = b; all = qs }
     → lines (drop a s) ≡ ps ++ rest → lines (drop b s) ≡ rest → b ≡ a + size ps
 predicates-place s a b qs ps rest e f g =
     let t = predicates-are s a (ap (λ (x : Predicates). x .ok) e) in
-    let n : linesAt s a .next ≡ b = ap (λ (x : Predicates). x .next) e in
+    let n : lines-at s a .next ≡ b = ap (λ (x : Predicates). x .next) e in
     let h : t .taken ++ rest ≡ ps ++ rest = ap (λ (x : List (List ℕ)). t .taken ++ x) (sym (ap (λ (k : ℕ). lines (drop k s)) n ∙ g)) ∙ (sym (t .cuts) ∙ f) in
     let k : size (t .taken) + size rest ≡ size ps + size rest = sym (size-append (t .taken) rest) ∙ (ap size h ∙ size-append ps rest) in
     omega (arith, t .place)
 
 predicates-stage : (s : List ℕ) (a : ℕ) {qs : List Predicate} {ps : List (List ℕ)} {l : List ℕ} {v : ℕ} (ls : List (List ℕ))
     → Lines unset ps qs → NumberLine (bytes "step=") l v → lines (drop a s) ≡ ps ++ (l ∷ ls)
-    → (b : ℕ) × (linesAt s a ≡ record { ok = true; next = b; all = qs }) × (lines (drop b s) ≡ l ∷ ls) × (b ≡ a + size ps)
+    → (b : ℕ) × (lines-at s a ≡ record { ok = true; next = b; all = qs }) × (lines (drop b s) ≡ l ∷ ls) × (b ≡ a + size ps)
 predicates-stage s a {qs} {ps} {l} ls form step e =
     let t = predicates-taken form s a (l ∷ ls) e (λ x h. step-stops ls step x h) in
     (t .0, t .1, t .2, predicates-place s a (t .0) qs ps (l ∷ ls) (t .1) e (t .2))
 
 requirement-stage : (s : List ℕ) (d ch : ℕ) (w : List ℕ) (rows : List (List ℕ)) → lines (drop d s) ≡ (bytes "req=" ++ w ++ bytes "\n") ∷ rows
-    → (channelsInRange ch ≡ true → (xs : List Sample) × (k : ℕ) × Rows ch rows xs k)
-    → (n : ℕ) × (requirementAt s d ≡ At (d + 4) (d + 4 + length w) n) × (n ≡ d + 4 + length w + 1) × (rowsKept s n ch ≡ true)
+    → (channels-in-range ch ≡ true → (xs : List Sample) × (k : ℕ) × Rows ch rows xs k)
+    → (n : ℕ) × (requirement-at s d ≡ At (d + 4) (d + 4 + length w) n) × (n ≡ d + 4 + length w + 1) × (rows-kept s n ch ≡ true)
 unfolding count
 requirement-stage s d ch w rows h has =
     let t = lines-split (drop d s) (bytes "req=" ++ w ++ bytes "\n") rows h in
@@ -178,15 +178,15 @@ same-sheet x i j k p q r e =
     rw (p, q, r)
     (ap (λ (m : ℕ). record { number = m; channels = x .channels; predicates = x .predicates; step = x .step; drift = x .drift; from = x .from; to = x .to; rows = x .rows }) (sym e))
 
-read-as : (s : List ℕ) (x : Sheet) → length s ≤ limit → x .number ≡ 0 → (a b c d n i j : ℕ) → numberAt (bytes "chan=") s 0 ≡ Number (x .channels) a
-    → linesAt s a ≡ record { ok = true; next = b; all = x .predicates } → numberAt (bytes "step=") s b ≡ Number (x .step) c
-    → numberAt (bytes "drift=") s c ≡ Number (x .drift) d → requirementAt s d ≡ At i j n → rowsKept s n (x .channels) ≡ true
-    → i ≡ x .from → j ≡ x .to → n ≡ x .rows → sheetOf s ≡ x
+read-as : (s : List ℕ) (x : Sheet) → length s ≤ limit → x .number ≡ 0 → (a b c d n i j : ℕ) → number-at (bytes "chan=") s 0 ≡ Number (x .channels) a
+    → lines-at s a ≡ record { ok = true; next = b; all = x .predicates } → number-at (bytes "step=") s b ≡ Number (x .step) c
+    → number-at (bytes "drift=") s c ≡ Number (x .drift) d → requirement-at s d ≡ At i j n → rows-kept s n (x .channels) ≡ true
+    → i ≡ x .from → j ≡ x .to → n ≡ x .rows → sheet-of s ≡ x
 read-as s x l m a b c d n i j e f g h r k from to rows =
     sym (chain-read s (le-ltb limit (length s) l) (x .channels) a e (record { ok = true; next = b; all = x .predicates }) (sym f) refl (x .step) c g (x .drift) d h i j n r k)
     ∙ same-sheet x i j n from to rows m
 
-pub sheet-complete : (s : List ℕ) (x : Sheet) → Form s x → sheetOf s ≡ x
+pub sheet-complete : (s : List ℕ) (x : Sheet) → Form s x → sheet-of s ≡ x
 sheet-complete s x f =
     let behind : List (List ℕ) = f .drift ∷ (bytes "req=" ++ f .requirement ++ bytes "\n") ∷ f .rows in
     let a = number-line-taken (bytes "chan=") s 0 (f .ps ++ (f .step ∷ behind)) (omega arith) (f .channels) (f .cuts) in
@@ -198,7 +198,7 @@ sheet-complete s x f =
     (omega (arith, f .from, a .3, b .3, c .3, d .3)) (omega (arith, f .from, f .to, a .3, b .3, c .3, d .3)) (omega (arith, f .from, f .to, f .behind, a .3, b .3, c .3, d .3, n .2))
 
 -- number 0, and the form's contents, exactly when the text has the form
-pub sheet-exact : (s : List ℕ) → (x : Sheet) → Form s x ↔ ((sheetOf s ≡ x) × (x .number ≡ 0))
+pub sheet-exact : (s : List ℕ) → (x : Sheet) → Form s x ↔ ((sheet-of s ≡ x) × (x .number ≡ 0))
 sheet-exact s x = (
   (λ f. (sheet-complete s x f, f .number)),
   (λ h. subst (λ (y : Sheet). Form s y) (h .0) (sheet-sound s (ap (λ (y : Sheet). y .number) (h .0) ∙ h .1))),
@@ -217,32 +217,32 @@ given : (x : Sheet) → x .number ≡ 0 → Either x
 unfolding Either
 given x e = inl e
 
-behind-either : (s : List ℕ) (ch : ℕ) (ps : Predicates) → Either (behindPredicates s ch ps)
-unfolding behindPredicates
+behind-either : (s : List ℕ) (ch : ℕ) (ps : Predicates) → Either (behind-predicates s ch ps)
+unfolding behind-predicates
 behind-either s ch ps =
     test-case Either (ps .ok) _ _
-    (λ o. number-case Either (numberAt (bytes "step=") s (ps .next)) _ _
-    (λ step c f. number-case Either (numberAt (bytes "drift=") s c) _ _
-    (λ drift d g. requirement-case Either (requirementAt s d) _ _
-    (λ from to rows r. test-case Either (rowsKept s rows ch) _ _ (λ k. given _ refl) (λ k. none-left))
+    (λ o. number-case Either (number-at (bytes "step=") s (ps .next)) _ _
+    (λ step c f. number-case Either (number-at (bytes "drift=") s c) _ _
+    (λ drift d g. requirement-case Either (requirement-at s d) _ _
+    (λ from to rows r. test-case Either (rows-kept s rows ch) _ _ (λ k. given _ refl) (λ k. none-left))
     none-left)
     (λ g. none-left))
     (λ f. none-left))
     (λ o. none-left)
 
 -- every text gives a sheet of number 0 or the blank one
-pub sheet-or-blank : (s : List ℕ) → (sheetOf s .number ≡ 0) ⊎ (sheetOf s ≡ blank)
-unfolding sheetOf Either
+pub sheet-or-blank : (s : List ℕ) → (sheet-of s .number ≡ 0) ⊎ (sheet-of s ≡ blank)
+unfolding sheet-of Either
 sheet-or-blank s =
     test-case Either (ltb limit (length s)) _ _
     (λ t. none-left)
-    (λ t. number-case Either (numberAt (bytes "chan=") s 0) _ _ (λ ch a e. behind-either s ch (linesAt s a)) (λ e. none-left))
+    (λ t. number-case Either (number-at (bytes "chan=") s 0) _ _ (λ ch a e. behind-either s ch (lines-at s a)) (λ e. none-left))
 
 -- the blank sheet exactly when the text has not the form, whatever the contents
-pub sheet-refused : (s : List ℕ) → (sheetOf s ≡ blank) ↔ ((x : Sheet) → Form s x → ⊥)
+pub sheet-refused : (s : List ℕ) → (sheet-of s ≡ blank) ↔ ((x : Sheet) → Form s x → ⊥)
 sheet-refused s = (
   (λ e x f. let z : _≡_ {A = ℕ} 1 0 = ap (λ (y : Sheet). y .number) (sym e ∙ sheet-complete s x f) ∙ f .number in omega arith),
-  (λ h. ⊎-elim (λ e. absurd (h (sheetOf s) (sheet-sound s e))) (λ e. e) (sheet-or-blank s)),
+  (λ h. ⊎-elim (λ e. absurd (h (sheet-of s) (sheet-sound s e))) (λ e. e) (sheet-or-blank s)),
 )
 
 -- ---- filled rows reach nothing
@@ -310,11 +310,11 @@ alike-form a b x h short f =
     )
 
 -- two texts within the size limit that differ in filled rows alone give the same sheet
-pub sheet-alike : (a b : List ℕ) → length a ≤ limit → length b ≤ limit → SameButFilled a b → sheetOf a ≡ sheetOf b
+pub sheet-alike : (a b : List ℕ) → length a ≤ limit → length b ≤ limit → SameButFilled a b → sheet-of a ≡ sheet-of b
 sheet-alike a b p q h =
     ⊎-elim (λ e. lead a b q h e)
     (λ e. ⊎-elim (λ f. sym (lead b a p (alike-sym h) f)) (λ f. e ∙ sym f) (sheet-or-blank b))
     (sheet-or-blank a)
   where
-    lead : (a b : List ℕ) → length b ≤ limit → SameButFilled a b → sheetOf a .number ≡ 0 → sheetOf a ≡ sheetOf b
-    lead a b q h e = sym (sheet-complete b (sheetOf a) (alike-form a b (sheetOf a) h q (sheet-sound a e) .0))
+    lead : (a b : List ℕ) → length b ≤ limit → SameButFilled a b → sheet-of a .number ≡ 0 → sheet-of a ≡ sheet-of b
+    lead a b q h e = sym (sheet-complete b (sheet-of a) (alike-form a b (sheet-of a) h q (sheet-sound a e) .0))

@@ -10,8 +10,8 @@ use lib.ListN.{length, drop, length-drop, length-append}
 use lib.Seq.{drop-drop}
 use lib.Dec.{eqb}
 use Rattle.text.specs.Bytes.{bytes}
-use Rattle.text.specs.Mark.{markAt}
-use Rattle.text.specs.Number.{largest, fieldAt}
+use Rattle.text.specs.Mark.{mark-at}
+use Rattle.text.specs.Number.{largest, field-at}
 use Rattle.text.specs.declared.Mark.the-variants.{Next}
 use Rattle.text.specs.declared.Field.{Field}
 use Rattle.text.specs.declared.Field.the-variants.{Number, Bad as Field·Bad}
@@ -24,11 +24,11 @@ use Rattle.row_lines.proofs.Lines.{lines-split, count, count-append, numeral-co
 use Rattle.sheets.specs.declared.Requirement.{Requirement}
 use Rattle.sheets.specs.declared.Requirement.the-variants.{At, Bad}
 use Rattle.sheets.specs.Form.{NumberLine}
-use Rattle.sheets.specs.Sheets.{numberAt, untilFeed, requirementAt}
+use Rattle.sheets.specs.Sheets.{number-at, until-feed, requirement-at}
 
 -- where a line that was read ends
-pub place-of : (s : List ℕ) (at n : ℕ) (l r : List ℕ) → drop at s ≡ l ++ r → drop n s ≡ r → at ≤ length s → n ≤ length s → n ≡ at + length l
-place-of s at n l r e f p q =
+pub place-after : (s : List ℕ) (at n : ℕ) (l r : List ℕ) → drop at s ≡ l ++ r → drop n s ≡ r → at ≤ length s → n ≤ length s → n ≡ at + length l
+place-after s at n l r e f p q =
     let a : length s - at ≡ length l + length r = sym (length-drop at s) ∙ (ap length e ∙ length-append l r) in
     let b : length s - n ≡ length r = sym (length-drop n s) ∙ ap length f in
     omega arith
@@ -39,11 +39,11 @@ abbrev NumberHere : List ℕ → List ℕ → ℕ → Field → Type 0
 NumberHere key s at (Number v n) = (l : List ℕ) × Between s at n l × NumberLine key l v
 NumberHere key s at Field·Bad = Unit
 
-number-here : (key s : List ℕ) (at : ℕ) → NumberHere key s at (numberAt key s at)
-unfolding numberAt
+number-here : (key s : List ℕ) (at : ℕ) → NumberHere key s at (number-at key s at)
+unfolding number-at
 number-here key s at =
-    number-case (NumberHere key s at) (fieldAt key s at largest) _ _
-    (λ v e h. mark-case (NumberHere key s at) (markAt (bytes "\n") s e) _ _
+    number-case (NumberHere key s at) (field-at key s at largest) _ _
+    (λ v e h. mark-case (NumberHere key s at) (mark-at (bytes "\n") s e) _ _
     (λ n k. let a = field-is key s at largest v e h in (
       key ++ a .2 .written ++ bytes "\n",
       between-both (between-both (a .1) (a .2 .between)) (mark-is (bytes "\n") s e n k),
@@ -52,7 +52,7 @@ number-here key s at =
     (λ k. tt))
     (λ h. tt)
 
-pub number-line-is : (key s : List ℕ) (at v n : ℕ) → numberAt key s at ≡ Number v n → (l : List ℕ) × Between s at n l × NumberLine key l v
+pub number-line-is : (key s : List ℕ) (at v n : ℕ) → number-at key s at ≡ Number v n → (l : List ℕ) × Between s at n l × NumberLine key l v
 number-line-is key s at v n h = rw h at (number-here key s at)
 
 -- the lines from a place on are not empty, so the place is inside
@@ -60,8 +60,8 @@ pub line-inside : (s : List ℕ) (at : ℕ) (l r : List ℕ) → drop at s ≡ l
 line-inside s at l r e p = let a : length s - at ≡ length l + length r = sym (length-drop at s) ∙ (ap length e ∙ length-append l r) in omega arith
 
 pub number-line-taken : (key s : List ℕ) (at : ℕ) {l : List ℕ} {v : ℕ} (ls : List (List ℕ)) → 0 < length key → NumberLine key l v → lines (drop at s) ≡ l ∷ ls
-    → (n : ℕ) × (numberAt key s at ≡ Number v n) × (lines (drop n s) ≡ ls) × (n ≡ at + length l)
-unfolding numberAt
+    → (n : ℕ) × (number-at key s at ≡ Number v n) × (lines (drop n s) ≡ ls) × (n ≡ at + length l)
+unfolding number-at
 number-line-taken key s at {l} {v} ls p f h =
     let t = lines-split (drop at s) l ls h in
     let r : List ℕ = t .0 in
@@ -70,7 +70,7 @@ number-line-taken key s at {l} {v} ls p f h =
     let n = mark-taken s (k .0) r (bytes "\n") (omega arith) (k .2) in
     let i : n .0 ≤ length s = mark-is (bytes "\n") s (k .0) (n .0) (n .1) .inside in
     let w : length l ≡ length (key ++ f .digits) + 1 = ap length (f .written) ∙ length-append (key ++ f .digits) (bytes "\n") in
-    (n .0, rw (k .1, n .1), rw (n .2) (t .2), place-of s at (n .0) l r (t .1) (n .2) (line-inside s at l r (t .1) (omega arith)) i)
+    (n .0, rw (k .1, n .1), rw (n .2) (t .2), place-after s at (n .0) l r (t .1) (n .2) (line-inside s at l r (t .1) (omega arith)) i)
 
 pub number-line-fed : {key l : List ℕ} {v : ℕ} → count 10 key ≡ 0 → NumberLine key l v → Fed l
 number-line-fed {key} c f =
@@ -82,20 +82,20 @@ number-line-fed {key} c f =
 
 -- ---- the requirement
 
-until-split : (s : List ℕ) → s ≡ untilFeed s ++ drop (length (untilFeed s)) s
-unfolding untilFeed
+until-split : (s : List ℕ) → s ≡ until-feed s ++ drop (length (until-feed s)) s
+unfolding until-feed
 until-split [] = refl
 until-split (b ∷ s) = by-test (eqb b 10) (λ t. rw t) (λ t. rw (t, ← until-split s))
 
-until-clear : (s : List ℕ) → count 10 (untilFeed s) ≡ 0
-unfolding untilFeed count
+until-clear : (s : List ℕ) → count 10 (until-feed s) ≡ 0
+unfolding until-feed count
 until-clear [] = refl
 until-clear (b ∷ s) = by-test (eqb b 10) (λ t. rw t) (λ t. rw (t, t, until-clear s))
 
-until-feed : (w r : List ℕ) → count 10 w ≡ 0 → untilFeed (w ++ (10 ∷ r)) ≡ w
-unfolding untilFeed count
-until-feed [] r h = refl
-until-feed (b ∷ w) r h = by-test (eqb b 10) (λ t. absurd (full (rw t at h))) (λ t. rw (t, until-feed w r (rw (t, zero-add) at h)))
+until-feed-is : (w r : List ℕ) → count 10 w ≡ 0 → until-feed (w ++ (10 ∷ r)) ≡ w
+unfolding until-feed count
+until-feed-is [] r h = refl
+until-feed-is (b ∷ w) r h = by-test (eqb b 10) (λ t. absurd (full (rw t at h))) (λ t. rw (t, until-feed-is w r (rw (t, zero-add) at h)))
   where
     full : 1 + count 10 w ≡ 0 → ⊥
     full g = omega arith
@@ -112,26 +112,26 @@ abbrev RequirementHere : List ℕ → ℕ → Requirement → Type 0
 RequirementHere s at (At from to n) = RequirementIs s at from to n
 RequirementHere s at Bad = Unit
 
-requirement-here : (s : List ℕ) (at : ℕ) → RequirementHere s at (requirementAt s at)
-unfolding requirementAt
+requirement-here : (s : List ℕ) (at : ℕ) → RequirementHere s at (requirement-at s at)
+unfolding requirement-at
 requirement-here s at =
-    mark-case (RequirementHere s at) (markAt (bytes "req=") s at) _ _
-    (λ from e. mark-case (RequirementHere s at) (markAt (bytes "\n") s (from + length (untilFeed (drop from s)))) _ _ (λ n f. is from n e f) (λ f. tt))
+    mark-case (RequirementHere s at) (mark-at (bytes "req=") s at) _ _
+    (λ from e. mark-case (RequirementHere s at) (mark-at (bytes "\n") s (from + length (until-feed (drop from s)))) _ _ (λ n f. is from n e f) (λ f. tt))
     (λ e. tt)
   where
-    is : (from n : ℕ) → markAt (bytes "req=") s at ≡ Next from → markAt (bytes "\n") s (from + length (untilFeed (drop from s))) ≡ Next n
-        → RequirementIs s at from (from + length (untilFeed (drop from s))) n
+    is : (from n : ℕ) → mark-at (bytes "req=") s at ≡ Next from → mark-at (bytes "\n") s (from + length (until-feed (drop from s))) ≡ Next n
+        → RequirementIs s at from (from + length (until-feed (drop from s))) n
     is from n e f =
         let a = mark-is (bytes "req=") s at from e in
-        let b = mark-is (bytes "\n") s (from + length (untilFeed (drop from s))) n f in
-        let w : Between s from (from + length (untilFeed (drop from s))) (untilFeed (drop from s)) =
+        let b = mark-is (bytes "\n") s (from + length (until-feed (drop from s))) n f in
+        let w : Between s from (from + length (until-feed (drop from s))) (until-feed (drop from s)) =
         record {
-          bytes = rw (← drop-drop (length (untilFeed (drop from s))) from s) (until-split (drop from s));
+          bytes = rw (← drop-drop (length (until-feed (drop from s))) from s) (until-split (drop from s));
           end = refl;
           inside = omega (arith, b .inside, b .end);
         } in
         record {
-          requirement = untilFeed (drop from s);
+          requirement = until-feed (drop from s);
           between = between-both (between-both a w) b;
           clear = until-clear (drop from s);
           starts = a .end;
@@ -139,25 +139,25 @@ requirement-here s at =
           next = b .end;
         }
 
-pub requirement-is : (s : List ℕ) (at from to n : ℕ) → requirementAt s at ≡ At from to n → RequirementIs s at from to n
+pub requirement-is : (s : List ℕ) (at from to n : ℕ) → requirement-at s at ≡ At from to n → RequirementIs s at from to n
 requirement-is s at from to n h = rw h at (requirement-here s at)
 
-requirement-of : (s : List ℕ) (at from n : ℕ) (w r : List ℕ) → markAt (bytes "req=") s at ≡ Next from → drop from s ≡ w ++ (10 ∷ r) → count 10 w ≡ 0
-    → markAt (bytes "\n") s (from + length w) ≡ Next n → requirementAt s at ≡ At from (from + length w) n
-unfolding requirementAt
-requirement-of s at from n w r e f c g =
-    let h : untilFeed (drop from s) ≡ w = ap untilFeed f ∙ until-feed w r c in
+requirement-read : (s : List ℕ) (at from n : ℕ) (w r : List ℕ) → mark-at (bytes "req=") s at ≡ Next from → drop from s ≡ w ++ (10 ∷ r) → count 10 w ≡ 0
+    → mark-at (bytes "\n") s (from + length w) ≡ Next n → requirement-at s at ≡ At from (from + length w) n
+unfolding requirement-at
+requirement-read s at from n w r e f c g =
+    let h : until-feed (drop from s) ≡ w = ap until-feed f ∙ until-feed-is w r c in
     rw (e, h, g)
 
 pub requirement-taken : (s : List ℕ) (at : ℕ) (w r : List ℕ) → drop at s ≡ bytes "req=" ++ w ++ bytes "\n" ++ r → count 10 w ≡ 0
-    → (n : ℕ) × (requirementAt s at ≡ At (at + 4) (at + 4 + length w) n) × (drop n s ≡ r) × (n ≡ at + 4 + length w + 1)
+    → (n : ℕ) × (requirement-at s at ≡ At (at + 4) (at + 4 + length w) n) × (drop n s ≡ r) × (n ≡ at + 4 + length w + 1)
 requirement-taken s at w r e c =
     let g : drop at s ≡ bytes "req=" ++ (w ++ (bytes "\n" ++ r)) = simp append-assoc at e in
     let k = mark-taken s at (w ++ (bytes "\n" ++ r)) (bytes "req=") (omega arith) g in
     let p : k .0 ≡ at + 4 = mark-is (bytes "req=") s at (k .0) (k .1) .end in
     let f : drop (at + 4) s ≡ w ++ (bytes "\n" ++ r) = rw p at (k .2) in
     let n = mark-taken s (at + 4 + length w) r (bytes "\n") (omega arith) (after-bytes s (at + 4) w (bytes "\n" ++ r) f) in
-    (n .0, requirement-of s at (at + 4) (n .0) w r (rw p at (k .1)) f c (n .1), n .2, mark-is (bytes "\n") s (at + 4 + length w) (n .0) (n .1) .end)
+    (n .0, requirement-read s at (at + 4) (n .0) w r (rw p at (k .1)) f c (n .1), n .2, mark-is (bytes "\n") s (at + 4 + length w) (n .0) (n .1) .end)
 
 -- what stands before the line feed of a text's line has none
 pub lines-clear : (s w : List ℕ) (ls : List (List ℕ)) → lines s ≡ (w ++ bytes "\n") ∷ ls → count 10 w ≡ 0

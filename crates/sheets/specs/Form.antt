@@ -9,7 +9,7 @@ use Rattle.text.specs.Bytes.{bytes}
 use Rattle.text.specs.Number.{largest}
 use Rattle.text.specs.Numeral.{Numeral}
 use Rattle.row_lines.specs.Form.{lines, size, Sample, Rows}
-use Rattle.row_lines.specs.Rows.{limit, channelsInRange}
+use Rattle.row_lines.specs.Rows.{limit, channels-in-range}
 use Rattle.predicate_lines.specs.Form.{unset, Lines}
 use Rattle.sheets.specs.declared.Sheet.{Sheet}
 
@@ -39,7 +39,7 @@ pub record Form (text : List ℕ) (sheet : Sheet) : Type 0 where
   pub to : sheet .to ≡ sheet .from + length requirement
   pub behind : sheet .rows ≡ sheet .to + 1
   -- rows are read only where the channels are 1 to 8
-  pub listed : channelsInRange (sheet .channels) ≡ true → (samples : List Sample) × (filled : ℕ) × Rows (sheet .channels) rows samples filled
+  pub listed : channels-in-range (sheet .channels) ≡ true → (samples : List Sample) × (filled : ℕ) × Rows (sheet .channels) rows samples filled
   pub number : sheet .number ≡ 0
 
 -- no sheet

@@ -6,50 +6,50 @@ use mathlib.Core.List.{List, [], _∷_}
 use lib.ListN.{length, drop}
 use lib.Dec.{eqb, ltb}
 use Rattle.text.specs.Bytes.{bytes}
-use Rattle.text.specs.Mark.{markAt, afterMark}
-use Rattle.text.specs.Number.{largest, fieldAt, afterNumber}
+use Rattle.text.specs.Mark.{mark-at, after-mark}
+use Rattle.text.specs.Number.{largest, field-at, after-number}
 use Rattle.text.specs.declared.Field.{Field}
 use Rattle.text.specs.declared.Field.the-variants.{Number, Bad as Field·Bad}
-use Rattle.row_lines.specs.Rows.{limit, channelsInRange, isBroken, rowsOf}
+use Rattle.row_lines.specs.Rows.{limit, channels-in-range, is-broken, rows-of}
 use Rattle.predicate_lines.specs.declared.Predicates.{Predicates}
-use Rattle.predicate_lines.specs.Lines.{linesAt}
+use Rattle.predicate_lines.specs.Lines.{lines-at}
 use Rattle.sheets.specs.declared.Sheet.{Sheet}
 use Rattle.sheets.specs.declared.Requirement.{Requirement}
 use Rattle.sheets.specs.declared.Requirement.the-variants.{At, Bad}
 use Rattle.sheets.specs.Form.{blank}
 
 -- the line of a key and a number at a place
-unfoldable pub numberAt : List ℕ → List ℕ → ℕ → Field
-numberAt key s at = afterNumber (fieldAt key s at largest) (λ v e. afterMark (markAt (bytes "\n") s e) (λ n. Number v n) Field·Bad) Field·Bad
+unfoldable pub number-at : List ℕ → List ℕ → ℕ → Field
+number-at key s at = after-number (field-at key s at largest) (λ v e. after-mark (mark-at (bytes "\n") s e) (λ n. Number v n) Field·Bad) Field·Bad
 
 -- the bytes before the first line feed
-unfoldable pub untilFeed : List ℕ → List ℕ
-untilFeed [] = []
-untilFeed (b ∷ s) = cond (eqb b 10) [] (b ∷ untilFeed s)
+unfoldable pub until-feed : List ℕ → List ℕ
+until-feed [] = []
+until-feed (b ∷ s) = cond (eqb b 10) [] (b ∷ until-feed s)
 
 -- the requirement's line at a place
-unfoldable pub requirementAt : List ℕ → ℕ → Requirement
-requirementAt s at =
-    afterMark (markAt (bytes "req=") s at)
-    (λ from. afterMark (markAt (bytes "\n") s (from + length (untilFeed (drop from s)))) (λ n. At from (from + length (untilFeed (drop from s))) n) Bad)
+unfoldable pub requirement-at : List ℕ → ℕ → Requirement
+requirement-at s at =
+    after-mark (mark-at (bytes "req=") s at)
+    (λ from. after-mark (mark-at (bytes "\n") s (from + length (until-feed (drop from s)))) (λ n. At from (from + length (until-feed (drop from s))) n) Bad)
     Bad
 
-abbrev pub afterRequirement : {A : Type 0} → Requirement → (ℕ → ℕ → ℕ → A) → A → A
-afterRequirement (At from to n) f x = f from to n
-afterRequirement Bad f x = x
+abbrev pub after-requirement : {A : Type 0} → Requirement → (ℕ → ℕ → ℕ → A) → A → A
+after-requirement (At from to n) f x = f from to n
+after-requirement Bad f x = x
 
 -- the lines from a place on are rows, or are unread
-abbrev pub rowsKept : List ℕ → ℕ → ℕ → Bool
-rowsKept s at channels = not (channelsInRange channels && isBroken (rowsOf channels (drop at s)))
+abbrev pub rows-kept : List ℕ → ℕ → ℕ → Bool
+rows-kept s at channels = not (channels-in-range channels && is-broken (rows-of channels (drop at s)))
 
 -- what follows the predicates, given the channel count
-unfoldable pub behindPredicates : List ℕ → ℕ → Predicates → Sheet
-behindPredicates s channels ps =
+unfoldable pub behind-predicates : List ℕ → ℕ → Predicates → Sheet
+behind-predicates s channels ps =
     cond (ps .ok)
-    (afterNumber (numberAt (bytes "step=") s (ps .next))
-    (λ step c. afterNumber (numberAt (bytes "drift=") s c)
-    (λ drift d. afterRequirement (requirementAt s d)
-    (λ from to rows. cond (rowsKept s rows channels)
+    (after-number (number-at (bytes "step=") s (ps .next))
+    (λ step c. after-number (number-at (bytes "drift=") s c)
+    (λ drift d. after-requirement (requirement-at s d)
+    (λ from to rows. cond (rows-kept s rows channels)
     (record { number = 0; channels = channels; predicates = ps .all; step = step; drift = drift; from = from; to = to; rows = rows })
     blank)
     blank)
@@ -57,7 +57,7 @@ behindPredicates s channels ps =
     blank)
     blank
 
-unfoldable pub sheetOf : List ℕ → Sheet
-sheetOf s =
+unfoldable pub sheet-of : List ℕ → Sheet
+sheet-of s =
     cond (ltb limit (length s)) blank
-    (afterNumber (numberAt (bytes "chan=") s 0) (λ channels a. behindPredicates s channels (linesAt s a)) blank)
+    (after-number (number-at (bytes "chan=") s 0) (λ channels a. behind-predicates s channels (lines-at s a)) blank)

@@ -8,7 +8,7 @@ ghost use mathlib.Core.Path.{_≡_};
 ghost use Prim.Native.Nat.{_+_, _≤_};
 ghost use lib.ListN.{length, drop};
 ghost use Rattle.sheets.specs.Form.{blank};
-ghost use Rattle.sheets.specs.Sheets.{numberAt, untilFeed, requirementAt, rowsKept, sheetOf};
+ghost use Rattle.sheets.specs.Sheets.{number-at, until-feed, requirement-at, rows-kept, sheet-of};
 
 // Document 01's number, 0 where the text has the form, and the sheet's contents: the requirement is the bytes from `from` up to `to`, and the rows begin at `rows`.
 pub struct Sheet {
@@ -30,7 +30,7 @@ pub enum Requirement {
 
 // A line of a key and a number.
 fn read_number(s: &[u8], at: usize, key: &[u8]) -> Field
-    ensures { λ r. ⌜ r ≡ numberAt (now (key .entry)) (now (s .entry)) at ⌝ }
+    ensures { λ r. ⌜ r ≡ number-at (now (key .entry)) (now (s .entry)) at ⌝ }
 {
     let Field::Number(value, end) = text::read_field(s, at, key, text::LARGEST) else {
         return Field::Bad;
@@ -43,7 +43,7 @@ fn read_number(s: &[u8], at: usize, key: &[u8]) -> Field
 
 // The place of the first line feed from a place on, or the text's end.
 fn line_end(s: &[u8], at: usize) -> usize
-    ensures { λ r. ⌜ r ≡ at + length (untilFeed (drop at (now (s .entry)))) ⌝ }
+    ensures { λ r. ⌜ r ≡ at + length (until-feed (drop at (now (s .entry)))) ⌝ }
 {
     let mut end = at;
     while end < s.len() {
@@ -57,7 +57,7 @@ fn line_end(s: &[u8], at: usize) -> usize
 
 // The line `req=`: the requirement is what follows the equals sign, up to the line feed.
 fn read_requirement(s: &[u8], at: usize) -> Requirement
-    ensures { λ r. ⌜ r ≡ requirementAt (now (s .entry)) at ⌝ }
+    ensures { λ r. ⌜ r ≡ requirement-at (now (s .entry)) at ⌝ }
 {
     let Mark::Next(from) = text::read_mark(s, at, b"req=") else {
         return Requirement::Bad;
@@ -72,7 +72,7 @@ fn read_requirement(s: &[u8], at: usize) -> Requirement
 // Whether the lines from a place on are rows. Where the channel count is out of range they are unread.
 fn keeps_rows(s: &[u8], at: usize, channels: usize) -> bool
     requires { ⌜ at ≤ length (now s) ⌝ }
-    ensures { λ r. ⌜ r ≡ rowsKept (now (s .entry)) at channels ⌝ }
+    ensures { λ r. ⌜ r ≡ rows-kept (now (s .entry)) at channels ⌝ }
 {
     if !row_lines::channels_in_range(channels) {
         return true;
@@ -102,7 +102,7 @@ fn refused() -> Sheet
 
 // Reads a sheet.
 pub fn read_sheet(s: &[u8]) -> Sheet
-    ensures { λ r. ⌜ r ≡ sheetOf (now (s .entry)) ⌝ }
+    ensures { λ r. ⌜ r ≡ sheet-of (now (s .entry)) ⌝ }
 {
     if row_lines::LIMIT < s.len() {
         return refused();

@@ -7,7 +7,7 @@ use Prim.Native.Nat.{ℕ, _≤_, _<_}
 use lib.Dec.{T, leb, ltb, eqb, leb→le, le→leb, ltb→lt, lt→ltb, eqb→eq}
 use lib.ListN.{length}
 use mir.Facts.{and-yes, yes-and, or-yes, yes-eqb}
-use Rattle.lists.specs.Fold.{allBelow}
+use Rattle.lists.specs.Fold.{all-below}
 use Rattle.lists.proofs.Below.{yes-or, all-at, at-all}
 use Rattle.tables.specs.declared.Node.{Node}
 use Rattle.tables.specs.declared.Table.{Table}

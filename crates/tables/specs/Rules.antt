@@ -7,11 +7,11 @@ use mathlib.Core.List.{List}
 use Prim.Native.Nat.{ℕ, _≤_, _<_}
 use lib.Dec.{leb, ltb, eqb}
 use lib.ListN.{length}
-use Rattle.lists.specs.Fold.{allBelow}
+use Rattle.lists.specs.Fold.{all-below}
 use Rattle.tables.specs.declared.Node.{Node}
 use Rattle.tables.specs.declared.Table.{Table}
 use Rattle.tables.specs.Kind.{Operator, constant, named, negated, unknown, joined, binary, unary, kinds, operator}
-use Rattle.tables.specs.Tree.{NO-END, node-at}
+use Rattle.tables.specs.Tree.{LONGEST, NO-END, node-at}
 
 -- what a node's left or right number is: a child, a predicate's number, or unused
 pub data Use : Type 0 where
@@ -58,11 +58,11 @@ Used unused k x = x ≡ 0
 
 -- a window has lo and hi up to 1,000,000,000, lo ≤ hi, or hi 4,294,967,295 for no end
 abbrev pub window-obeys : ℕ → ℕ → Bool
-window-obeys lo hi = leb lo 1_000_000_000 && (eqb hi NO-END || (leb hi 1_000_000_000 && leb lo hi))
+window-obeys lo hi = leb lo LONGEST && (eqb hi NO-END || (leb hi LONGEST && leb lo hi))
 
 pub record WindowRules (lo hi : ℕ) : Type 0 where
-  pub low : lo ≤ 1_000_000_000
-  pub high : (hi ≡ NO-END) ⊎ ((hi ≤ 1_000_000_000) × (lo ≤ hi))
+  pub low : lo ≤ LONGEST
+  pub high : (hi ≡ NO-END) ⊎ ((hi ≤ LONGEST) × (lo ≤ hi))
 
 -- where there is no window its two numbers are unused
 abbrev pub ends-obey : Bool → ℕ → ℕ → Bool
@@ -88,7 +88,7 @@ pub record NodeRules (n : Node) (k : ℕ) : Type 0 where
 
 -- 1 to 64 nodes, and every one of them obeys, those that the root doesn't reach included
 unfoldable pub nodes-obey : List Node → ℕ → Bool
-nodes-obey ns n = allBelow (λ k. node-obeys (node-at ns k) k) n
+nodes-obey ns n = all-below (λ k. node-obeys (node-at ns k) k) n
 
 unfoldable pub table-obeys : Table → Bool
 table-obeys t = leb (t .count) 64 && (leb 1 (t .count) && nodes-obey (t .nodes) (t .count))

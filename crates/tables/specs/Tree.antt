@@ -11,7 +11,10 @@ use Rattle.tables.specs.declared.Node.{Node}
 use Rattle.tables.specs.declared.Table.{Table}
 use Rattle.tables.specs.Kind.{Operator, constant, named, negated, unknown, joined, binary, unary, operator}
 
--- hi for a window without end
+-- the ends of a window go up to this; and hi for a window without end
+abbrev pub LONGEST : ℕ
+LONGEST = 1_000_000_000
+
 abbrev pub NO-END : ℕ
 NO-END = 4_294_967_295
 

@@ -11,8 +11,8 @@ use lib.IntN.{ℤ, pos, negℤ}
 use lib.Dec.{leb, eqb}
 use borrow.Author.Tests.{le-leb, leb-true}
 use Rattle.text.specs.Bytes.{bytes}
-use Rattle.text.specs.Mark.{prefixOf, keyAt, markAt, afterMark}
-use Rattle.text.specs.Number.{isDigit, largestSigned, numberAt, fieldAt, signedAt, signedFieldAt, afterNumber, afterSigned}
+use Rattle.text.specs.Mark.{prefix-of, key-at, mark-at, after-mark}
+use Rattle.text.specs.Number.{is-digit, largest-signed, number-at, field-at, signed-at, signed-field-at, after-number, after-signed}
 use Rattle.text.specs.declared.Mark.{Mark}
 use Rattle.text.specs.declared.Mark.the-variants.{Next, Bad as Mark·Bad}
 use Rattle.text.specs.declared.Field.{Field}
@@ -26,14 +26,14 @@ use Rattle.text.proofs.Marks.{key-inside, prefix-split, prefix-append}
 use Rattle.text.proofs.Numerals.{Numbered, number-is, number-made}
 
 -- a mark that was read: its bytes stand there
-pub mark-is : (key s : List ℕ) (at n : ℕ) → markAt key s at ≡ Next n → Between s at n key
-unfolding markAt
-mark-is key s at n h = go (keyAt key s at) refl h
+pub mark-is : (key s : List ℕ) (at n : ℕ) → mark-at key s at ≡ Next n → Between s at n key
+unfolding mark-at
+mark-is key s at n h = go (key-at key s at) refl h
   where
-    go : (t : Bool) → keyAt key s at ≡ t → cond t (Next (at + length key)) Mark·Bad ≡ Next n → Between s at n key
+    go : (t : Bool) → key-at key s at ≡ t → cond t (Next (at + length key)) Mark·Bad ≡ Next n → Between s at n key
     go true e g =
         let z : at + length key ≡ n = cc in
-        let p = both (leb at (length s)) (prefixOf key (drop at s)) e in
+        let p = both (leb at (length s)) (prefix-of key (drop at s)) e in
         record {
           end = sym z;
           bytes = rw (← z, ← drop-drop (length key) at s) (prefix-split key (drop at s) (p .1));
@@ -42,24 +42,24 @@ mark-is key s at n h = go (keyAt key s at) refl h
     go false e g = let z : _≡_ {A = ℕ} 0 1 = cc in absurd (omega arith)
 
 -- a key that stands at a place is read
-pub mark-made : (key s r : List ℕ) (at : ℕ) → 0 < length key → drop at s ≡ key ++ r → markAt key s at ≡ Next (at + length key)
-unfolding markAt
+pub mark-made : (key s r : List ℕ) (at : ℕ) → 0 < length key → drop at s ≡ key ++ r → mark-at key s at ≡ Next (at + length key)
+unfolding mark-at
 mark-made key s r at p e =
     let l : length s - at ≡ length key + length r = sym (length-drop at s) ∙ (ap length e ∙ length-append key r) in
     rw (le-leb at (length s) (omega arith), e, prefix-append key r)
 
 -- where other bytes stand it is not
-pub mark-missing : (key s : List ℕ) (at : ℕ) {l : List ℕ} → drop at s ≡ l → prefixOf key l ≡ false → markAt key s at ≡ Mark·Bad
-unfolding markAt
+pub mark-missing : (key s : List ℕ) (at : ℕ) {l : List ℕ} → drop at s ≡ l → prefix-of key l ≡ false → mark-at key s at ≡ Mark·Bad
+unfolding mark-at
 mark-missing key s at e h = rw (e, h, never (leb at (length s)))
 
 -- a number that follows a key
-pub field-is : (key s : List ℕ) (at max v n : ℕ) → fieldAt key s at max ≡ Number v n
+pub field-is : (key s : List ℕ) (at max v n : ℕ) → field-at key s at max ≡ Number v n
     → (m : ℕ) × Between s at m key × Numbered s m max v n
-unfolding fieldAt
-field-is key s at max v n h = go (markAt key s at) refl h
+unfolding field-at
+field-is key s at max v n h = go (mark-at key s at) refl h
   where
-    go : (m : Mark) → markAt key s at ≡ m → afterMark m (λ k. numberAt s k max) Bad ≡ Number v n → (m : ℕ) × Between s at m key × Numbered s m max v n
+    go : (m : Mark) → mark-at key s at ≡ m → after-mark m (λ k. number-at s k max) Bad ≡ Number v n → (m : ℕ) × Between s at m key × Numbered s m max v n
     go (Next m) e g = (m, mark-is key s at m e, number-is s m max v n g)
     go Mark·Bad e g = let z : _≡_ {A = ℕ} 0 1 = cc in absurd (omega arith)
 
@@ -68,17 +68,17 @@ pub record SignedIs (s : List ℕ) (at : ℕ) (v : ℤ) (n : ℕ) : Type 0 where
   pub size : ℕ
   pub minus : Bool
   pub worth : v ≡ cond minus (negℤ (pos size)) (pos size)
-  pub bound : size ≤ largestSigned
+  pub bound : size ≤ largest-signed
   pub past : at < n
   pub inside : n ≤ length s
 
-pub signed-is : (s : List ℕ) (at : ℕ) (v : ℤ) (n : ℕ) → signedAt s at ≡ Signed·Number v n → SignedIs s at v n
-unfolding signedAt
-signed-is s at v n h = go (markAt (bytes "-") s at) refl h
+pub signed-is : (s : List ℕ) (at : ℕ) (v : ℤ) (n : ℕ) → signed-at s at ≡ Signed·Number v n → SignedIs s at v n
+unfolding signed-at
+signed-is s at v n h = go (mark-at (bytes "-") s at) refl h
   where
-    plus : (x : Field) → numberAt s at largestSigned ≡ x → afterNumber x (λ w k. Signed·Number (pos w) k) Signed·Bad ≡ Signed·Number v n → SignedIs s at v n
+    plus : (x : Field) → number-at s at largest-signed ≡ x → after-number x (λ w k. Signed·Number (pos w) k) Signed·Bad ≡ Signed·Number v n → SignedIs s at v n
     plus (Number w k) e g =
-        let a = number-is s at largestSigned w k e in
+        let a = number-is s at largest-signed w k e in
         let z : k ≡ n = cc in
         record { size = w; minus = false; worth = cc; bound = a .bound; past = rw (← z) (a .past); inside = rw (← z) (a .between .inside) }
     plus Bad e g = let z : _≡_ {A = ℕ} 0 1 = cc in absurd (omega arith)
@@ -87,58 +87,58 @@ signed-is s at v n h = go (markAt (bytes "-") s at) refl h
     negated w k true g = let z : _≡_ {A = ℕ} 0 1 = cc in absurd (omega arith)
     negated w k false g = (cc, cc)
 
-    less : (d : ℕ) → Between s at d (bytes "-") → (x : Field) → numberAt s d largestSigned ≡ x
-        → afterNumber x (λ w k. cond (eqb w 0) Signed·Bad (Signed·Number (negℤ (pos w)) k)) Signed·Bad ≡ Signed·Number v n → SignedIs s at v n
+    less : (d : ℕ) → Between s at d (bytes "-") → (x : Field) → number-at s d largest-signed ≡ x
+        → after-number x (λ w k. cond (eqb w 0) Signed·Bad (Signed·Number (negℤ (pos w)) k)) Signed·Bad ≡ Signed·Number v n → SignedIs s at v n
     less d m (Number w k) e g =
-        let a = number-is s d largestSigned w k e in
+        let a = number-is s d largest-signed w k e in
         let y = negated w k (eqb w 0) g in
         let z : k ≡ n = y .1 in
         let p : at < k = let q = a .past in let r = m .end in omega arith in
         record { size = w; minus = true; worth = y .0; bound = a .bound; past = rw (← z) p; inside = rw (← z) (a .between .inside) }
     less d m Bad e g = let z : _≡_ {A = ℕ} 0 1 = cc in absurd (omega arith)
 
-    go : (m : Mark) → markAt (bytes "-") s at ≡ m
-        → afterMark m
-        (λ d. afterNumber (numberAt s d largestSigned) (λ w k. cond (eqb w 0) Signed·Bad (Signed·Number (negℤ (pos w)) k)) Signed·Bad)
-        (afterNumber (numberAt s at largestSigned) (λ w k. Signed·Number (pos w) k) Signed·Bad)
+    go : (m : Mark) → mark-at (bytes "-") s at ≡ m
+        → after-mark m
+        (λ d. after-number (number-at s d largest-signed) (λ w k. cond (eqb w 0) Signed·Bad (Signed·Number (negℤ (pos w)) k)) Signed·Bad)
+        (after-number (number-at s at largest-signed) (λ w k. Signed·Number (pos w) k) Signed·Bad)
         ≡ Signed·Number v n
         → SignedIs s at v n
-    go (Next d) e g = less d (mark-is (bytes "-") s at d e) (numberAt s d largestSigned) refl g
-    go Mark·Bad e g = plus (numberAt s at largestSigned) refl g
+    go (Next d) e g = less d (mark-is (bytes "-") s at d e) (number-at s d largest-signed) refl g
+    go Mark·Bad e g = plus (number-at s at largest-signed) refl g
 
 -- a signed number that follows a key
-pub signed-field-is : (key s : List ℕ) (at : ℕ) (v : ℤ) (n : ℕ) → signedFieldAt key s at ≡ Signed·Number v n
+pub signed-field-is : (key s : List ℕ) (at : ℕ) (v : ℤ) (n : ℕ) → signed-field-at key s at ≡ Signed·Number v n
     → (m : ℕ) × Between s at m key × SignedIs s m v n
-unfolding signedFieldAt
-signed-field-is key s at v n h = go (markAt key s at) refl h
+unfolding signed-field-at
+signed-field-is key s at v n h = go (mark-at key s at) refl h
   where
-    go : (m : Mark) → markAt key s at ≡ m → afterMark m (λ k. signedAt s k) Signed·Bad ≡ Signed·Number v n → (m : ℕ) × Between s at m key × SignedIs s m v n
+    go : (m : Mark) → mark-at key s at ≡ m → after-mark m (λ k. signed-at s k) Signed·Bad ≡ Signed·Number v n → (m : ℕ) × Between s at m key × SignedIs s m v n
     go (Next m) e g = (m, mark-is key s at m e, signed-is s m v n g)
     go Mark·Bad e g = let z : _≡_ {A = ℕ} 0 1 = cc in absurd (omega arith)
 
 -- an answer y that is not the one of a missing mark, or number, comes from what follows it
 module _ {A : Type 0} (bad y : A) (ne : bad ≡ y → ⊥) where
-  pub mark-taken : (m : Mark) (f : ℕ → A) → afterMark m f bad ≡ y → (k : ℕ) × (m ≡ Next k) × (f k ≡ y)
+  pub mark-taken : (m : Mark) (f : ℕ → A) → after-mark m f bad ≡ y → (k : ℕ) × (m ≡ Next k) × (f k ≡ y)
   mark-taken (Next k) f h = (k, refl, h)
   mark-taken Mark·Bad f h = absurd (ne h)
 
-  pub number-taken : (x : Field) (f : ℕ → ℕ → A) → afterNumber x f bad ≡ y → (v : ℕ) × (k : ℕ) × (x ≡ Number v k) × (f v k ≡ y)
+  pub number-taken : (x : Field) (f : ℕ → ℕ → A) → after-number x f bad ≡ y → (v : ℕ) × (k : ℕ) × (x ≡ Number v k) × (f v k ≡ y)
   number-taken (Number v k) f h = (v, k, refl, h)
   number-taken Bad f h = absurd (ne h)
 
-  pub signed-taken : (x : Signed) (f : ℤ → ℕ → A) → afterSigned x f bad ≡ y → (v : ℤ) × (k : ℕ) × (x ≡ Signed·Number v k) × (f v k ≡ y)
+  pub signed-taken : (x : Signed) (f : ℤ → ℕ → A) → after-signed x f bad ≡ y → (v : ℤ) × (k : ℕ) × (x ≡ Signed·Number v k) × (f v k ≡ y)
   signed-taken (Signed·Number v k) f h = (v, k, refl, h)
   signed-taken Signed·Bad f h = absurd (ne h)
 
 -- a key and a numeral within the bound that no digit follows are read
 pub field-made : (key s : List ℕ) (at max v : ℕ) (w r : List ℕ) → 0 < length key → drop at s ≡ key ++ (w ++ r) → Numeral w v → v ≤ max → max < 10 ^ 10
-    → isDigit (getD r 0 0) ≡ false → fieldAt key s at max ≡ Number v (at + length key + length w)
-unfolding fieldAt
+    → is-digit (getD r 0 0) ≡ false → field-at key s at max ≡ Number v (at + length key + length w)
+unfolding field-at
 field-made key s at max v w r p e n l m f =
     rw (mark-made key s (w ++ r) at p e) (number-made s (at + length key) max v w r (after-bytes s at key (w ++ r) e) n l m f)
 
 -- where another byte stands, or none, a key that begins with c is missing
-pub mark-first : (c : ℕ) (ks s : List ℕ) (at : ℕ) (l : List ℕ) → drop at s ≡ l → eqb (getD l 0 0) c ≡ false → markAt (c ∷ ks) s at ≡ Mark·Bad
-unfolding prefixOf
+pub mark-first : (c : ℕ) (ks s : List ℕ) (at : ℕ) (l : List ℕ) → drop at s ≡ l → eqb (getD l 0 0) c ≡ false → mark-at (c ∷ ks) s at ≡ Mark·Bad
+unfolding prefix-of
 mark-first c ks s at [] e h = mark-missing (c ∷ ks) s at e refl
 mark-first c ks s at (b ∷ l) e h = mark-missing (c ∷ ks) s at e (rw h)

@@ -11,7 +11,7 @@ use lib.ListN.{length, getD, drop, length-append, length-drop, List·getD-append
 use lib.Seq.{drop-drop, getD-drop}
 use lib.Dec.{leb, ltb, eqb}
 use borrow.Author.Tests.{leb-true, leb-false, le-leb, ltb-false, le-ltb, eqb-true, eqb-false, eq-eqb, ne-eqb, not-true}
-use Rattle.text.specs.Number.{isDigit, digits, value, inForm, judged, numberAt}
+use Rattle.text.specs.Number.{is-digit, digits, value, in-form, judged, number-at}
 use Rattle.text.specs.Numeral.{Numeral, digit, longer}
 use Rattle.text.specs.declared.Field.the-variants.{Number, Bad}
 use Rattle.text.proofs.Tests.{both, never, by-test, false-true}
@@ -20,18 +20,18 @@ use Rattle.text.proofs.Digits.{digit-range, run-over}
 
 -- ---- digits
 
-is-digit : (d : ℕ) → d ≤ 9 → isDigit (48 + d) ≡ true
-is-digit d h = rw (le-leb 48 (48 + d) (omega arith), le-leb (48 + d) 57 (omega arith))
+digit-is : (d : ℕ) → d ≤ 9 → is-digit (48 + d) ≡ true
+digit-is d h = rw (le-leb 48 (48 + d) (omega arith), le-leb (48 + d) 57 (omega arith))
 
 digits-split : (l : List ℕ) → l ≡ digits l ++ drop (length (digits l)) l
 unfolding digits
 digits-split [] = refl
-digits-split (b ∷ l) = by-test (isDigit b) (λ e. rw (e, ← digits-split l)) (λ e. rw e)
+digits-split (b ∷ l) = by-test (is-digit b) (λ e. rw (e, ← digits-split l)) (λ e. rw e)
 
 digits-again : (l : List ℕ) → digits (digits l) ≡ digits l
 unfolding digits
 digits-again [] = refl
-digits-again (b ∷ l) = by-test (isDigit b) (λ e. rw (e, e, digits-again l)) (λ e. rw e)
+digits-again (b ∷ l) = by-test (is-digit b) (λ e. rw (e, e, digits-again l)) (λ e. rw e)
 
 value-append : (v : ℕ) (w ds : List ℕ) → value v (w ++ ds) ≡ value (value v w) ds
 unfolding value
@@ -39,9 +39,9 @@ value-append v [] ds = refl
 value-append v (b ∷ w) ds = value-append (v * 10 + (b - 48)) w ds
 
 -- the head of digits is one, and the rest are
-all-digits : (b : ℕ) (ds : List ℕ) → digits (b ∷ ds) ≡ b ∷ ds → (isDigit b ≡ true) × (digits ds ≡ ds)
+all-digits : (b : ℕ) (ds : List ℕ) → digits (b ∷ ds) ≡ b ∷ ds → (is-digit b ≡ true) × (digits ds ≡ ds)
 unfolding digits
-all-digits b ds h = by-test (isDigit b) (λ e. (e, tail (rw e at h))) (λ e. absurd (empty (rw e at h)))
+all-digits b ds h = by-test (is-digit b) (λ e. (e, tail (rw e at h))) (λ e. absurd (empty (rw e at h)))
   where
     tail : b ∷ digits ds ≡ b ∷ ds → digits ds ≡ ds
     tail g = cc
@@ -84,9 +84,9 @@ run-numeral b ds h g =
 
 numeral-digits : {w : List ℕ} {v : ℕ} → Numeral w v → (r : List ℕ) → digits (w ++ r) ≡ w ++ digits r
 unfolding digits
-numeral-digits (digit {d} h) r = rw (is-digit d h)
+numeral-digits (digit {d} h) r = rw (digit-is d h)
 numeral-digits (longer {w} {v} {d} n p h) r =
-    let e : digits ((48 + d) ∷ r) ≡ (48 + d) ∷ digits r = rw (is-digit d h) in
+    let e : digits ((48 + d) ∷ r) ≡ (48 + d) ∷ digits r = rw (digit-is d h) in
     rw (append-assoc w ((48 + d) ∷ []) r, numeral-digits n ((48 + d) ∷ r), e, append-assoc w ((48 + d) ∷ []) (digits r))
 
 pub numeral-value : {w : List ℕ} {v : ℕ} → Numeral w v → value 0 w ≡ v
@@ -95,8 +95,8 @@ numeral-value (digit {d} h) = omega arith
 numeral-value (longer {w} {v} {d} n p h) = rw (value-append 0 w ((48 + d) ∷ []), numeral-value n) (omega arith)
 
 -- a numeral begins with a digit
-pub numeral-begins : {w : List ℕ} {v : ℕ} → Numeral w v → (0 < length w) × (isDigit (getD w 0 0) ≡ true)
-numeral-begins (digit {d} h) = (omega arith, is-digit d h)
+pub numeral-begins : {w : List ℕ} {v : ℕ} → Numeral w v → (0 < length w) × (is-digit (getD w 0 0) ≡ true)
+numeral-begins (digit {d} h) = (omega arith, digit-is d h)
 numeral-begins (longer {w} {v} {d} n p h) =
     let b = numeral-begins n in
     (rw length-append (omega arith), rw (List·getD-append w ((48 + d) ∷ []) 0 0 (b .0)) (b .1))
@@ -149,7 +149,7 @@ number-of true v next w n h = (refl, cc, cc)
 number-of false v next w n h = let z : _≡_ {A = ℕ} 0 1 = cc in absurd (omega arith)
 
 -- what the form asks of the run ds that stands at a place
-run-of : (ds : List ℕ) (first max : ℕ) → digits ds ≡ ds → (0 < length ds → first ≡ getD ds 0 0) → inForm first (length ds) (value 0 ds) max ≡ true
+run-of : (ds : List ℕ) (first max : ℕ) → digits ds ≡ ds → (0 < length ds → first ≡ getD ds 0 0) → in-form first (length ds) (value 0 ds) max ≡ true
     → Numeral ds (value 0 ds) × (value 0 ds ≤ max) × (0 < length ds)
 run-of [] first max h f g = absurd (false-true g)
 run-of (b ∷ ds) first max h f g =
@@ -166,8 +166,8 @@ head-at s at w r e p =
     sym (List·getD-append w r 0 0 p) ∙ (sym (ap (λ (l : List ℕ). getD l 0 0) e) ∙ a)
 
 -- sound: a number that is read stands there as a numeral
-pub number-is : (s : List ℕ) (at max v n : ℕ) → numberAt s at max ≡ Number v n → Numbered s at max v n
-unfolding numberAt
+pub number-is : (s : List ℕ) (at max v n : ℕ) → number-at s at max ≡ Number v n → Numbered s at max v n
+unfolding number-at
 number-is s at max v n h =
     let a = number-of _ _ _ v n h in
     let r = run-of (digits (drop at s)) (getD s at 0) max (digits-again (drop at s)) (λ p. sym (first p)) (a .0) in
@@ -192,14 +192,14 @@ number-is s at max v n h =
     first p = head-at s at (digits (drop at s)) _ (digits-split (drop at s)) p
 
 -- complete: a numeral within the bound that no digit follows is read
-pub number-made : (s : List ℕ) (at max v : ℕ) (w r : List ℕ) → drop at s ≡ w ++ r → Numeral w v → v ≤ max → max < 10 ^ 10 → isDigit (getD r 0 0) ≡ false
-    → numberAt s at max ≡ Number v (at + length w)
-unfolding numberAt
+pub number-made : (s : List ℕ) (at max v : ℕ) (w r : List ℕ) → drop at s ≡ w ++ r → Numeral w v → v ≤ max → max < 10 ^ 10 → is-digit (getD r 0 0) ≡ false
+    → number-at s at max ≡ Number v (at + length w)
+unfolding number-at
 number-made s at max v w r e n l m f =
     let b = numeral-begins n in
     let o : digits r ≡ [] = run-over r 0 f in
     let d : digits (drop at s) ≡ w = rw (e, numeral-digits n r, o) (append-nil w) in
-    let k : inForm (getD s at 0) (length w) v max ≡ true =
+    let k : in-form (getD s at 0) (length w) v max ≡ true =
     rw (← head-at s at w r e (b .0), le-leb 1 (length w) (b .0), le-leb (length w) 10 (numeral-short n (omega arith)), unpadded, le-leb v max l) in
     rw (d, numeral-value n, k)
   where

@@ -6,8 +6,8 @@ ghost use mathlib.Core.Path.{_≡_};
 ghost use mathlib.Core.Bool.{_&&_};
 ghost use lib.Dec.{eqb, ltb};
 ghost use lib.ListN.{getD};
-ghost use Rattle.text.specs.Mark.{prefixOf, keyAt, markAt};
-ghost use Rattle.text.specs.Number.{isDigit, inForm, numberAt, fieldAt};
+ghost use Rattle.text.specs.Mark.{prefix-of, key-at, mark-at};
+ghost use Rattle.text.specs.Number.{is-digit, in-form, number-at, field-at};
 
 // The largest number of a field without a sign, and of one with a sign.
 pub const LARGEST: u64 = 4_294_967_295;
@@ -34,7 +34,7 @@ pub fn byte_at(s: &[u8], at: usize) -> u8
 }
 
 fn is_digit(b: u8) -> bool
-    ensures { λ r. ⌜ r ≡ isDigit b ⌝ }
+    ensures { λ r. ⌜ r ≡ is-digit b ⌝ }
 {
     if b'0' <= b { b <= b'9' } else { false }
 }
@@ -54,7 +54,7 @@ fn padded(first: u8, count: usize) -> bool
 
 // Whether count digits are a number of at most max.
 fn in_form(first: u8, count: usize, value: u64, max: u64) -> bool
-    ensures { λ r. ⌜ r ≡ inForm first count value max ⌝ }
+    ensures { λ r. ⌜ r ≡ in-form first count value max ⌝ }
 {
     if count < 1 {
         return false;
@@ -70,7 +70,7 @@ fn in_form(first: u8, count: usize, value: u64, max: u64) -> bool
 
 // A number of up to ten digits without a leading zero, at most max.
 pub fn read_number(s: &[u8], at: usize, max: u64) -> Field
-    ensures { λ r. ⌜ r ≡ numberAt (now (s .entry)) at max ⌝ }
+    ensures { λ r. ⌜ r ≡ number-at (now (s .entry)) at max ⌝ }
 {
     let mut i = at;
     let mut value: u64 = 0;
@@ -90,7 +90,7 @@ pub fn read_number(s: &[u8], at: usize, max: u64) -> Field
 
 // Whether s begins with key.
 fn starts_with(s: &[u8], key: &[u8]) -> bool
-    ensures { λ r. ⌜ r ≡ prefixOf (now (key .entry)) (now (s .entry)) ⌝ }
+    ensures { λ r. ⌜ r ≡ prefix-of (now (key .entry)) (now (s .entry)) ⌝ }
 {
     let mut i = 0;
     while i < key.len() {
@@ -107,7 +107,7 @@ fn starts_with(s: &[u8], key: &[u8]) -> bool
 
 // Whether key stands at a place of s.
 pub fn key_at(s: &[u8], at: usize, key: &[u8]) -> bool
-    ensures { λ r. ⌜ r ≡ keyAt (now (key .entry)) (now (s .entry)) at ⌝ }
+    ensures { λ r. ⌜ r ≡ key-at (now (key .entry)) (now (s .entry)) at ⌝ }
 {
     if at <= s.len() {
         starts_with(&s[at..], key)
@@ -118,7 +118,7 @@ pub fn key_at(s: &[u8], at: usize, key: &[u8]) -> bool
 
 // The place after a key that stands at a place of s.
 pub fn read_mark(s: &[u8], at: usize, key: &[u8]) -> Mark
-    ensures { λ r. ⌜ r ≡ markAt (now (key .entry)) (now (s .entry)) at ⌝ }
+    ensures { λ r. ⌜ r ≡ mark-at (now (key .entry)) (now (s .entry)) at ⌝ }
 {
     if key_at(s, at, key) {
         Mark::Next(at + key.len())
@@ -129,7 +129,7 @@ pub fn read_mark(s: &[u8], at: usize, key: &[u8]) -> Mark
 
 // A number that follows a key.
 pub fn read_field(s: &[u8], at: usize, key: &[u8], max: u64) -> Field
-    ensures { λ r. ⌜ r ≡ fieldAt (now (key .entry)) (now (s .entry)) at max ⌝ }
+    ensures { λ r. ⌜ r ≡ field-at (now (key .entry)) (now (s .entry)) at max ⌝ }
 {
     let Mark::Next(next) = read_mark(s, at, key) else {
         return Field::Bad;

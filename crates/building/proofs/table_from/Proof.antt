@@ -1,4 +1,4 @@
--- `building::table_from` meets its contract: after k turns the nodes are `nodesFrom` at k.
+-- `building::table_from` meets its contract: after k turns the nodes are `nodes-from` at k.
 -- Assumes nothing.
 use Prim.Native.Nat.{_-_, _≤_}
 use mathlib.Core.Path.{_≡_, ap, _∙_}
@@ -11,7 +11,7 @@ use native.Mathlib.Omega.{arith}
 use borrow.Author.Tests.{le-leb, lt-leb}
 use borrow.Author.Needs.{needs}
 use lib.ListN.{length}
-use Rattle.building.specs.Storing.{nodesFrom}
+use Rattle.building.specs.Storing.{nodes-from}
 use Rattle.building.proofs.table_from.Statement.{statement}
 use Rattle.building.proofs.table_from.Tie as tie
 use Rattle.building.proofs.table_from.Reads as reads
@@ -20,7 +20,7 @@ use Rattle.building.proofs.empty_table.Reads as empty-table-reads
 use Rattle.building.proofs.node_at.Reads as node-at-reads
 
 abbrev Inv-loop : tie.InvT-loop
-Inv-loop cells count table₀ k₀ table k = (k ≤ count) × (table .nodes ≡ nodesFrom cells k)
+Inv-loop cells count table₀ k₀ table k = (k ≤ count) × (table .nodes ≡ nodes-from cells k)
 
 abbrev μ-loop : tie.MeasureT-loop
 μ-loop cells count table₀ k₀ table k = count - k
@@ -35,7 +35,7 @@ empty-table-requires-2 : tie.Need-empty-table-requires-2 Inv-loop μ-loop
 empty-table-requires-2 c κs = search needs
 
 loop-holds : tie.Need-loop-holds Inv-loop μ-loop
-unfolding nodesFrom
+unfolding nodes-from
 loop-holds c = (omega arith, ap (λ (t : Table). t .nodes) (c .empty-table2 .ensures))
 
 node-at-requires : tie.Need-node-at-requires Inv-loop μ-loop
@@ -54,7 +54,7 @@ loop-less : tie.Need-loop-less Inv-loop μ-loop
 loop-less c = search needs
 
 loop-again : tie.Need-loop-again Inv-loop μ-loop
-unfolding nodesFrom
+unfolding nodes-from
 loop-again c = (search needs, rw (add-one, c .before .before .loop .inv .1, c .node-at .ensures))
 
 returns-2 : tie.Need-returns-2 Inv-loop μ-loop
@@ -62,7 +62,7 @@ returns-2 c =
     let a = c .before .before .before .before .args in
     let e : c .before .loop .k ≡ a .count = omega arith in
     rw (le-leb (a .count) 64 (c .before .before .before .if1 .left))
-    (ap {B = Table} (λ (ns : List Node). record { nodes = ns; count = a .count }) (c .before .loop .inv .1 ∙ ap (nodesFrom (now (a .cells))) e))
+    (ap {B = Table} (λ (ns : List Node). record { nodes = ns; count = a .count }) (c .before .loop .inv .1 ∙ ap (nodes-from (now (a .cells))) e))
 
 pub table-from-spec : {M : Type 1} → statement M
 table-from-spec =

@@ -4,7 +4,7 @@ use Prim.Native.Nat.{ℕ}
 use mathlib.Core.Path.{ap, _∙_}
 use mathlib.Core.List.{List}
 use denote.Ref.{now}
-use Rattle.text.specs.Mark.{markAt}
+use Rattle.text.specs.Mark.{mark-at}
 use Rattle.operators.proofs.Pieces.{take-one}
 use borrow.Author.Needs.{needs}
 use Rattle.operators.proofs.read_among.Statement.{statement}
@@ -31,7 +31,7 @@ read-mark-requires c κs = search needs
 returns : tie.Need-returns
 returns c =
     let a = c .before .before .before .before .args in
-    c .read-mark .ensures ∙ ap (λ (l : List ℕ). markAt l (now (a .s)) (a .at)) (take-one (now (a .letters)) (a .kind) (c .before .before .before .before .pre))
+    c .read-mark .ensures ∙ ap (λ (l : List ℕ). mark-at l (now (a .s)) (a .at)) (take-one (now (a .letters)) (a .kind) (c .before .before .before .before .pre))
 
 pub read-among-spec : {M : Type 1} → statement M
 read-among-spec =

@@ -4,7 +4,7 @@ use Prim.Native.Nat.{ℕ}
 use mathlib.Core.Path.{ap, _∙_}
 use mathlib.Core.List.{List}
 use denote.Ref.{now}
-use Rattle.text.specs.Mark.{markAt}
+use Rattle.text.specs.Mark.{mark-at}
 use Rattle.operators.proofs.Pieces.{no-letter}
 use borrow.Author.Needs.{needs}
 use Rattle.operators.proofs.read_letter.Statement.{statement}
@@ -32,7 +32,7 @@ returns c = search needs
 returns-2 : tie.Need-returns-2
 returns-2 c =
     let a = c .before .before .before .before .args in
-    c .read-mark .ensures ∙ ap (λ (l : List ℕ). markAt l (now (a .s)) (a .at)) (no-letter (a .kind) (c .before .before .if1 .left))
+    c .read-mark .ensures ∙ ap (λ (l : List ℕ). mark-at l (now (a .s)) (a .at)) (no-letter (a .kind) (c .before .before .if1 .left))
 
 pub read-letter-spec : {M : Type 1} → statement M
 read-letter-spec =

@@ -1,7 +1,7 @@
 -- `operators::read_timed` meets its contract: each branch of the code is a case of the definition.
 -- Assumes nothing.
 use mathlib.Core.Path.{sym, refl, _∙_}
-use Rattle.grammar.specs.Reading.{timedAt}
+use Rattle.grammar.specs.Reading.{timed-at}
 use borrow.Author.Needs.{needs}
 use Rattle.operators.proofs.read_timed.Statement.{statement}
 use Rattle.operators.proofs.read_timed.Tie as tie
@@ -21,7 +21,7 @@ enum-told : tie.Need-enum-told
 enum-told c = search needs
 
 returns : tie.Need-returns
-unfolding timedAt
+unfolding timed-at
 returns c = rw (sym (c .before .before .read-letter .ensures) ∙ c .enum-told .given .1)
 
 read-window-requires : tie.Need-read-window-requires
@@ -31,7 +31,7 @@ over-requires : tie.Need-over-requires
 over-requires c κs = search needs
 
 returns-2 : tie.Need-returns-2
-unfolding timedAt
+unfolding timed-at
 returns-2 c = rw (sym (c .before .before .before .before .before .read-letter .ensures) ∙ c .before .before .before .next .given .1) (rw (c .before .read-window .ensures) at (c .over .ensures))
 
 pub read-timed-spec : {M : Type 1} → statement M

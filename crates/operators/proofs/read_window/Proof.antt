@@ -2,7 +2,7 @@
 -- Assumes nothing.
 use borrow.Author.Tests.{lt-ltb, le-ltb}
 use mathlib.Core.Path.{sym, refl, _∙_}
-use Rattle.grammar.specs.Reading.{windowAt}
+use Rattle.grammar.specs.Reading.{window-at}
 use borrow.Author.Needs.{needs}
 use Rattle.operators.proofs.read_window.Statement.{statement}
 use Rattle.operators.proofs.read_window.Tie as tie
@@ -25,7 +25,7 @@ enum-told : tie.Need-enum-told
 enum-told c = search needs
 
 returns : tie.Need-returns
-unfolding windowAt
+unfolding window-at
 returns c = rw (sym (c .before .before .read-field .ensures) ∙ c .enum-told .given .1)
 
 slice-aggregate-read-mark : tie.Need-slice-aggregate-read-mark
@@ -41,7 +41,7 @@ enum-told-2 : tie.Need-enum-told-2
 enum-told-2 c = search needs
 
 returns-2 : tie.Need-returns-2
-unfolding windowAt
+unfolding window-at
 returns-2 c = rw (sym (c .before .before .before .before .before .before .before .read-field .ensures) ∙ c .before .before .before .before .before .lo .given .1, sym (c .before .before .read-mark .ensures) ∙ c .enum-told2 .given .1)
 
 slice-aggregate-read-mark-2 : tie.Need-slice-aggregate-read-mark-2
@@ -54,7 +54,7 @@ enum-known-past : tie.Need-enum-known-past
 enum-known-past c = search needs
 
 returns-3 : tie.Need-returns-3
-unfolding windowAt
+unfolding window-at
 returns-3 c = rw (sym (c .before .before .before .before .before .before .before .before .before .before .before .before .before .read-field .ensures) ∙ c .before .before .before .before .before .before .before .before .before .before .before .lo .given .1, sym (c .before .before .before .before .before .before .before .before .read-mark .ensures) ∙ c .before .before .before .before .before .before .end .given .1, sym (c .before .before .before .read-mark2 .ensures) ∙ c .before .past .given .1)
 
 enum-told-3 : tie.Need-enum-told-3
@@ -70,7 +70,7 @@ enum-told-4 : tie.Need-enum-told-4
 enum-told-4 c = search needs
 
 returns-4 : tie.Need-returns-4
-unfolding windowAt
+unfolding window-at
 returns-4 c = rw (sym (c .before .before .before .before .before .before .before .before .before .before .before .before .before .before .before .read-field .ensures) ∙ c .before .before .before .before .before .before .before .before .before .before .before .before .before .lo .given .1, sym (c .before .before .before .before .before .before .before .before .before .before .read-mark .ensures) ∙ c .before .before .before .before .before .before .before .before .end .given .1, sym (c .before .before .before .before .before .read-mark2 .ensures) ∙ c .before .before .before .enum-told3 .given .1, sym (c .before .before .read-number .ensures) ∙ c .enum-told4 .given .1)
 
 slice-aggregate-read-mark-3 : tie.Need-slice-aggregate-read-mark-3
@@ -86,15 +86,15 @@ enum-told-5 : tie.Need-enum-told-5
 enum-told-5 c = search needs
 
 returns-5 : tie.Need-returns-5
-unfolding windowAt
+unfolding window-at
 returns-5 c = rw (sym (c .before .before .before .before .before .before .before .before .before .before .before .before .before .before .before .before .before .before .before .before .read-field .ensures) ∙ c .before .before .before .before .before .before .before .before .before .before .before .before .before .before .before .before .before .before .lo .given .1, sym (c .before .before .before .before .before .before .before .before .before .before .before .before .before .before .before .read-mark .ensures) ∙ c .before .before .before .before .before .before .before .before .before .before .before .before .before .end .given .1, sym (c .before .before .before .before .before .before .before .before .before .before .read-mark2 .ensures) ∙ c .before .before .before .before .before .before .before .before .enum-told3 .given .1, sym (c .before .before .before .before .before .before .before .read-number .ensures) ∙ c .before .before .before .before .before .hi .given .1, sym (c .before .before .read-mark3 .ensures) ∙ c .enum-told5 .given .1)
 
 returns-6 : tie.Need-returns-6
-unfolding windowAt
+unfolding window-at
 returns-6 c = rw (sym (c .before .before .before .before .before .before .before .before .before .before .before .before .before .before .before .before .before .before .before .before .before .before .read-field .ensures) ∙ c .before .before .before .before .before .before .before .before .before .before .before .before .before .before .before .before .before .before .before .before .lo .given .1, sym (c .before .before .before .before .before .before .before .before .before .before .before .before .before .before .before .before .before .read-mark .ensures) ∙ c .before .before .before .before .before .before .before .before .before .before .before .before .before .before .before .end .given .1, sym (c .before .before .before .before .before .before .before .before .before .before .before .before .read-mark2 .ensures) ∙ c .before .before .before .before .before .before .before .before .before .before .enum-told3 .given .1, sym (c .before .before .before .before .before .before .before .before .before .read-number .ensures) ∙ c .before .before .before .before .before .before .before .hi .given .1, sym (c .before .before .before .before .read-mark3 .ensures) ∙ c .before .before .next .given .1, lt-ltb _ _ (c .if1 .taken))
 
 returns-7 : tie.Need-returns-7
-unfolding windowAt
+unfolding window-at
 returns-7 c = rw (sym (c .before .before .before .before .before .before .before .before .before .before .before .before .before .before .before .before .before .before .before .before .before .before .read-field .ensures) ∙ c .before .before .before .before .before .before .before .before .before .before .before .before .before .before .before .before .before .before .before .before .lo .given .1, sym (c .before .before .before .before .before .before .before .before .before .before .before .before .before .before .before .before .before .read-mark .ensures) ∙ c .before .before .before .before .before .before .before .before .before .before .before .before .before .before .before .end .given .1, sym (c .before .before .before .before .before .before .before .before .before .before .before .before .read-mark2 .ensures) ∙ c .before .before .before .before .before .before .before .before .before .before .enum-told3 .given .1, sym (c .before .before .before .before .before .before .before .before .before .read-number .ensures) ∙ c .before .before .before .before .before .before .before .hi .given .1, sym (c .before .before .before .before .read-mark3 .ensures) ∙ c .before .before .next .given .1, le-ltb _ _ (c .if1 .left))
 
 pub read-window-spec : {M : Type 1} → statement M

@@ -3,7 +3,7 @@
 use mir.Syntax.{w64}
 use mir.Val.{toZ, ofZ}
 use mathlib.Core.Path.{_≡_}
-use Rattle.predicate_lines.specs.Lines.{endAt}
+use Rattle.predicate_lines.specs.Lines.{end-at}
 use mathlib.Core.Path.{sym, _∙_}
 use borrow.Author.Needs.{needs}
 use Rattle.predicate_lines.proofs.read_end.Statement.{statement}
@@ -19,7 +19,7 @@ enum-told : tie.Need-enum-told
 enum-told c = search needs
 
 returns : tie.Need-returns
-unfolding endAt
+unfolding end-at
 returns c = rw (sym (c .before .before .read-mark .ensures) ∙ c .enum-told .given .1)
 
 slice-aggregate-read-mark : tie.Need-slice-aggregate-read-mark
@@ -32,7 +32,7 @@ enum-known-after : tie.Need-enum-known-after
 enum-known-after c = search needs
 
 returns-2 : tie.Need-returns-2
-unfolding endAt
+unfolding end-at
 returns-2 c = rw (sym (c .before .before .before .before .before .before .before .before .read-mark .ensures) ∙ c .before .before .before .before .before .before .start .given .1, sym (c .before .before .before .read-mark2 .ensures) ∙ c .before .after .given .1)
 
 enum-told-2 : tie.Need-enum-told-2
@@ -48,11 +48,11 @@ enum-told-3 : tie.Need-enum-told-3
 enum-told-3 c = search needs
 
 returns-3 : tie.Need-returns-3
-unfolding endAt
+unfolding end-at
 returns-3 c = rw (sym (c .before .before .before .before .before .before .before .before .before .before .read-mark .ensures) ∙ c .before .before .before .before .before .before .before .before .start .given .1, sym (c .before .before .before .before .before .read-mark2 .ensures) ∙ c .before .before .before .enum-told2 .given .1, sym (c .before .before .read-number .ensures) ∙ c .enum-told3 .given .1)
 
 returns-4 : tie.Need-returns-4
-unfolding endAt
+unfolding end-at
 returns-4 c = let z : toZ w64 (ofZ w64 (c .before .value .given .0 .0)) ≡ c .before .value .given .0 .0 = search needs in rw (sym (c .before .before .before .before .before .before .before .before .before .before .before .read-mark .ensures) ∙ c .before .before .before .before .before .before .before .before .before .start .given .1, sym (c .before .before .before .before .before .before .read-mark2 .ensures) ∙ c .before .before .before .before .enum-told2 .given .1, sym (c .before .before .before .read-number .ensures) ∙ c .before .value .given .1, z)
 
 pub read-end-spec : {M : Type 1} → statement M

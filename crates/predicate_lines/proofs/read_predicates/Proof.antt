@@ -4,13 +4,13 @@ use borrow.Author.Needs.{needs}
 use borrow.Author.Tests.{not-true, not-false}
 use mathlib.Core.Path.{_≡_, refl, sym, _∙_}
 use Prim.Native.Nat.{_-_, _≤_}
-use Rattle.predicate_lines.specs.Lines.{linesFrom, linesAt}
+use Rattle.predicate_lines.specs.Lines.{lines-from, lines-at}
 use Rattle.predicate_lines.proofs.Steps.{lines-end, lines-over, lines-bad, lines-more}
 use Rattle.predicate_lines.proofs.read_predicates.Statement.{statement}
 use Rattle.predicate_lines.proofs.read_predicates.Tie as tie
 
 abbrev Inv-loop : tie.InvT-loop
-Inv-loop s at ps₀ turn₀ ps turn = (turn ≤ 16) × (linesFrom (16 - turn) s ps ≡ linesAt s at)
+Inv-loop s at ps₀ turn₀ ps turn = (turn ≤ 16) × (lines-from (16 - turn) s ps ≡ lines-at s at)
 
 abbrev μ-loop : tie.MeasureT-loop
 μ-loop s at ps₀ turn₀ ps turn = 16 - turn
@@ -19,7 +19,7 @@ unset-predicates-requires : tie.Need-unset-predicates-requires Inv-loop μ-loop
 unset-predicates-requires c κs = search needs
 
 loop-holds : tie.Need-loop-holds Inv-loop μ-loop
-unfolding linesAt
+unfolding lines-at
 loop-holds c = (search needs, rw (c .unset-predicates .ensures) refl)
 
 is-due-requires : tie.Need-is-due-requires Inv-loop μ-loop

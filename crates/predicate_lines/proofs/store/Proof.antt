@@ -1,7 +1,7 @@
 -- `predicate_lines::store` meets its contract: each branch of the code is a case of the definition.
 -- Assumes nothing.
 use borrow.Author.Tests.{not-true, not-false}
-use Rattle.predicate_lines.specs.Lines.{storedIn}
+use Rattle.predicate_lines.specs.Lines.{stored-in}
 use mathlib.Core.Path.{sym, _∙_}
 use borrow.Author.Needs.{needs}
 use Rattle.predicate_lines.proofs.store.Statement.{statement}
@@ -20,7 +20,7 @@ broken-requires : tie.Need-broken-requires
 broken-requires c κs = search needs
 
 returns : tie.Need-returns
-unfolding storedIn
+unfolding stored-in
 returns c = rw (sym (c .before .before .is-unset .ensures) ∙ not-true (c .before .before .is-unset .result) (c .before .if1 .taken)) (c .broken .ensures)
 
 mul-all : tie.Need-mul-all
@@ -30,7 +30,7 @@ array-set-from-all : tie.Need-array-set-from-all
 array-set-from-all c = search needs
 
 returns-2 : tie.Need-returns-2
-unfolding storedIn
+unfolding stored-in
 returns-2 c = rw (sym (c .before .before .is-unset .ensures) ∙ not-false (c .before .before .is-unset .result) (c .before .if1 .left))
 
 pub store-spec : {M : Type 1} → statement M

@@ -1,7 +1,7 @@
 -- `predicate_lines::with_line` meets its contract: each branch of the code is a case of the definition.
 -- Assumes nothing.
 use native.Mathlib.Omega.{arith}
-use Rattle.predicate_lines.specs.Lines.{withLine}
+use Rattle.predicate_lines.specs.Lines.{with-line}
 use Rattle.predicate_lines.proofs.Written.{line-is}
 use mathlib.Core.Path.{sym, _∙_}
 use borrow.Author.Needs.{needs}
@@ -21,14 +21,14 @@ broken-requires : tie.Need-broken-requires
 broken-requires c κs = search needs
 
 returns : tie.Need-returns
-unfolding withLine
+unfolding with-line
 returns c = rw (sym (c .before .before .before .read-line .ensures) ∙ c .before .enum-told .given .1) (c .broken .ensures)
 
 store-requires : tie.Need-store-requires
 store-requires c κs = omega (arith, line-is (c .before .before .before .before .before .args .s .now) _ _ _ _ (sym (c .before .before .before .read-line .ensures) ∙ c .before .number .given .1) .2 .known)
 
 returns-2 : tie.Need-returns-2
-unfolding withLine
+unfolding with-line
 returns-2 c = rw (sym (c .before .before .before .before .read-line .ensures) ∙ c .before .before .number .given .1) (c .store .ensures)
 
 pub with-line-spec : {M : Type 1} → statement M

@@ -6,11 +6,11 @@ use mathlib.Core.List.{List}
 use Prim.Native.Nat.{_+_, _-_, _*_, _≤_}
 use native.Mathlib.Omega.{arith}
 use lib.ListN.{length}
-use Rattle.grammar.specs.Operators.{andKind, orKind}
-use Rattle.grammar.specs.Reading.{bindAt, conjunctionAt, unaryBy}
+use Rattle.grammar.specs.Operators.{and-kind, or-kind}
+use Rattle.grammar.specs.Reading.{bind-at, conjunction-at, unary-by}
 use Rattle.building.specs.Storing.{Done}
 use Rattle.building.proofs.Stores.{step-none, refused-done, done-as, one-done, close-done}
-use Rattle.requirements.proofs.Readers.{Turning, bytesLeft, turning-start, turning-refused, turning-over, turning-past, turning-turn, turning-less, unary-leaf, unary-enclosed, unary-operator, mark-onward, prefix-onward, bind-onward, conjunction-onward, bind-refused, bind-past, bind-alone, bind-bad, bind-joined}
+use Rattle.requirements.proofs.Readers.{Turning, bytes-left, turning-start, turning-refused, turning-over, turning-past, turning-turn, turning-less, unary-leaf, unary-enclosed, unary-operator, mark-onward, prefix-onward, bind-onward, conjunction-onward, bind-refused, bind-past, bind-alone, bind-bad, bind-joined}
 use Prim.Native.Nat.{ℕ, _<_}
 use borrow.Fn.Kinds.{In}
 use borrow.Fn.PlainCycle.{Measures, is, falls, and}
@@ -122,10 +122,10 @@ read-unary-claims t = (read-leaf-reads.Asked, read-leaf-reads.Learnt, read-mark-
 
 abbrev read-alternative-Inv-loop : read-alternative-lts.InvT-loop
 read-alternative-Inv-loop s at depth free cells₀ p₀ cells p =
-    (before : List ℕ) → Done free (conjunctionAt depth s at) p₀ before cells₀ → Turning (conjunctionAt depth) orKind free s at (conjunctionAt depth s at) before p cells
+    (before : List ℕ) → Done free (conjunction-at depth s at) p₀ before cells₀ → Turning (conjunction-at depth) or-kind free s at (conjunction-at depth s at) before p cells
 
 abbrev read-alternative-μ-loop : read-alternative-lts.MeasureT-loop
-read-alternative-μ-loop s at depth free cells₀ p₀ cells p = bytesLeft s p
+read-alternative-μ-loop s at depth free cells₀ p₀ cells p = bytes-left s p
 
 read-alternative-read-conjunction-requires : (t : ℕ) → read-alternative-lts.Need-read-conjunction-requires (read-alternative-claims t) (read-alternative-at t) read-alternative.Post read-alternative-Inv-loop read-alternative-μ-loop
 read-alternative-read-conjunction-requires t c κs = search needs
@@ -217,10 +217,10 @@ read-bind-returns-4 t c = bind-bad _ _ _ _ _ _ _ (c .before .before .before .bef
 
 abbrev read-conjunction-Inv-loop : read-conjunction-lts.InvT-loop
 read-conjunction-Inv-loop s at depth free cells₀ p₀ cells p =
-    (before : List ℕ) → Done free (bindAt depth s at) p₀ before cells₀ → Turning (bindAt depth) andKind free s at (bindAt depth s at) before p cells
+    (before : List ℕ) → Done free (bind-at depth s at) p₀ before cells₀ → Turning (bind-at depth) and-kind free s at (bind-at depth s at) before p cells
 
 abbrev read-conjunction-μ-loop : read-conjunction-lts.MeasureT-loop
-read-conjunction-μ-loop s at depth free cells₀ p₀ cells p = bytesLeft s p
+read-conjunction-μ-loop s at depth free cells₀ p₀ cells p = bytes-left s p
 
 read-conjunction-read-bind-requires : (t : ℕ) → read-conjunction-lts.Need-read-bind-requires (read-conjunction-claims t) (read-conjunction-at t) read-conjunction.Post read-conjunction-Inv-loop read-conjunction-μ-loop
 read-conjunction-read-bind-requires t c κs = search needs
@@ -324,19 +324,19 @@ read-unary-enum-told-3 : (t : ℕ) → read-unary-lts.Need-enum-told-3 (read-una
 read-unary-enum-told-3 t c = search needs
 
 read-unary-returns-3 : (t : ℕ) → read-unary-lts.Need-returns-3 (read-unary-claims t) (read-unary-at t) read-unary.Post
-unfolding unaryBy
+unfolding unary-by
 read-unary-returns-3 t c =
     done-as _ _ _ _ _ _ (unary-operator _ _ _ (c .before .before .before .before .before .before .before .before .before .if1 .left) (sym (c .before .before .before .before .before .before .before .read-mark .ensures) ∙ c .before .before .before .before .before .enum-told .given .1) _ (sym (c .before .before .before .before .read-prefix .ensures) ∙ c .before .before .enum-told2 .given .1))
     (c .read-leaf2 .ensures)
 
 read-unary-returns-4 : (t : ℕ) → read-unary-lts.Need-returns-4 (read-unary-claims t) (read-unary-at t) read-unary.Post
-unfolding unaryBy
+unfolding unary-by
 read-unary-returns-4 t c =
     done-as _ _ _ _ _ _ (unary-operator _ _ _ (c .before .before .before .before .before .before .before .before .before .before .before .before .if1 .left) (sym (c .before .before .before .before .before .before .before .before .before .before .read-mark .ensures) ∙ c .before .before .before .before .before .before .before .before .enum-told .given .1) _ (sym (c .before .before .before .before .before .before .before .read-prefix .ensures) ∙ c .before .before .before .before .before .kind .given .1))
     (one-done _ _ _ _ _ _ _ _ _ (c .before .before .read-unary .ensures) (c .wrap .ensures .0) (c .wrap .ensures .1))
 
 read-unary-returns-5 : (t : ℕ) → read-unary-lts.Need-returns-5 (read-unary-claims t) (read-unary-at t) read-unary.Post
-unfolding unaryBy
+unfolding unary-by
 read-unary-returns-5 t c =
     done-as _ _ _ _ _ _ (unary-operator _ _ _ (c .before .before .before .before .before .before .before .if1 .left) (sym (c .before .before .before .before .before .read-mark .ensures) ∙ c .before .before .before .enum-told .given .1) _ (sym (c .before .before .read-prefix .ensures) ∙ c .enum-told3 .given .1))
     (refused-done _ _ _ _ (step-none _))

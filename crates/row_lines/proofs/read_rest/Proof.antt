@@ -1,7 +1,7 @@
 -- `row_lines::read_rest` meets its contract: each branch of the code is a case of the definition.
 -- Assumes nothing.
 use mathlib.Core.Path.{sym, _∙_}
-use Rattle.row_lines.specs.Rows.{restAt}
+use Rattle.row_lines.specs.Rows.{rest-at}
 use borrow.Author.Needs.{needs}
 use Rattle.row_lines.proofs.read_rest.Statement.{statement}
 use Rattle.row_lines.proofs.read_rest.Tie as tie
@@ -16,7 +16,7 @@ enum-told : tie.Need-enum-told
 enum-told c = search needs
 
 returns : tie.Need-returns
-unfolding restAt
+unfolding rest-at
 returns c = rw (sym (c .before .before .read-values .ensures) ∙ c .enum-told .given .1)
 
 slice-aggregate-read-mark : tie.Need-slice-aggregate-read-mark
@@ -26,7 +26,7 @@ read-mark-requires : tie.Need-read-mark-requires
 read-mark-requires c κs = search needs
 
 returns-2 : tie.Need-returns-2
-unfolding restAt
+unfolding rest-at
 returns-2 c = rw (sym (c .before .before .before .before .before .read-values .ensures) ∙ c .before .before .before .end .given .1) (c .read-mark .ensures)
 
 pub read-rest-spec : {M : Type 1} → statement M

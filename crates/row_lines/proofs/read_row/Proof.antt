@@ -1,7 +1,7 @@
 -- `row_lines::read_row` meets its contract: each branch of the code is a case of the definition.
 -- Assumes nothing.
 use mathlib.Core.Path.{sym, _∙_}
-use Rattle.row_lines.specs.Rows.{rowAt}
+use Rattle.row_lines.specs.Rows.{row-at}
 use borrow.Author.Needs.{needs}
 use Rattle.row_lines.proofs.read_row.Statement.{statement}
 use Rattle.row_lines.proofs.read_row.Tie as tie
@@ -19,7 +19,7 @@ enum-told : tie.Need-enum-told
 enum-told c = search needs
 
 returns : tie.Need-returns
-unfolding rowAt
+unfolding row-at
 returns c = rw (sym (c .before .before .read-field .ensures) ∙ c .enum-told .given .1)
 
 slice-aggregate-read-mark : tie.Need-slice-aggregate-read-mark
@@ -35,7 +35,7 @@ enum-told-2 : tie.Need-enum-told-2
 enum-told-2 c = search needs
 
 returns-2 : tie.Need-returns-2
-unfolding rowAt
+unfolding row-at
 returns-2 c = rw (sym (c .before .before .before .before .before .before .before .read-field .ensures) ∙ c .before .before .before .before .before .time .given .1, sym (c .before .before .read-mark .ensures) ∙ c .enum-told2 .given .1)
 
 slice-aggregate-read-mark-2 : tie.Need-slice-aggregate-read-mark-2
@@ -57,11 +57,11 @@ enum-told-3 : tie.Need-enum-told-3
 enum-told-3 c = search needs
 
 returns-3 : tie.Need-returns-3
-unfolding rowAt
+unfolding row-at
 returns-3 c = rw (sym (c .before .before .before .before .before .before .before .before .before .before .before .before .before .before .before .before .read-field .ensures) ∙ c .before .before .before .before .before .before .before .before .before .before .before .before .before .before .time .given .1, sym (c .before .before .before .before .before .before .before .before .before .before .before .read-mark .ensures) ∙ c .before .before .before .before .before .before .before .before .before .source .given .1, sym (c .before .before .before .before .before .before .read-mark2 .ensures) ∙ c .before .before .before .before .values .given .1, sym (c .before .before .read-rest .ensures) ∙ c .enum-told3 .given .1)
 
 returns-4 : tie.Need-returns-4
-unfolding rowAt
+unfolding row-at
 returns-4 c = rw (sym (c .before .before .before .before .before .before .before .before .before .before .before .before .before .before .before .before .before .read-field .ensures) ∙ c .before .before .before .before .before .before .before .before .before .before .before .before .before .before .before .time .given .1, sym (c .before .before .before .before .before .before .before .before .before .before .before .before .read-mark .ensures) ∙ c .before .before .before .before .before .before .before .before .before .before .source .given .1, sym (c .before .before .before .before .before .before .before .read-mark2 .ensures) ∙ c .before .before .before .before .before .values .given .1, sym (c .before .before .before .read-rest .ensures) ∙ c .before .next .given .1)
 
 enum-told-4 : tie.Need-enum-told-4
@@ -80,7 +80,7 @@ enum-told-5 : tie.Need-enum-told-5
 enum-told-5 c = search needs
 
 returns-5 : tie.Need-returns-5
-unfolding rowAt
+unfolding row-at
 returns-5 c = rw (sym (c .before .before .before .before .before .before .before .before .before .before .before .before .before .before .before .before .read-field .ensures) ∙ c .before .before .before .before .before .before .before .before .before .before .before .before .before .before .time .given .1, sym (c .before .before .before .before .before .before .before .before .before .before .before .read-mark .ensures) ∙ c .before .before .before .before .before .before .before .before .before .source .given .1, sym (c .before .before .before .before .before .before .read-mark2 .ensures) ∙ c .before .before .before .before .enum-told4 .given .1, sym (c .before .before .read-mark3 .ensures) ∙ c .enum-told5 .given .1)
 
 read-rest-requires-2 : tie.Need-read-rest-requires-2
@@ -93,11 +93,11 @@ enum-told-6 : tie.Need-enum-told-6
 enum-told-6 c = search needs
 
 returns-6 : tie.Need-returns-6
-unfolding rowAt
+unfolding row-at
 returns-6 c = rw (sym (c .before .before .before .before .before .before .before .before .before .before .before .before .before .before .before .before .before .before .before .before .read-field .ensures) ∙ c .before .before .before .before .before .before .before .before .before .before .before .before .before .before .before .before .before .before .time .given .1, sym (c .before .before .before .before .before .before .before .before .before .before .before .before .before .before .before .read-mark .ensures) ∙ c .before .before .before .before .before .before .before .before .before .before .before .before .before .source .given .1, sym (c .before .before .before .before .before .before .before .before .before .before .read-mark2 .ensures) ∙ c .before .before .before .before .before .before .before .before .enum-told4 .given .1, sym (c .before .before .before .before .before .before .read-mark3 .ensures) ∙ c .before .before .before .before .values2 .given .1, sym (c .before .before .read-rest2 .ensures) ∙ c .enum-told6 .given .1)
 
 returns-7 : tie.Need-returns-7
-unfolding rowAt
+unfolding row-at
 returns-7 c = rw (sym (c .before .before .before .before .before .before .before .before .before .before .before .before .before .before .before .before .before .before .before .before .before .read-field .ensures) ∙ c .before .before .before .before .before .before .before .before .before .before .before .before .before .before .before .before .before .before .before .time .given .1, sym (c .before .before .before .before .before .before .before .before .before .before .before .before .before .before .before .before .read-mark .ensures) ∙ c .before .before .before .before .before .before .before .before .before .before .before .before .before .before .source .given .1, sym (c .before .before .before .before .before .before .before .before .before .before .before .read-mark2 .ensures) ∙ c .before .before .before .before .before .before .before .before .before .enum-told4 .given .1, sym (c .before .before .before .before .before .before .before .read-mark3 .ensures) ∙ c .before .before .before .before .before .values2 .given .1, sym (c .before .before .before .read-rest2 .ensures) ∙ c .before .skipped .given .1)
 
 pub read-row-spec : {M : Type 1} → statement M

@@ -2,7 +2,7 @@
 -- Assumes nothing.
 use mathlib.Core.Path.{sym, _∙_}
 use borrow.Author.Tests.{eq-eqb, ne-eqb}
-use Rattle.row_lines.specs.Rows.{valueAt}
+use Rattle.row_lines.specs.Rows.{value-at}
 use borrow.Author.Needs.{needs}
 use Rattle.row_lines.proofs.read_value.Statement.{statement}
 use Rattle.row_lines.proofs.read_value.Tie as tie
@@ -20,11 +20,11 @@ enum-told : tie.Need-enum-told
 enum-told c = search needs
 
 returns : tie.Need-returns
-unfolding valueAt
+unfolding value-at
 returns c = rw (sym (c .before .before .read-field .ensures) ∙ c .enum-told .given .1)
 
 returns-2 : tie.Need-returns-2
-unfolding valueAt
+unfolding value-at
 returns-2 c = rw (sym (c .before .before .before .before .read-field .ensures) ∙ c .before .before .number .given .1, ne-eqb _ _ (c .if1 .taken))
 
 slice-aggregate-read-field-2 : tie.Need-slice-aggregate-read-field-2
@@ -34,7 +34,7 @@ read-field-requires-2 : tie.Need-read-field-requires-2
 read-field-requires-2 c κs = search needs
 
 returns-3 : tie.Need-returns-3
-unfolding valueAt
+unfolding value-at
 returns-3 c = rw (sym (c .before .before .before .before .before .before .read-field .ensures) ∙ c .before .before .before .before .number .given .1, eq-eqb _ _ (c .before .before .if1 .left)) (c .read-field2 .ensures)
 
 pub read-value-spec : {M : Type 1} → statement M

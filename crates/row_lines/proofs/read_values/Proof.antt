@@ -4,14 +4,14 @@ use borrow.Author.Needs.{needs}
 use mathlib.Core.Path.{_≡_, refl, sym, ap, _∙_}
 use Prim.Native.Nat.{_-_, _≤_}
 use native.Mathlib.Nat.{sub-zero}
-use Rattle.row_lines.specs.Rows.{valuesFrom, endOf}
+use Rattle.row_lines.specs.Rows.{values-from, end-of}
 use Rattle.row_lines.proofs.Steps.{values-over, values-none, ends-next}
 use Rattle.row_lines.proofs.read_values.Statement.{statement}
 use Rattle.row_lines.proofs.read_values.Tie as tie
 
 abbrev Inv-loop : tie.InvT-loop
 Inv-loop s at channels next₀ channel₀ next channel =
-    (channel ≤ channels) × (endOf (valuesFrom (channels - channel) channel s next) ≡ endOf (valuesFrom channels 0 s at))
+    (channel ≤ channels) × (end-of (values-from (channels - channel) channel s next) ≡ end-of (values-from channels 0 s at))
 
 abbrev μ-loop : tie.MeasureT-loop
 μ-loop s at channels next₀ channel₀ next channel = channels - channel
@@ -29,7 +29,7 @@ enum-told : tie.Need-enum-told Inv-loop μ-loop
 enum-told c = search needs
 
 returns : tie.Need-returns Inv-loop μ-loop
-returns c = sym (ap endOf (values-none _ _ _ _ (c .before .before .before .loop-test .taken) (sym (c .before .before .read-value .ensures) ∙ c .enum-told .given .1))) ∙ c .before .before .before .before .loop .inv .1
+returns c = sym (ap end-of (values-none _ _ _ _ (c .before .before .before .loop-test .taken) (sym (c .before .before .read-value .ensures) ∙ c .enum-told .given .1))) ∙ c .before .before .before .before .loop .inv .1
 
 add-channel : tie.Need-add-channel Inv-loop μ-loop
 add-channel c = search needs
@@ -43,7 +43,7 @@ loop-again c =
     (search needs, ends-next _ _ _ _ _ _ (b .before .loop-test .taken) (sym (b .read-value .ensures) ∙ c .before .end .given .1) ∙ b .before .before .loop .inv .1)
 
 returns-2 : tie.Need-returns-2 Inv-loop μ-loop
-returns-2 c = sym (ap endOf (values-over _ _ _ _ (c .loop-test .left))) ∙ c .before .loop .inv .1
+returns-2 c = sym (ap end-of (values-over _ _ _ _ (c .loop-test .left))) ∙ c .before .loop .inv .1
 
 pub read-values-spec : {M : Type 1} → statement M
 read-values-spec =

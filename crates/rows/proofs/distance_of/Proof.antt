@@ -2,7 +2,7 @@
 -- Assumes nothing.
 use mathlib.Core.Path.{refl, sym, ap, ap₂, _∙_, subst}
 use borrow.Author.Needs.{needs}
-use Rattle.numbers.specs.Order.{smallerOf}
+use Rattle.numbers.specs.Order.{smaller-of}
 use Rattle.numbers.proofs.Bits.{back-ok}
 use Rattle.recordings.specs.declared.Range.{Range}
 use Rattle.recordings.specs.Distance.{TOP, distance}
@@ -67,7 +67,7 @@ returns-5 c =
     let y = c .before .clearance-of4 in
     let a = back-ok (x .result) (x .ok) ∙ clearance-back _ _ (subst Ends g (s .pre .1) .0) (s .pre .0) (x .ensures) in
     let b = back-ok (y .result) (y .ok) ∙ clearance-back _ _ (s .pre .0) (subst Ends g (s .pre .1) .1) (y .ensures) in
-    back-ok (c .smaller .result) (c .smaller .ok) ∙ c .smaller .ensures ∙ ap₂ smallerOf a b ∙ sym (ap (λ (r : Range). distance TOP r (s .args .value)) g)
+    back-ok (c .smaller .result) (c .smaller .ok) ∙ c .smaller .ensures ∙ ap₂ smaller-of a b ∙ sym (ap (λ (r : Range). distance TOP r (s .args .value)) g)
 
 pub distance-of-spec : {M : Type 1} → statement M
 distance-of-spec =

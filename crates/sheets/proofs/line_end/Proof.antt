@@ -5,13 +5,13 @@ use mathlib.Core.Path.{_≡_, refl}
 use Prim.Native.Nat.{_+_, _-_}
 use native.Mathlib.Omega.{arith}
 use lib.ListN.{length, drop}
-use Rattle.sheets.specs.Sheets.{untilFeed}
+use Rattle.sheets.specs.Sheets.{until-feed}
 use Rattle.sheets.proofs.Steps.{feed-over, feed-here, feed-next}
 use Rattle.sheets.proofs.line_end.Statement.{statement}
 use Rattle.sheets.proofs.line_end.Tie as tie
 
 abbrev Inv-loop : tie.InvT-loop
-Inv-loop s at end₀ end = end + length (untilFeed (drop end s)) ≡ at + length (untilFeed (drop at s))
+Inv-loop s at end₀ end = end + length (until-feed (drop end s)) ≡ at + length (until-feed (drop at s))
 
 abbrev μ-loop : tie.MeasureT-loop
 μ-loop s at end₀ end = length s - end

@@ -1,6 +1,6 @@
 -- `sheets::read_requirement` meets its contract: each branch of the code is a case of the definition.
 -- Assumes nothing.
-use Rattle.sheets.specs.Sheets.{requirementAt}
+use Rattle.sheets.specs.Sheets.{requirement-at}
 use Rattle.sheets.proofs.Chain.{line-open, line-whole}
 use mathlib.Core.Path.{sym, _∙_}
 use borrow.Author.Needs.{needs}
@@ -20,7 +20,7 @@ enum-told : tie.Need-enum-told
 enum-told c = search needs
 
 returns : tie.Need-returns
-unfolding requirementAt
+unfolding requirement-at
 returns c = rw (sym (c .before .before .read-mark .ensures) ∙ c .enum-told .given .1)
 
 line-end-requires : tie.Need-line-end-requires

@@ -5,7 +5,7 @@ use Prim.Native.Nat.{_+_, _≤_}
 use native.Mathlib.Omega.{arith}
 use lib.ListN.{length}
 use denote.Ref.{now}
-use Rattle.text.specs.Mark.{markAt}
+use Rattle.text.specs.Mark.{mark-at}
 use Rattle.text.proofs.Marks.{key-inside}
 use borrow.Author.Needs.{needs}
 use Rattle.text.proofs.read_mark.Statement.{statement}
@@ -24,11 +24,11 @@ add-t7 : tie.Need-add-t7
 add-t7 c = let h = inside c in omega arith
 
 returns : tie.Need-returns
-unfolding markAt
+unfolding mark-at
 returns c = rw (sym (c .before .key-at .ensures) ∙ c .if1 .taken)
 
 returns-2 : tie.Need-returns-2
-unfolding markAt
+unfolding mark-at
 returns-2 c = rw (sym (c .before .key-at .ensures) ∙ c .if1 .left)
 
 pub read-mark-spec : {M : Type 1} → statement M

@@ -7,7 +7,7 @@ use mathlib.Core.Path.{_≡_, sym, _∙_}
 use native.Mathlib.Nat.{lt-of-lt-of-le, pow-le-pow-right}
 use mathlib.Core.Bool.{true, false}
 use lib.ListN.{getD, length}
-use Rattle.text.specs.Number.{isDigit}
+use Rattle.text.specs.Number.{is-digit}
 use Rattle.text.proofs.Digits.{Run, run-start, run-step, run-done, run-long, digit-inside, digit-range}
 use Rattle.text.proofs.read_number.Statement.{statement}
 use Rattle.text.proofs.read_number.Tie as tie
@@ -25,10 +25,10 @@ abbrev μ-loop : tie.MeasureT-loop
 μ-loop s at max i₀ value₀ i value = at + 10 - i
 
 -- a digit stands at i in a turn, and none after the loop
-digit-here : (c : tie.Then1 Inv-loop μ-loop) → isDigit (getD (c .before .before .before .before .before .args .s .now) (c .before .before .before .loop .i) 0) ≡ true
+digit-here : (c : tie.Then1 Inv-loop μ-loop) → is-digit (getD (c .before .before .before .before .before .args .s .now) (c .before .before .before .loop .i) 0) ≡ true
 digit-here c = cc
 
-none-here : (c : tie.Else1 Inv-loop μ-loop) → isDigit (getD (c .before .before .before .before .before .args .s .now) (c .before .before .before .loop .i) 0) ≡ false
+none-here : (c : tie.Else1 Inv-loop μ-loop) → is-digit (getD (c .before .before .before .before .before .args .s .now) (c .before .before .before .loop .i) 0) ≡ false
 none-here c = cc
 
 inside : (c : tie.Then1 Inv-loop μ-loop) → c .before .before .before .loop .i < length (c .before .before .before .before .before .args .s .now)

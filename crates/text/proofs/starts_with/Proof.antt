@@ -4,7 +4,7 @@ use borrow.Author.Needs.{needs}
 use mathlib.Core.Path.{_≡_, refl, _∙_}
 use Prim.Native.Nat.{_-_, _≤_}
 use lib.ListN.{length, drop}
-use Rattle.text.specs.Mark.{prefixOf}
+use Rattle.text.specs.Mark.{prefix-of}
 use Rattle.text.proofs.Marks.{prefix-step, prefix-differ, prefix-short, prefix-end}
 use Rattle.text.proofs.starts_with.Statement.{statement}
 use Rattle.text.proofs.starts_with.Tie as tie
@@ -12,7 +12,7 @@ use Rattle.text.proofs.starts_with.Reads as reads
 use Rattle.text.proofs.starts_with.Lts as lts
 
 abbrev Inv-loop : tie.InvT-loop
-Inv-loop s key i₀ i = (i ≤ length key) × (prefixOf (drop i key) (drop i s) ≡ prefixOf key s)
+Inv-loop s key i₀ i = (i ≤ length key) × (prefix-of (drop i key) (drop i s) ≡ prefix-of key s)
 
 abbrev μ-loop : tie.MeasureT-loop
 μ-loop s key i₀ i = length key - i

@@ -4,7 +4,7 @@ use mir.Syntax.{w64}
 use mir.ValLaws.{toZ-ofZ}
 use borrow.Author.Tests.{eq-eqb, ne-eqb}
 use Rattle.text.proofs.Numerals.{number-is}
-use Rattle.text.specs.Number.{signedAt}
+use Rattle.text.specs.Number.{signed-at}
 use mathlib.Core.Path.{sym, refl, _∙_}
 use borrow.Author.Needs.{needs}
 use Rattle.text.proofs.signed.read_number.Statement.{statement}
@@ -38,14 +38,14 @@ enum-told-2 : tie.Need-enum-told-2
 enum-told-2 c = search needs
 
 returns : tie.Need-returns
-unfolding signedAt
+unfolding signed-at
 returns c = rw (sym (c .before .before .before .before .before .read-mark .ensures) ∙ c .before .before .before .enum-told .given .1, sym (c .before .before .read-number .ensures) ∙ c .enum-told2 .given .1)
 
 positive-requires : tie.Need-positive-requires
 positive-requires c κs = number-is _ _ _ _ _ (sym (c .before .before .before .read-number .ensures) ∙ c .before .value .given .1) .bound
 
 returns-2 : tie.Need-returns-2
-unfolding signedAt
+unfolding signed-at
 returns-2 c = rw (sym (c .before .before .before .before .before .before .before .read-mark .ensures) ∙ c .before .before .before .before .before .enum-told .given .1, sym (c .before .before .before .before .read-number .ensures) ∙ c .before .before .value .given .1, toZ-ofZ w64 (c .positive .result) (record { sfits = c .positive .ok }), c .positive .ensures)
 
 read-number-requires-2 : tie.Need-read-number-requires-2
@@ -58,18 +58,18 @@ enum-told-3 : tie.Need-enum-told-3
 enum-told-3 c = search needs
 
 returns-3 : tie.Need-returns-3
-unfolding signedAt
+unfolding signed-at
 returns-3 c = rw (sym (c .before .before .before .before .before .before .read-mark .ensures) ∙ c .before .before .before .before .digits .given .1, sym (c .before .before .read-number2 .ensures) ∙ c .enum-told3 .given .1)
 
 returns-4 : tie.Need-returns-4
-unfolding signedAt
+unfolding signed-at
 returns-4 c = rw (sym (c .before .before .before .before .before .before .before .before .read-mark .ensures) ∙ c .before .before .before .before .before .before .digits .given .1, sym (c .before .before .before .before .read-number2 .ensures) ∙ c .before .before .size .given .1, eq-eqb _ _ (c .if1 .taken))
 
 negative-requires : tie.Need-negative-requires
 negative-requires c κs = number-is _ _ _ _ _ (sym (c .before .before .before .before .read-number2 .ensures) ∙ c .before .before .size .given .1) .bound
 
 returns-5 : tie.Need-returns-5
-unfolding signedAt
+unfolding signed-at
 returns-5 c = rw (sym (c .before .before .before .before .before .before .before .before .before .read-mark .ensures) ∙ c .before .before .before .before .before .before .before .digits .given .1, sym (c .before .before .before .before .before .read-number2 .ensures) ∙ c .before .before .before .size .given .1, ne-eqb _ _ (c .before .if1 .left), toZ-ofZ w64 (c .negative .result) (record { sfits = c .negative .ok }), c .negative .ensures)
 
 pub read-number-spec : {M : Type 1} → statement M
