@@ -1,25 +1,19 @@
 -- A predicate is read exactly where a predicate's line is written.
 -- Assumes nothing.
 use mathlib.Core.Path.{_≡_, refl, sym, ap, _∙_}
-use mathlib.Core.List.{List, [], _∷_, _++_, append-assoc}
-use mathlib.Core.Bool.{true, false}
+use mathlib.Core.List.{List, [], _++_, append-assoc}
+use mathlib.Core.Bool.{false}
 use Prim.Native.Nat.{ℕ, _+_, _<_}
 use native.Mathlib.Omega.{arith}
 use lib.ListN.{length, getD, drop}
-use lib.IntN.{ℤ}
-use borrow.Author.Tests.{ne-eqb}
 use Rattle.text.specs.Bytes.{bytes}
-use Rattle.text.specs.Mark.{prefix-of, mark-at}
+use Rattle.text.specs.Mark.{mark-at}
 use Rattle.text.specs.Number.{is-digit, largest, field-at, signed-at}
-use Rattle.text.specs.Numeral.{Numeral}
 use Rattle.text.specs.declared.Mark.the-variants.{Next}
 use Rattle.text.specs.declared.Field.the-variants.{Number}
 use Rattle.text.proofs.Places.{Between, between-both}
-use Rattle.text.proofs.Digits.{digit-range}
-use Rattle.text.proofs.Numerals.{numeral-begins}
-use Rattle.text.proofs.Answers.{mark-is, mark-missing, field-is}
-use Rattle.row_lines.specs.Form.{Signed, plain, minus}
-use Rattle.row_lines.proofs.Fields.{mark-case, number-case, signed-case, signed-bytes, mark-taken, field-taken, signed-taken}
+use Rattle.text.proofs.Answers.{mark-is, mark-first, field-is}
+use Rattle.row_lines.proofs.Fields.{mark-case, number-case, signed-case, signed-bytes, signed-first, mark-taken, field-taken, signed-taken}
 use Rattle.row_lines.proofs.Lines.{count, count-append, numeral-count, signed-count, Fed}
 use Rattle.recordings.specs.declared.Predicate.{Predicate}
 use Rattle.predicate_lines.specs.declared.Bound.{Bound}
@@ -55,20 +49,6 @@ end-case P End·Bad f a h k = k
 end-is : (key s : List ℕ) (at : ℕ) (b : Bound) (n : ℕ) → end-at key s at ≡ Read b n → (w : List ℕ) × Between s at n (key ++ w) × Form·End w b
 end-is key s at b n h = rw h at (end-here key s at)
 
--- a number does not begin with `*`
-numeral-starless : {w : List ℕ} {v : ℕ} (r : List ℕ) → Numeral w v → prefix-of (bytes "*") (w ++ r) ≡ false
-unfolding prefix-of
-numeral-starless {w} r m = go w (numeral-begins m)
-  where
-    go : (w : List ℕ) → (0 < length w) × (is-digit (getD w 0 0) ≡ true) → prefix-of (bytes "*") (w ++ r) ≡ false
-    go [] h = absurd (omega (arith, h .0))
-    go (b ∷ w) h = let d = digit-range b (h .1) in rw (ne-eqb b 42 (λ (e : b ≡ 42). omega arith))
-
-starless : {w : List ℕ} {v : ℤ} (r : List ℕ) → Signed w v → prefix-of (bytes "*") (w ++ r) ≡ false
-unfolding prefix-of
-starless r (plain m l) = numeral-starless r m
-starless r (minus m p l) = refl
-
 end-taken : (s : List ℕ) (at : ℕ) (r : List ℕ) → is-digit (getD r 0 0) ≡ false → (key : List ℕ) → 0 < length key
     → {w : List ℕ} {b : Bound} → drop at s ≡ key ++ (w ++ r) → Form·End w b → (n : ℕ) × (end-at key s at ≡ Read b n) × (drop n s ≡ r)
 unfolding end-at
@@ -79,7 +59,7 @@ end-taken s at r stop key p e star =
 end-taken s at r stop key p e (number {w} {v} sg) =
     let k = mark-taken s at (w ++ r) key p e in
     let n = signed-taken s (k .0) r stop (k .2) sg in
-    (n .0, rw (k .1, mark-missing (bytes "*") s (k .0) (k .2) (starless r sg), n .1), n .2)
+    (n .0, rw (k .1, mark-first 42 [] s (k .0) (w ++ r) (k .2) (signed-first 42 refl refl r sg), n .1), n .2)
 
 -- ---- a line
 

@@ -69,7 +69,7 @@ RowsHere ch s at (listed xs k) = Rows ch (lines (drop at s)) xs k
 RowsHere ch s at broken = Unit
 
 -- a line, and the lines behind it
-fed-lines : {s l : List ℕ} {at n : ℕ} → Between s at n l → Fed l → lines (drop at s) ≡ l ∷ lines (drop n s)
+pub fed-lines : {s l : List ℕ} {at n : ℕ} → Between s at n l → Fed l → lines (drop at s) ≡ l ∷ lines (drop n s)
 fed-lines {s} {l} {at} {n} b f = rw (b .bytes) (lines-fed (drop n s) f)
 
 measured-here : (ch : ℕ) (s : List ℕ) (at t a n : ℕ) (y : Listing) → RowHere ch s at (Measured t a n) → RowsHere ch s n y → RowsHere ch s at (also-measured (sample-at s ch t a) y)

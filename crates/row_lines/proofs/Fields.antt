@@ -1,16 +1,16 @@
 -- A mark, a number and a signed number are read exactly where their bytes stand: what a reader above takes out of an answer, and how it is led to one.
 -- Assumes nothing.
-use mathlib.Core.Path.{_≡_, refl}
-use mathlib.Core.List.{List, [], _∷_, _++_}
+use mathlib.Core.Path.{_≡_, refl, sym, ap, _∙_}
+use mathlib.Core.List.{List, [], _++_}
 use mathlib.Core.Bool.{Bool, true, false, cond}
 use Prim.Native.Nat.{ℕ, _+_, _^_, _≤_, _<_}
 use native.Mathlib.Omega.{arith}
-use lib.ListN.{length, getD, drop}
+use lib.ListN.{length, getD, drop, List·getD-append}
 use lib.IntN.{ℤ}
 use lib.Dec.{eqb}
 use borrow.Author.Tests.{ne-eqb, eqb-false}
 use Rattle.text.specs.Bytes.{bytes}
-use Rattle.text.specs.Mark.{prefix-of, mark-at, after-mark}
+use Rattle.text.specs.Mark.{mark-at, after-mark}
 use Rattle.text.specs.Number.{is-digit, largest-signed, number-at, field-at, signed-at, signed-field-at, after-number, after-signed}
 use Rattle.text.specs.Numeral.{Numeral}
 use Rattle.text.specs.declared.Mark.{Mark}
@@ -19,10 +19,10 @@ use Rattle.text.specs.declared.Field.{Field}
 use Rattle.text.specs.declared.Field.the-variants.{Number, Bad}
 use Rattle.text.specs.declared.signed.Field.{Field as SignedField}
 use Rattle.text.specs.declared.signed.Field.the-variants.{Number as Signed·Number, Bad as Signed·Bad}
+use Rattle.text.proofs.Tests.{false-true}
 use Rattle.text.proofs.Places.{Between, between-both, after-bytes}
-use Rattle.text.proofs.Digits.{digit-range}
 use Rattle.text.proofs.Numerals.{number-is, number-made, numeral-begins}
-use Rattle.text.proofs.Answers.{mark-is, mark-made, mark-missing}
+use Rattle.text.proofs.Answers.{mark-is, mark-made, mark-first, field-made}
 use Rattle.row_lines.specs.Form.{Signed, plain, minus}
 
 -- ---- what holds of an answer, by its cases
@@ -89,27 +89,26 @@ module _ (s : List ℕ) (at : ℕ) (r : List ℕ) where
 pub field-taken : (s : List ℕ) (at : ℕ) (r : List ℕ) → is-digit (getD r 0 0) ≡ false → (key : List ℕ) → 0 < length key
     → (max : ℕ) {v : ℕ} {w : List ℕ} → drop at s ≡ key ++ (w ++ r) → Numeral w v → v ≤ max → max < 10 ^ 10
     → (n : ℕ) × (field-at key s at max ≡ Number v n) × (drop n s ≡ r)
-unfolding field-at
 field-taken s at r stop key p max {v} {w} e m l b =
-    let k = mark-taken s at (w ++ r) key p e in
-    let n = number-taken s (k .0) r stop max (k .2) m l b in
-    (n .0, rw (k .1) (n .1), n .2)
+    (at + length key + length w, field-made key s at max v w r p e m l b stop, after-bytes s (at + length key) w r (after-bytes s at key (w ++ r) e))
 
--- a numeral does not begin with `-`
-unsigned : {w : List ℕ} {v : ℕ} (r : List ℕ) → Numeral w v → prefix-of (bytes "-") (w ++ r) ≡ false
-unfolding prefix-of
-unsigned {w} r m = go w (numeral-begins m)
-  where
-    go : (w : List ℕ) → (0 < length w) × (is-digit (getD w 0 0) ≡ true) → prefix-of (bytes "-") (w ++ r) ≡ false
-    go [] h = absurd (omega (arith, h .0))
-    go (b ∷ w) h = let d = digit-range b (h .1) in rw (ne-eqb b 45 (λ (e : b ≡ 45). omega arith))
+-- a number begins with no other byte than a digit, or `-` where it has a sign
+numeral-first : (c : ℕ) → is-digit c ≡ false → {w : List ℕ} {v : ℕ} (r : List ℕ) → Numeral w v → eqb (getD (w ++ r) 0 0) c ≡ false
+numeral-first c n {w} r m =
+    let b = numeral-begins m in
+    ne-eqb (getD (w ++ r) 0 0) c
+    (λ (e : getD (w ++ r) 0 0 ≡ c). false-true (sym n ∙ (ap is-digit (sym e) ∙ (ap is-digit (List·getD-append w r 0 0 (b .0)) ∙ b .1))))
+
+pub signed-first : (c : ℕ) → is-digit c ≡ false → eqb 45 c ≡ false → {w : List ℕ} {v : ℤ} (r : List ℕ) → Signed w v → eqb (getD (w ++ r) 0 0) c ≡ false
+signed-first c n d r (plain m l) = numeral-first c n r m
+signed-first c n d r (minus m p l) = d
 
 pub signed-taken : (s : List ℕ) (at : ℕ) (r : List ℕ) → is-digit (getD r 0 0) ≡ false → {w : List ℕ} {v : ℤ} → drop at s ≡ w ++ r → Signed w v
     → (n : ℕ) × (signed-at s at ≡ Signed·Number v n) × (drop n s ≡ r)
 unfolding signed-at
 signed-taken s at r stop e (plain {w} {v} m l) =
     let n = number-taken s at r stop largest-signed e m l (omega arith) in
-    (n .0, rw (mark-missing (bytes "-") s at e (unsigned r m), n .1), n .2)
+    (n .0, rw (mark-first 45 [] s at (w ++ r) e (numeral-first 45 refl r m), n .1), n .2)
 signed-taken s at r stop e (minus {w} {v} m p l) =
     let k = mark-taken s at (w ++ r) (bytes "-") (omega arith) e in
     let n = number-taken s (k .0) r stop largest-signed (k .2) m l (omega arith) in

@@ -1,7 +1,7 @@
 -- What a sheet's places hold: between `from` and `to` the requirement's bytes, from `rows` on the lines of the rows. So texts that differ in filled rows alone have one
 -- requirement, and their parts behind the head differ in filled rows alone.
 -- Assumes nothing.
-use mathlib.Core.Path.{_≡_, refl, sym, ap, subst, _∙_}
+use mathlib.Core.Path.{_≡_, sym, ap, _∙_}
 use mathlib.Core.List.{List, [], _∷_, _++_, append-assoc}
 use Prim.Native.Nat.{ℕ, _+_, _-_, _≤_}
 use native.Mathlib.Omega.{arith}
@@ -11,7 +11,7 @@ use Rattle.text.specs.Bytes.{bytes}
 use Rattle.text.proofs.Places.{after-bytes}
 use Rattle.row_lines.specs.Form.{lines, size}
 use Rattle.row_lines.specs.Rows.{limit}
-use Rattle.row_lines.specs.Same.{Alike, SameButFilled}
+use Rattle.row_lines.specs.Same.{SameButFilled}
 use Rattle.row_lines.proofs.Lines.{lines-split}
 use Rattle.sheets.specs.declared.Sheet.{Sheet}
 use Rattle.sheets.specs.Form.{Form}

@@ -16,25 +16,26 @@ use Rattle.text.specs.Bytes.{bytes}
 use Rattle.text.specs.Mark.{prefix-of}
 use Rattle.text.specs.declared.Field.the-variants.{Number}
 use Rattle.text.proofs.Tests.{false-true}
-use Rattle.text.proofs.Places.{Between}
 use Rattle.row_lines.specs.Form.{lines, size, Sample, Rows, Row as Form·Row}
 use Rattle.row_lines.specs.Rows.{limit, channels-in-range, Listing, listed, broken, is-broken, rows-of}
 use Rattle.row_lines.specs.Same.{Alike, none, same, filled, SameButFilled}
 use Rattle.row_lines.proofs.Fields.{number-case, test-case}
-use Rattle.row_lines.proofs.Lines.{count, Fed, lines-fed, lines-split}
-use Rattle.row_lines.proofs.Exact.{rows-exact, alike-sym, alike-rows}
+use Rattle.row_lines.proofs.Lines.{count, Fed, lines-split}
+use Rattle.row_lines.proofs.Exact.{fed-lines, rows-exact, alike-sym, alike-rows}
+use Rattle.head_lines.specs.Form.{NumberLine}
+use Rattle.head_lines.specs.Lines.{number-at, requirement-at, after-requirement}
 use Rattle.recordings.specs.declared.Predicate.{Predicate}
 use Rattle.predicate_lines.specs.declared.Predicates.{Predicates}
 use Rattle.predicate_lines.specs.Form.{unset, Lines, over, more}
 use Rattle.predicate_lines.specs.Lines.{lines-at}
 use Rattle.predicate_lines.proofs.Exact.{predicates-are, predicates-taken}
 use Rattle.sheets.specs.declared.Sheet.{Sheet}
-use Rattle.sheets.specs.declared.Requirement.{Requirement}
-use Rattle.sheets.specs.declared.Requirement.the-variants.{At, Bad}
-use Rattle.sheets.specs.Form.{NumberLine, Form, blank}
-use Rattle.sheets.specs.Sheets.{number-at, requirement-at, after-requirement, rows-kept, behind-predicates, sheet-of}
-use Rattle.sheets.proofs.Written.{number-line-is, number-line-taken, number-line-fed, requirement-is, requirement-taken, lines-clear}
-use Rattle.sheets.proofs.Chain.{chain-read}
+use Rattle.head_lines.specs.declared.Requirement.{Requirement}
+use Rattle.head_lines.specs.declared.Requirement.the-variants.{At, Bad}
+use Rattle.sheets.specs.Form.{Form, blank}
+use Rattle.sheets.specs.Sheets.{rows-kept, behind-predicates, sheet-of}
+use Rattle.head_lines.proofs.Written.{number-line-is, number-line-taken, number-line-fed, requirement-is, requirement-taken, lines-clear}
+use Rattle.sheets.proofs.Chain.{chain-read, chain-behind}
 
 -- ---- the rows behind the head
 
@@ -65,10 +66,6 @@ blank-good s e = absurd (omega arith)
 requirement-case : {A : Type 0} (P : A → Type 0) (x : Requirement) (f : ℕ → ℕ → ℕ → A) (a : A) → ((i j n : ℕ) → x ≡ At i j n → P (f i j n)) → P a → P (after-requirement x f a)
 requirement-case P (At i j n) f a h k = h i j n refl
 requirement-case P Bad f a h k = k
-
--- a line and the lines behind it
-fed-lines : {s l : List ℕ} {at n : ℕ} → Between s at n l → Fed l → lines (drop at s) ≡ l ∷ lines (drop n s)
-fed-lines {s} {l} {at} {n} b f = rw (b .bytes) (lines-fed (drop n s) f)
 
 read-good : (s : List ℕ) → length s ≤ limit → (ch a : ℕ) → number-at (bytes "chan=") s 0 ≡ Number ch a → lines-at s a .ok ≡ true
     → (step c : ℕ) → number-at (bytes "step=") s (lines-at s a .next) ≡ Number step c → (drift d : ℕ) → number-at (bytes "drift=") s c ≡ Number drift d
@@ -183,7 +180,9 @@ read-as : (s : List ℕ) (x : Sheet) → length s ≤ limit → x .number ≡ 0 
     → number-at (bytes "drift=") s c ≡ Number (x .drift) d → requirement-at s d ≡ At i j n → rows-kept s n (x .channels) ≡ true
     → i ≡ x .from → j ≡ x .to → n ≡ x .rows → sheet-of s ≡ x
 read-as s x l m a b c d n i j e f g h r k from to rows =
-    sym (chain-read s (le-ltb limit (length s) l) (x .channels) a e (record { ok = true; next = b; all = x .predicates }) (sym f) refl (x .step) c g (x .drift) d h i j n r k)
+    sym
+    (chain-behind s (le-ltb limit (length s) l) (x .channels) a e (record { ok = true; next = b; all = x .predicates }) (sym f) _
+    (chain-read s (x .channels) (record { ok = true; next = b; all = x .predicates }) refl (x .step) c g (x .drift) d h i j n r k))
     ∙ same-sheet x i j n from to rows m
 
 pub sheet-complete : (s : List ℕ) (x : Sheet) → Form s x → sheet-of s ≡ x

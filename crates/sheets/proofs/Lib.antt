@@ -1,5 +1,4 @@
--- What is read is what is written (`Written`, `Exact`), what the places hold (`Behind`), the steps of the code (`Steps`, `Chain`), and the examples.
-pub mod Written
+-- What is read is what is written (`Exact`), what the places hold (`Behind`), the steps of the code (`Steps`, `Chain`), and the examples.
 pub mod Exact
 pub mod Behind
 pub mod Steps

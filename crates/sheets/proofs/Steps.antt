@@ -1,34 +1,16 @@
--- The search for a line feed, the test of the rows, and where a read line ends.
+-- The test of the rows behind the head: the part that is handed on is the text from there on.
 -- Assumes nothing.
 use mathlib.Core.Path.{_≡_, refl}
 use mathlib.Core.List.{List}
 use mathlib.Core.Bool.{true, false}
-use Prim.Native.Nat.{ℕ, suc, _+_, _-_, _≤_, _<_}
-use native.Mathlib.Numerals.{add-one}
+use Prim.Native.Nat.{ℕ, _-_}
 use native.Mathlib.Omega.{arith}
-use lib.ListN.{length, getD, take, drop, drop-of-length-le, length-drop}
-use lib.Seq.{take-all, drop-cons}
-use borrow.Author.Tests.{eq-eqb, ne-eqb}
+use lib.ListN.{length, take, drop, length-drop}
+use lib.Seq.{take-all}
 use Rattle.row_lines.specs.declared.Counts.the-variants.{Rows as Counts·Rows, Bad as Counts·Bad}
 use Rattle.row_lines.specs.Rows.{channels-in-range, Listing, listed, broken, is-broken, rows-of, counts}
-use Rattle.sheets.specs.Sheets.{until-feed, rows-kept}
+use Rattle.sheets.specs.Sheets.{rows-kept}
 
--- ---- the search for a line feed
-module _ (s : List ℕ) (at : ℕ) where
-  pub feed-over : length s ≤ at → length (until-feed (drop at s)) ≡ 0
-  unfolding until-feed
-  feed-over l = rw (drop-of-length-le s l)
-
-  module _ (l : at < length s) where
-    pub feed-here : getD s at 0 ≡ 10 → length (until-feed (drop at s)) ≡ 0
-    unfolding until-feed
-    feed-here h = rw (drop-cons s at 0, eq-eqb _ _ h)
-
-    pub feed-next : (getD s at 0 ≡ 10 → ⊥) → length (until-feed (drop at s)) ≡ suc (length (until-feed (drop (at + 1) s)))
-    unfolding until-feed
-    feed-next h = rw (add-one, drop-cons s at 0, ne-eqb _ _ h)
-
--- ---- the rows behind the head
 whole : (s : List ℕ) (at : ℕ) → take (length s - at) (drop at s) ≡ drop at s
 whole s at = take-all (length s - at) (drop at s) (rw length-drop (omega arith))
 

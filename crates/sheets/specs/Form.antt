@@ -6,21 +6,13 @@ use mathlib.Core.Bool.{true}
 use mathlib.Core.List.{List, _∷_, _++_}
 use lib.ListN.{length}
 use Rattle.text.specs.Bytes.{bytes}
-use Rattle.text.specs.Number.{largest}
-use Rattle.text.specs.Numeral.{Numeral}
 use Rattle.row_lines.specs.Form.{lines, size, Sample, Rows}
 use Rattle.row_lines.specs.Rows.{limit, channels-in-range}
+use Rattle.head_lines.specs.Form.{NumberLine}
 use Rattle.predicate_lines.specs.Form.{unset, Lines}
 use Rattle.sheets.specs.declared.Sheet.{Sheet}
 
--- a line of a key and a number
-pub record NumberLine (key line : List ℕ) (value : ℕ) : Type 0 where
-  pub digits : List ℕ
-  pub numeral : Numeral digits value
-  pub bound : value ≤ largest
-  pub written : line ≡ key ++ digits ++ bytes "\n"
-
--- a text of the form, and the sheet that it gives
+-- a text of the form, and the sheet that it gives: the lines of its head by their keys, the requirement's bytes, and the lines behind
 pub record Form (text : List ℕ) (sheet : Sheet) : Type 0 where
   pub chan : List ℕ
   pub ps : List (List ℕ)

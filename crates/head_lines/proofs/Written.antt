@@ -21,10 +21,10 @@ use Rattle.text.proofs.Answers.{mark-is, field-is}
 use Rattle.row_lines.specs.Form.{cut, lines}
 use Rattle.row_lines.proofs.Fields.{mark-case, number-case, mark-taken, field-taken}
 use Rattle.row_lines.proofs.Lines.{lines-split, count, count-append, numeral-count, Fed}
-use Rattle.sheets.specs.declared.Requirement.{Requirement}
-use Rattle.sheets.specs.declared.Requirement.the-variants.{At, Bad}
-use Rattle.sheets.specs.Form.{NumberLine}
-use Rattle.sheets.specs.Sheets.{number-at, until-feed, requirement-at}
+use Rattle.head_lines.specs.declared.Requirement.{Requirement}
+use Rattle.head_lines.specs.declared.Requirement.the-variants.{At, Bad}
+use Rattle.head_lines.specs.Form.{NumberLine}
+use Rattle.head_lines.specs.Lines.{number-at, until-feed, requirement-at}
 
 -- where a line that was read ends
 pub place-after : (s : List ℕ) (at n : ℕ) (l r : List ℕ) → drop at s ≡ l ++ r → drop n s ≡ r → at ≤ length s → n ≤ length s → n ≡ at + length l

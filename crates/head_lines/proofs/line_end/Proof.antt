@@ -1,14 +1,14 @@
--- `sheets::line_end` meets its contract: the line feed that is first from a place on is first from the start.
+-- `head_lines::line_end` meets its contract: the line feed that is first from a place on is first from the start.
 -- Assumes nothing.
 use borrow.Author.Needs.{needs}
 use mathlib.Core.Path.{_≡_, refl}
 use Prim.Native.Nat.{_+_, _-_}
 use native.Mathlib.Omega.{arith}
 use lib.ListN.{length, drop}
-use Rattle.sheets.specs.Sheets.{until-feed}
-use Rattle.sheets.proofs.Steps.{feed-over, feed-here, feed-next}
-use Rattle.sheets.proofs.line_end.Statement.{statement}
-use Rattle.sheets.proofs.line_end.Tie as tie
+use Rattle.head_lines.specs.Lines.{until-feed}
+use Rattle.head_lines.proofs.Steps.{feed-over, feed-here, feed-next}
+use Rattle.head_lines.proofs.line_end.Statement.{statement}
+use Rattle.head_lines.proofs.line_end.Tie as tie
 
 abbrev Inv-loop : tie.InvT-loop
 Inv-loop s at end₀ end = end + length (until-feed (drop end s)) ≡ at + length (until-feed (drop at s))

@@ -1,11 +1,11 @@
--- `sheets::read_requirement` meets its contract: each branch of the code is a case of the definition.
+-- `head_lines::read_requirement` meets its contract: each branch of the code is a case of the definition.
 -- Assumes nothing.
-use Rattle.sheets.specs.Sheets.{requirement-at}
-use Rattle.sheets.proofs.Chain.{line-open, line-whole}
+use Rattle.head_lines.specs.Lines.{requirement-at}
+use Rattle.head_lines.proofs.Steps.{line-open, line-whole}
 use mathlib.Core.Path.{sym, _∙_}
 use borrow.Author.Needs.{needs}
-use Rattle.sheets.proofs.read_requirement.Statement.{statement}
-use Rattle.sheets.proofs.read_requirement.Tie as tie
+use Rattle.head_lines.proofs.read_requirement.Statement.{statement}
+use Rattle.head_lines.proofs.read_requirement.Tie as tie
 
 slice-aggregate-read-mark : tie.Need-slice-aggregate-read-mark
 slice-aggregate-read-mark c = search needs

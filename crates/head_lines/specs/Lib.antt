@@ -1,0 +1,3 @@
+-- The form of a line with one number (`Form`), and the lines' reading at a place (`Lines`).
+pub mod Form
+pub mod Lines
