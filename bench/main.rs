@@ -41,16 +41,16 @@ fn flat(nodes: &[Node], predicates: &[Predicate; 16]) -> Flat {
     Flat { numbers, named: predicates.iter().map(|p| p.channel as u64).collect(), ranges: ranges.collect() }
 }
 
-fn proved(f: &Flat, count: usize, channels: usize, times: &[u64], values: &[i64], work: &mut [i64]) -> Option<i64> {
+fn proved(f: &Flat, count: usize, card: &Card, work: &mut [i64]) -> Option<i64> {
     // the function asks nothing of its caller but that the slices are what their lengths say
     let number = unsafe {
         bench_margin(
             f.numbers.as_ptr(), f.numbers.len(), count,
             f.named.as_ptr(), f.named.len(), f.ranges.as_ptr(), f.ranges.len(),
-            channels, times.as_ptr(), times.len(), values.as_ptr(), values.len(), work.as_mut_ptr(), work.len(),
+            card.channels, card.times.as_ptr(), card.times.len(), card.values.as_ptr(), card.values.len(), work.as_mut_ptr(), work.len(),
         )
     };
-    if number == 0 { Some(work[(count - 1) * times.len()]) } else { None }
+    if number == 0 { Some(work[(count - 1) * card.times.len()]) } else { None }
 }
 
 fn proved_verdict(f: &Flat, count: usize, card: &Card, step: u64, drift: u64, work: &mut [i64]) -> Option<(i64, i64)> {
@@ -93,13 +93,46 @@ fn compare<T: PartialEq>(cells: usize, mut ours: impl FnMut(&mut [i64]) -> Optio
     let mut a = vec![0; cells + 3];
     let mut b = a.clone();
     let (mut best, mut plain) = (f64::MAX, f64::MAX);
-    for _ in 0..41 {
+    for _ in 0..9 {
         let (mut x, mut y) = (None, None);
         best = best.min(seconds(|| x = ours(&mut a)));
         plain = plain.min(seconds(|| y = theirs(&mut b)));
         assert!(x.is_some() && x == y && a == b, "results differ");
     }
     (best, plain)
+}
+
+/// What is timed: a table's margin or its verdict over a recording.
+struct Case {
+    name: String,
+    nodes: Vec<Node>,
+    times: Vec<u64>,
+    values: Vec<i64>,
+    verdict: bool,
+    best: (f64, f64),
+}
+
+impl Case {
+    fn new(name: String, nodes: &[Node], rows: usize, mut value: impl FnMut() -> i64, verdict: bool) -> Case {
+        let (times, values) = ((0..rows as u64).collect(), (0..2 * rows).map(|_| value()).collect());
+        Case { name, nodes: nodes.to_vec(), times, values, verdict, best: (f64::MAX, f64::MAX) }
+    }
+
+    fn time(&mut self, predicates: &[Predicate; 16]) {
+        let (nodes, f) = (&self.nodes, flat(&self.nodes, predicates));
+        let card = Card { predicates, channels: 2, times: &self.times, values: &self.values };
+        let (n, rows) = (nodes.len(), card.times.len());
+        let (ours, theirs) = if self.verdict {
+            compare(2 * n * rows, |w| proved_verdict(&f, n, &card, 3, 1_000_000_000, w), |w| plain::verdict(nodes, &card, 3, 1_000_000_000, w))
+        } else {
+            compare(n * rows, |w| proved(&f, n, &card, w), |w| plain::margin(nodes, &card, w))
+        };
+        self.best = (self.best.0.min(ours), self.best.1.min(theirs));
+    }
+
+    fn ratio(&self) -> f64 {
+        self.best.0 / self.best.1
+    }
 }
 
 fn node(kind: u64, left: usize, right: usize, lo: u64, hi: u64) -> Node {
@@ -122,50 +155,47 @@ fn large_table(random: &mut Random) -> Vec<Node> {
     nodes
 }
 
+fn cases(random: &mut Random) -> Vec<Case> {
+    let mut cases = Vec::new();
+    for equal in [true, false] {
+        for (kind, letter) in [(5, "p0U"), (6, "p0R"), (7, "F"), (8, "G")] {
+            for (lo, hi) in [(0, NO_END), (10, 600), (0, 0)] {
+                let (left, right) = if kind <= 6 { (0, 1) } else { (1, 0) };
+                let nodes = [node(1, 0, 0, 0, 0), node(1, 1, 0, 0, 0), node(kind, left, right, lo, hi)];
+                let end = if hi == NO_END { "*".to_string() } else { hi.to_string() };
+                let name = format!("{letter}[{lo},{end}]p1, {} values", if equal { "equal" } else { "random" });
+                for rows in [2048, 4096] {
+                    cases.push(Case::new(name.clone(), &nodes, rows, || if equal { 7 } else { random.value() }, false));
+                }
+            }
+        }
+    }
+    let large = large_table(random);
+    for rows in [2048, 4096] {
+        cases.push(Case::new("64 nodes, margin".into(), &large, rows, || random.value(), false));
+        cases.push(Case::new("64 nodes, verdict".into(), &large, rows, || random.value(), true));
+    }
+    cases
+}
+
 fn main() {
-    let mut random = Random(12345);
     let mut predicates = [Predicate { channel: 0, range: Range::Unset }; 16];
     predicates[0] = Predicate { channel: 0, range: Range::AtLeast(3) };
     predicates[1] = Predicate { channel: 1, range: Range::AtMost(6) };
     predicates[2] = Predicate { channel: 0, range: Range::Between(-400_000_000, 400_000_000) };
     predicates[3] = Predicate { channel: 1, range: Range::Free };
-    let large = large_table(&mut random);
-    let mut worst = 0f64;
-    let mut show = |name: &str, rows: usize, (ours, theirs): (f64, f64)| {
-        worst = worst.max(ours / theirs);
-        println!("{name:<34} {rows:>5} rows: {:>9.3} ms, plain Rust {:>9.3} ms, ratio {:.2}", ours * 1e3, theirs * 1e3, ours / theirs);
-        ours
-    };
-    let mut growth = Vec::new();
-    for equal in [true, false] {
-        for (kind, letter) in [(5, "p0U"), (6, "p0R"), (7, "F"), (8, "G")] {
-            for (lo, hi) in [(0, NO_END), (10, 600), (0, 0)] {
-                let mut taken = [0f64; 2];
-                for (at, rows) in [2048usize, 4096].into_iter().enumerate() {
-                    let times: Vec<u64> = (0..rows as u64).collect();
-                    let values: Vec<i64> = (0..2 * rows).map(|_| if equal { 7 } else { random.value() }).collect();
-                    let (left, right) = if kind <= 6 { (0, 1) } else { (1, 0) };
-                    let nodes = [node(1, 0, 0, 0, 0), node(1, 1, 0, 0, 0), node(kind, left, right, lo, hi)];
-                    let end = if hi == NO_END { "*".to_string() } else { hi.to_string() };
-                    let name = format!("{letter}[{lo},{end}]p1, {} values", if equal { "equal" } else { "random" });
-                    let (f, card) = (flat(&nodes, &predicates), Card { predicates: &predicates, channels: 2, times: &times, values: &values });
-                    taken[at] = show(&name, rows, compare(3 * rows, |w| proved(&f, 3, 2, &times, &values, w), |w| plain::margin(&nodes, &card, w)));
-                }
-                if equal && hi == NO_END && kind <= 6 {
-                    growth.push((letter, taken[1] / taken[0]));
-                }
-            }
+    let mut cases = cases(&mut Random(12345));
+    // rounds over all cases, so that a slow spell of the machine does not fall on one of them alone
+    for _ in 0..5 {
+        for case in &mut cases {
+            case.time(&predicates);
         }
     }
-    for rows in [2048usize, 4096] {
-        let times: Vec<u64> = (0..rows as u64).collect();
-        let values: Vec<i64> = (0..2 * rows).map(|_| random.value()).collect();
-        let (f, card) = (flat(&large, &predicates), Card { predicates: &predicates, channels: 2, times: &times, values: &values });
-        show("64 nodes, random values", rows, compare(64 * rows, |w| proved(&f, 64, 2, &times, &values, w), |w| plain::margin(&large, &card, w)));
-        show("64 nodes, verdict", rows, compare(128 * rows, |w| proved_verdict(&f, 64, &card, 3, 1_000_000_000, w), |w| plain::verdict(&large, &card, 3, 1_000_000_000, w)));
+    for c in &cases {
+        println!("{:<30} {:>5} rows: {:>9.3} ms, plain Rust {:>9.3} ms, ratio {:.2}", c.name, c.times.len(), c.best.0 * 1e3, c.best.1 * 1e3, c.ratio());
     }
-    for (letter, times) in growth {
-        println!("{letter}[0,*]p1, equal values: 4096 rows take {times:.2} times as long as 2048 (at most 4.5 wanted)");
+    for pair in cases.windows(2).filter(|p| p[0].name == p[1].name && p[0].name.contains("[0,*]p1, equal") && p[0].name.starts_with("p0")) {
+        println!("{}: 4096 rows take {:.2} times as long as 2048 (at most 4.5 wanted)", pair[0].name, pair[1].best.0 / pair[0].best.0);
     }
-    println!("largest ratio to plain Rust: {worst:.2} (at most 1.1 wanted)");
+    println!("largest ratio to plain Rust: {:.2} (at most 1.1 wanted)", cases.iter().map(Case::ratio).fold(0.0, f64::max));
 }
