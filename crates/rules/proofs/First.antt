@@ -122,3 +122,11 @@ first-of-whole (c ∷ cs) ds n e = elim (either (c .passes)) [
 pub exact-append : (cs ds : List Check) → AllExact cs → (Passed cs → AllExact ds) → AllExact (cs ++ ds)
 exact-append [] ds x y = y (record { each = λ j h. absurd (omega arith) })
 exact-append (c ∷ cs) ds x y = (x .0, λ s. exact-append cs ds (x .1 s) (λ p. y (record { each = λ j. elim j [ zero ↦ λ h. s | suc i ↦ λ h. p .each i (le-of-suc-le-suc h) ] })))
+
+-- and the other way round
+pub exact-parts : (cs ds : List Check) → AllExact (cs ++ ds) → AllExact cs × (Passed cs → AllExact ds)
+exact-parts [] ds x = (tt, λ _. x)
+exact-parts (c ∷ cs) ds x = (
+  (x .0, λ s. exact-parts cs ds (x .1 s) .0),
+  λ p. exact-parts cs ds (x .1 (p .each 0 (omega arith))) .1 (record { each = λ j h. p .each (suc j) (omega arith) }),
+)

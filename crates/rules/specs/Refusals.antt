@@ -1,6 +1,6 @@
 -- Refusals 3 to 7, in the order in which they count: what a table and a card are judged by before any margin is taken.
 -- Assumes nothing.
-use mathlib.Core.List.{List, [], _∷_}
+use mathlib.Core.List.{List, [], _∷_, _++_}
 use Prim.Native.Nat.{ℕ}
 use lib.ListN.{length}
 use lib.IntN.{ℤ}
@@ -17,14 +17,23 @@ use Rattle.rules.specs.Recording.{lengths-obey, Lengths, times-obey, Tim
 abbrev pub card : ℕ → List Predicate → List ℕ → List ℤ → Card
 card channels predicates times values = record { channels = channels; times = times; values = values; predicates = predicates }
 
-abbrev pub checks : Card → Table → List Check
-checks c t =
+-- 3 and 4: the table, the channels and the predicates
+abbrev pub table-checks : Card → Table → List Check
+table-checks c t =
     record { number = 3; sentence = TableRules t × Named c t; passes = requirement-obeys t (c .predicates) }
     ∷ record { number = 4; sentence = Channels c; passes = channels-obey (c .channels) (c .predicates) }
-    ∷ record { number = 5; sentence = Lengths c; passes = lengths-obey (rows c) (length (c .values)) (c .channels) }
+    ∷ []
+
+-- 5 to 7: the samples
+abbrev pub sample-checks : Card → List Check
+sample-checks c =
+    record { number = 5; sentence = Lengths c; passes = lengths-obey (rows c) (length (c .values)) (c .channels) }
     ∷ record { number = 6; sentence = Times c; passes = times-obey (c .times) }
     ∷ record { number = 7; sentence = Values c; passes = values-obey (c .values) }
     ∷ []
+
+abbrev pub checks : Card → Table → List Check
+checks c t = table-checks c t ++ sample-checks c
 
 -- none of them applies
 pub record Sound (c : Card) (t : Table) : Type 0 where

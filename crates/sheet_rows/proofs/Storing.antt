@@ -79,13 +79,13 @@ module _ (s : List ℕ) (at ch place : ℕ) (values₀ values : List ℤ) (next 
 
 -- ---- the rows
 
-length-times : (xs : List Sample) → length (times-in xs) ≡ length xs
+pub length-times : (xs : List Sample) → length (times-in xs) ≡ length xs
 unfolding times-in
 length-times [] = refl
 length-times (x ∷ xs) = ap suc (length-times xs)
 
 -- as many values as rows × channels
-length-values : {ch k : ℕ} {ls : List (List ℕ)} {xs : List Sample} → Rows ch ls xs k → length (values-in xs) ≡ length xs * ch
+pub length-values : {ch k : ℕ} {ls : List (List ℕ)} {xs : List Sample} → Rows ch ls xs k → length (values-in xs) ≡ length xs * ch
 unfolding values-in
 length-values {ch} none = sym (zero-mul ch)
 length-values {ch} (measured {vs} {samples} row rest) =

@@ -34,16 +34,16 @@ use Rattle.verdicts.proofs.Entry.{after-room}
 
 module _ (c : Card) (t : Table) (step drift size : ℕ) (few : length (c .predicates) ≤ 16) where
   -- number 0: refusals 3 to 11 do not apply, so the recording, requirement, step and drift are accepted
-  sound-at : judged c t step drift size .number ≡ 0 → Sound c t
+  pub number-sound : judged c t step drift size .number ≡ 0 → Sound c t
   unfolding judged refusal
-  sound-at e = sound c t few (first-of-whole (checks c t) (room-check c t size ∷ sampling-checks c step drift) tt e .0)
+  number-sound e = sound c t few (first-of-whole (checks c t) (room-check c t size ∷ sampling-checks c step drift) tt e .0)
 
-  late-at : judged c t step drift size .number ≡ 0 → (2 * t .count * rows c ≤ size) × (first (sampling-checks c step drift) ≡ 0)
+  pub number-room : judged c t step drift size .number ≡ 0 → (2 * t .count * rows c ≤ size) × (first (sampling-checks c step drift) ≡ 0)
   unfolding judged refusal
-  late-at e = after-room c t step drift size (first-of-whole (checks c t) (room-check c t size ∷ sampling-checks c step drift) tt e .1)
+  number-room e = after-room c t step drift size (first-of-whole (checks c t) (room-check c t size ∷ sampling-checks c step drift) tt e .1)
 
   pub number-accepted : judged c t step drift size .number ≡ 0 → Accepted c step drift
-  number-accepted e = accepted c step drift (sound-at e .recorded) (late-at e .1)
+  number-accepted e = accepted c step drift (number-sound e .recorded) (number-room e .1)
 
   -- the verdict, hold and fail are the definitions'; under a refusal they are "not shown", 0 and 0
   pub verdict-is : judged c t step drift size .number ≡ 0 → judged c t step drift size .verdict ≡ verdict c step drift (root t)
@@ -67,7 +67,7 @@ module _ (c : Card) (t : Table) (step drift size : ℕ) (few : length (c .predic
       go (suc n) h = (refl, refl, refl)
 
   -- a number m is answered exactly when its condition applies and no earlier one does
-  exact-checks : AllExact (verdict-checks c t step drift size)
+  pub exact-checks : AllExact (verdict-checks c t step drift size)
   exact-checks = exact-append (checks c t) (room-check c t size ∷ sampling-checks c step drift) (exact c t few) (λ p. (record { sound = leb→le _ _; complete = le→leb _ _ }, λ _. sampling-exact c step drift (passed-sound p .recorded)))
 
   pub number-refused : (judged c t step drift size .number ≡ 0 → ⊥) → Refused (verdict-checks c t step drift size) (judged c t step drift size .number)
@@ -106,7 +106,7 @@ module _ (c : Card) (t : Table) (step drift : ℕ) (w : List ℤ) where
   pub cell-is : length (c .predicates) ≤ 16 → judged c t step drift (length w) .number ≡ 0 → (b : Bool) (k i : ℕ) → k < t .count → i < rows c → getD (cells-after c t step drift w) (row-of b k * rows c + i) (pos 0) ≡ margin c (strengthened step b (tree (t .nodes) k)) i
   unfolding strong
   cell-is l e b k i h g =
-      rw (cells-are e) (rows-in (rows c) (row-value c step (t .nodes)) (2 * t .count) w (row-of b k) i (pos 0) (inside b) g (late-at c t step drift (length w) l e .0))
+      rw (cells-are e) (rows-in (rows c) (row-value c step (t .nodes)) (2 * t .count) w (row-of b k) i (pos 0) (inside b) g (number-room c t step drift (length w) l e .0))
       ∙ row-value-of c step (t .nodes) b k i
     where
       inside : (b : Bool) → row-of b k < 2 * t .count
