@@ -145,3 +145,8 @@ pub predicates-taken : {qs : List Predicate} {ls : List (List ℕ)} → Lines un
     → (n : ℕ) × (lines-at s at ≡ record { ok = true; next = n; all = qs }) × (lines (drop n s) ≡ rest)
 unfolding lines-at unsets
 predicates-taken form s at rest e stop = lines-taken form 16 s at rest refl (omega arith) e stop
+
+-- there are sixteen predicates before and after
+pub lines-keep : {ps qs : List Predicate} {ls : List (List ℕ)} → Lines ps ls qs → length qs ≡ length ps
+lines-keep over = refl
+lines-keep (more {ps} {number = k} {predicate = p} line free rest) = lines-keep rest ∙ length-set ps k p

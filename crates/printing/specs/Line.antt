@@ -1,4 +1,4 @@
--- A line of up to 128 bytes.
+-- A line of up to 160 bytes.
 -- Assumes nothing.
 use mathlib.Core.Bool.{cond}
 use mathlib.Core.List.{List, [], _∷_}
@@ -8,12 +8,12 @@ use lib.ListN.{set, take, replicate}
 use Rattle.printing.specs.declared.Line.{Line}
 
 abbrev pub blank-line : Line
-blank-line = record { bytes = replicate 128 0; len = 0 }
+blank-line = record { bytes = replicate 160 0; len = 0 }
 
 -- bytes written after a line's own, as far as there is room
 unfoldable pub written : Line → List ℕ → Line
 written l [] = l
-written l (b ∷ bs) = written (cond (ltb (l .len) 128) (record { bytes = set (l .bytes) (l .len) b; len = l .len + 1 }) l) bs
+written l (b ∷ bs) = written (cond (ltb (l .len) 160) (record { bytes = set (l .bytes) (l .len) b; len = l .len + 1 }) l) bs
 
 -- what the line says
 abbrev pub text-of : Line → List ℕ

@@ -4,16 +4,16 @@ ghost use mathlib.Core.List.{[], _∷_};
 ghost use Rattle.printing.specs.Decimal.{digit-of, decimal, decimal-signed};
 ghost use Rattle.printing.specs.Line.{blank-line, written};
 
-// The first `len` bytes are the line. The longest line that is printed has 93.
+// The first `len` bytes are the line. The longest line that 64-bit numbers give has 153.
 pub struct Line {
-    pub bytes: [u8; 128],
+    pub bytes: [u8; 160],
     pub len: usize,
 }
 
 pub fn blank() -> Line
     ensures { λ r. ⌜ r ≡ blank-line ⌝ }
 {
-    let bytes = [0u8; 128];
+    let bytes = [0u8; 160];
     Line {
         bytes: bytes,
         len: 0,
@@ -25,7 +25,7 @@ fn push(line: Line, b: u8) -> Line
     ensures { λ r. ⌜ r ≡ written line (b ∷ []) ⌝ }
 {
     let at = line.len;
-    if 128 <= at {
+    if 160 <= at {
         return line;
     }
     let mut next = line;

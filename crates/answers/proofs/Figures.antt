@@ -1,0 +1,45 @@
+-- The answer by the verdict's number: 0 gives the margin too, since what the verdict accepts the margin accepts.
+-- Assumes nothing.
+use mathlib.Core.Path.{_≡_, refl, sym, _∙_}
+use Prim.Native.Nat.{ℕ, zero, suc, _*_, _≤_}
+use native.Mathlib.Omega.{arith}
+use lib.IntN.{ℤ}
+use lib.ListN.{length}
+use Rattle.recordings.specs.declared.Verdict.{Verdict}
+use Rattle.recordings.specs.Card.{Card, rows}
+use Rattle.tables.specs.declared.Table.{Table}
+use Rattle.margins.specs.Answers.{judged as margin-judged}
+use Rattle.margins.proofs.Promises.{none-number, margin-is}
+use Rattle.verdicts.specs.Answer.{refusal, judged}
+use Rattle.verdicts.proofs.Promises.{number-sound, number-room, verdict-is, hold-is, fail-is}
+use Rattle.answers.specs.Answers.{CELLS, refused-by, answered}
+
+-- under a refusal nothing but its number is left
+pub only-number : (n : ℕ) (c : Card) (t : Table) (step drift filled : ℕ) → (n ≡ 0 → ⊥) → refused-by n ≡ answered n c t step drift filled
+only-number zero c t step drift filled h = absurd (h refl)
+only-number (suc n) c t step drift filled h = refl
+
+module _ (c : Card) (t : Table) (step drift filled : ℕ) where
+  number-is : judged c t step drift CELLS .number ≡ refusal c t step drift CELLS
+  unfolding judged
+  number-is = refl
+
+  pub judge-refused : (n : ℕ) → n ≡ judged c t step drift CELLS .number → (n ≡ 0 → ⊥) → refused-by n ≡ answered (refusal c t step drift CELLS) c t step drift filled
+  judge-refused n e h = rw (sym (e ∙ number-is)) (only-number n c t step drift filled h)
+
+  module _ (few : length (c .predicates) ≤ 16) (e : judged c t step drift CELLS .number ≡ 0) where
+    margin-accepts : margin-judged c t CELLS .number ≡ 0
+    margin-accepts =
+        let r : 2 * t .count * rows c ≤ CELLS = number-room c t step drift CELLS few e .0 in
+        none-number c t CELLS few (number-sound c t step drift CELLS few e) (omega arith)
+
+    pub judge-accepted : (m h f : ℤ) (v : Verdict) → m ≡ margin-judged c t CELLS .margin → h ≡ judged c t step drift CELLS .hold → f ≡ judged c t step drift CELLS .fail → v ≡ judged c t step drift CELLS .verdict
+        → record { number = 0; rows = rows c; filled = filled; margin = m; hold = h; fail = f; verdict = v } ≡ answered (refusal c t step drift CELLS) c t step drift filled
+    judge-accepted m h f v p q r s =
+        rw (
+          sym number-is ∙ e,
+          p ∙ margin-is c t CELLS few margin-accepts,
+          q ∙ hold-is c t step drift CELLS few e,
+          r ∙ fail-is c t step drift CELLS few e,
+          s ∙ verdict-is c t step drift CELLS few e,
+        ) refl

@@ -1,0 +1,163 @@
+-- The row reader on the part behind a sheet's head: it refuses only channels out of range and more rows than there is room for, since the sheet has checked the lines.
+-- Assumes nothing.
+use mathlib.Core.Path.{_≡_, refl, sym, ap, subst, _∙_}
+use mathlib.Core.Bool.{Bool, true, false, not, cond, _&&_, _||_}
+use mathlib.Core.Logic.{_⊎_, inl, inr, ⊎-elim}
+use mathlib.Core.List.{List, [], _∷_}
+use Prim.Native.Nat.{ℕ, zero, suc, _+_, _-_, _*_, _≤_}
+use native.Mathlib.Nat.{zero-mul, mul-le-mul}
+use native.Mathlib.Omega.{arith}
+use lib.Dec.{leb, ltb}
+use lib.IntN.{ℤ}
+use lib.ListN.{length, take, drop}
+use lib.Seq.{take-append-seam}
+use borrow.Author.Tests.{leb-true, leb-false, lt-ltb, le-ltb}
+use Rattle.text.proofs.Tests.{both, false-true, by-test, never}
+use Rattle.recordings.specs.declared.Predicate.{Predicate}
+use Rattle.recordings.specs.Card.{Card, rows}
+use Rattle.tables.specs.declared.Table.{Table}
+use Rattle.predicates.specs.Predicates.{channels-obey, predicates-obey}
+use Rattle.rules.specs.First.{first}
+use Rattle.rules.specs.Refusals.{card}
+use Rattle.verdicts.specs.Answer.{refusal}
+use Rattle.row_lines.specs.Rows.{limit, channels-in-range, Listing, listed, broken, is-broken, rows-of}
+use Rattle.row_lines.proofs.Exact.{rows-exact}
+use Rattle.sheet_rows.specs.declared.Answer.{Answer}
+use Rattle.sheet_rows.specs.Answer.{measured-of, filled-of, too-many, answer-of, times-of, values-of, in-front, after}
+use Rattle.sheet_rows.proofs.Storing.{length-times, length-values}
+use Rattle.sheet_rows.proofs.Numbers.{few-channels}
+use Rattle.sheets.specs.declared.Sheet.{Sheet}
+use Rattle.answers.specs.Answers.{ROWS, VALUES, CELLS, listing, measured, table-run, answered as outcome-by, table-answer, Checked}
+use Rattle.answers.proofs.Figures.{only-number}
+use Rattle.answers.proofs.Runs.{run-fits, run-wide, run-many, none-refused}
+
+pub times-long : (l : Listing) → length (times-of l) ≡ measured-of l
+times-long (listed xs k) = length-times xs
+times-long broken = refl
+
+pub values-long : (ch : ℕ) (s : List ℕ) → length (values-of (rows-of ch s)) ≡ measured-of (rows-of ch s) * ch
+values-long ch s = go (rows-of ch s) refl
+  where
+    go : (l : Listing) → rows-of ch s ≡ l → length (values-of l) ≡ measured-of l * ch
+    go (listed xs k) e = length-values (rows-exact ch s xs k .0 e)
+    go broken e = sym (zero-mul ch)
+
+-- what is stored in front of a slice is its beginning
+pub front-taken : {A : Type 0} (new old : List A) (n : ℕ) → n ≡ length new → take n (in-front new old) ≡ new
+front-taken new old n e = rw e (take-append-seam new (drop (length new) old))
+
+-- ---- channels out of range refuse the predicates too
+
+wide : (ch : ℕ) (ps : List Predicate) → channels-in-range ch ≡ false → channels-obey ch ps ≡ false
+unfolding channels-obey
+wide ch ps h = go (leb 1 ch) (leb ch 8) h
+  where
+    go : (a b : Bool) → a && b ≡ false → a && (b && predicates-obey ch ps 16) ≡ false
+    go true true h = absurd (false-true (sym h))
+    go true false h = refl
+    go false b h = refl
+
+-- ---- too many rows are more than there is room for
+
+pub product : (r ch : ℕ) → r ≤ ROWS → ch ≤ 8 → r * ch ≤ VALUES
+product r ch h w = mul-le-mul h w
+
+many : (r ch : ℕ) → ch ≤ 8 → too-many r ch ROWS VALUES ≡ true → suc ROWS ≤ r
+many r ch w h = by-test (leb r ROWS)
+    (λ e. let l : r ≤ 2_048 = leb-true r ROWS e in
+    let g : r * ch ≤ 16_384 = product r ch l w in
+    absurd (false-true (sym (rw (le-ltb 4_096 r (omega arith), le-ltb ROWS r l, le-ltb VALUES (r * ch) g)) ∙ h)))
+    (λ e. leb-false r ROWS e)
+
+few : (r ch : ℕ) → too-many r ch ROWS VALUES ≡ false → r ≤ ROWS
+few r ch h = by-test (leb r ROWS) (λ e. leb-true r ROWS e)
+    (λ e. absurd (false-true (sym (go (ltb 4_096 r) (ltb VALUES (r * ch)) (ltb ROWS r) (lt-ltb ROWS r (leb-false r ROWS e)) h))))
+  where
+    go : (a b c : Bool) → c ≡ true → a || (c || b) ≡ false → true ≡ false
+    go true b c e h = h
+    go false b c e h = sym (rw e) ∙ h
+
+-- ---- what the reader answers
+
+pub record Read (x : Sheet) (l : Listing) (a : Answer) : Type 0 where
+  pub counted : a .rows ≡ measured-of l
+  pub filled : a .filled ≡ filled-of l
+  pub fits : measured-of l ≤ ROWS
+  pub narrow : x .channels ≤ 8
+
+module _ (s : List ℕ) (x : Sheet) (p : Checked s (x .channels)) where
+  abbrev answer : Answer
+  answer = answer-of s (x .channels) ROWS VALUES
+
+  short : ltb limit (length s) ≡ false
+  short = le-ltb limit (length s) (p .short)
+
+  four : channels-in-range (x .channels) ≡ false → answer .number ≡ 4
+  four w = rw (short, w) refl
+
+  module _ (w : channels-in-range (x .channels) ≡ true) where
+    five : too-many (measured-of (listing x s)) (x .channels) ROWS VALUES ≡ true → answer .number ≡ 5
+    five m = rw (short, w, p .whole w, m) refl
+
+    none : too-many (measured-of (listing x s)) (x .channels) ROWS VALUES ≡ false → answer ≡ record { number = 0; rows = measured-of (listing x s); filled = filled-of (listing x s) }
+    none m = rw (short, w, p .whole w, m) refl
+
+    narrow : x .channels ≤ 8
+    narrow = few-channels (x .channels) w
+
+  pub rows-refused : (answer .number ≡ 0 → ⊥) → (channels-obey (x .channels) (x .predicates) ≡ false) ⊎ (suc ROWS ≤ measured-of (listing x s))
+  rows-refused h = by-test (channels-in-range (x .channels))
+      (λ w. by-test (too-many (measured-of (listing x s)) (x .channels) ROWS VALUES)
+      (λ m. inr (many (measured-of (listing x s)) (x .channels) (narrow w) m))
+      (λ m. absurd (h (ap (λ (a : Answer). a .number) (none w m)))))
+      (λ w. inl (wide (x .channels) (x .predicates) w))
+
+  pub rows-read : answer .number ≡ 0 → Read x (listing x s) answer
+  rows-read h = by-test (channels-in-range (x .channels))
+      (λ w. by-test (too-many (measured-of (listing x s)) (x .channels) ROWS VALUES)
+      (λ m. absurd (let e : _≡_ {A = ℕ} 5 0 = sym (five w m) ∙ h in omega arith))
+      (λ m. record {
+        counted = ap (λ (a : Answer). a .rows) (none w m);
+        filled = ap (λ (a : Answer). a .filled) (none w m);
+        fits = few (measured-of (listing x s)) (x .channels) m;
+        narrow = narrow w;
+      }))
+      (λ w. absurd (let e : _≡_ {A = ℕ} 4 0 = sym (four w) ∙ h in omega arith))
+
+  -- ---- what is judged: no rows where they are refused, else what stands in front of the slices
+
+  pub none-judged : (answer .number ≡ 0 → ⊥) → (t : Table)
+      → outcome-by (refusal (card (x .channels) (x .predicates) [] []) t (x .step) (x .drift) CELLS) (card (x .channels) (x .predicates) [] []) t (x .step) (x .drift) 0 ≡ table-answer x (listing x s) t
+  none-judged h t =
+      let c : Card = measured x (listing x s) in
+      let e : refusal (card (x .channels) (x .predicates) [] []) t (x .step) (x .drift) CELLS ≡ first (table-run c t (x .step) (x .drift)) =
+      ⊎-elim (λ w. run-wide c t (x .step) (x .drift) w) (λ m. run-many c t (x .step) (x .drift) (rw (times-long (listing x s)) m)) (rows-refused h) in
+      let g = none-refused c t (x .step) (x .drift) in
+      sym (only-number _ (card (x .channels) (x .predicates) [] []) t (x .step) (x .drift) 0 g)
+      ∙ (only-number _ c t (x .step) (x .drift) (filled-of (listing x s)) g
+      ∙ ap (λ (n : ℕ). outcome-by n c t (x .step) (x .drift) (filled-of (listing x s))) e)
+
+  module _ (a : Answer) (e : a ≡ answer) (z : a .number ≡ 0) where
+    read : Read x (listing x s) a
+    read = subst (λ (b : Answer). Read x (listing x s) b) (sym e) (rows-read (ap (λ (b : Answer). b .number) (sym e) ∙ z))
+
+    pub rows-few : a .rows ≤ ROWS
+    rows-few = omega (arith, read .counted, read .fits)
+
+    pub values-few : a .rows * x .channels ≤ VALUES
+    values-few = product (a .rows) (x .channels) rows-few (read .narrow)
+
+    module _ (times times₀ : List ℕ) (values values₀ : List ℤ) (f : times ≡ after (a .number) (times-of (listing x s)) times₀) (g : values ≡ after (a .number) (values-of (listing x s)) values₀) where
+      times-taken : take (a .rows) times ≡ times-of (listing x s)
+      times-taken = rw (f, z) (front-taken (times-of (listing x s)) times₀ (a .rows) (read .counted ∙ sym (times-long (listing x s))))
+
+      values-taken : take (a .rows * x .channels) values ≡ values-of (listing x s)
+      values-taken = rw (g, z) (front-taken (values-of (listing x s)) values₀ (a .rows * x .channels) (ap (λ (n : ℕ). n * x .channels) (read .counted) ∙ sym (values-long (x .channels) s)))
+
+      pub rows-judged : (t : Table)
+          → outcome-by (refusal (card (x .channels) (x .predicates) (take (a .rows) times) (take (a .rows * x .channels) values)) t (x .step) (x .drift) CELLS) (card (x .channels) (x .predicates) (take (a .rows) times) (take (a .rows * x .channels) values)) t (x .step) (x .drift) (a .filled)
+          ≡ table-answer x (listing x s) t
+      rows-judged t =
+          let c : Card = measured x (listing x s) in
+          let n : rows c ≤ ROWS = rw (times-long (listing x s)) (read .fits) in
+          rw (times-taken, values-taken, read .filled, run-fits c t (x .step) (x .drift) n) refl

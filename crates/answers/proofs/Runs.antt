@@ -1,0 +1,53 @@
+-- The order of refusals over a run is the order of its parts: a test that passes may be left out, and what stands behind a test that fails doesn't count.
+-- Assumes nothing.
+use mathlib.Core.Path.{_≡_, refl, sym, _∙_}
+use mathlib.Core.Bool.{Bool, true, false, cond, _&&_}
+use mathlib.Core.List.{List, [], _∷_, _++_}
+use Prim.Native.Nat.{ℕ, zero, suc, _+_, _*_, _≤_}
+use native.Mathlib.Omega.{arith}
+use lib.Dec.{leb, eqb}
+use lib.ListN.{length}
+use borrow.Author.Tests.{le-leb, lt-leb}
+use Rattle.recordings.specs.declared.Predicate.{Predicate}
+use Rattle.recordings.specs.Card.{Card, rows}
+use Rattle.tables.specs.declared.Table.{Table}
+use Rattle.predicates.specs.Predicates.{requirement-obeys, channels-obey}
+use Rattle.rules.specs.First.{Check, first}
+use Rattle.rules.specs.Recording.{lengths-obey}
+use Rattle.rules.specs.Refusals.{card, table-checks, sample-checks}
+use Rattle.rules.proofs.First.{first-passes, first-fails}
+use Rattle.sampling.specs.Sampling.{checks as sampling-checks}
+use Rattle.verdicts.specs.Answer.{room-check, refusal}
+use Rattle.answers.specs.Answers.{ROWS, CELLS, rows-check, table-run}
+
+-- a test that passes, among others
+first-without : (cs : List Check) (d : Check) (ds : List Check) → d .passes ≡ true → first (cs ++ (d ∷ ds)) ≡ first (cs ++ ds)
+unfolding first
+first-without [] d ds e = first-passes d ds e
+first-without (c ∷ cs) d ds e = rw (first-without cs d ds e) refl
+
+-- 3, 4 or 5
+early-some : (p q : Bool) → _≡_ {A = ℕ} (cond p (cond q 5 4) 3) 0 → ⊥
+early-some true true h = omega arith
+early-some true false h = omega arith
+early-some false q h = omega arith
+
+module _ (c : Card) (t : Table) (step drift : ℕ) where
+  -- measured rows that there is room for are judged as any recording
+  pub run-fits : rows c ≤ ROWS → first (table-run c t step drift) ≡ refusal c t step drift CELLS
+  unfolding refusal
+  run-fits h = first-without (table-checks c t) (rows-check c) (sample-checks c ++ (room-check c t CELLS ∷ sampling-checks c step drift)) (le-leb (rows c) ROWS h)
+
+  -- without the rows, the table, the channels and the predicates are judged as with them; and no sample is 5 too
+  pub run-wide : channels-obey (c .channels) (c .predicates) ≡ false → refusal (card (c .channels) (c .predicates) [] []) t step drift CELLS ≡ first (table-run c t step drift)
+  unfolding refusal first
+  run-wide h = rw h refl
+
+  pub run-many : suc ROWS ≤ rows c → refusal (card (c .channels) (c .predicates) [] []) t step drift CELLS ≡ first (table-run c t step drift)
+  unfolding refusal first lengths-obey
+  run-many h = rw (lt-leb (rows c) ROWS h) refl
+
+  -- and something is refused
+  pub none-refused : refusal (card (c .channels) (c .predicates) [] []) t step drift CELLS ≡ 0 → ⊥
+  unfolding refusal first lengths-obey
+  none-refused h = early-some (requirement-obeys t (c .predicates)) (channels-obey (c .channels) (c .predicates)) h

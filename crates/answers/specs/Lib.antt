@@ -1,0 +1,3 @@
+-- The answer to a whole text, and its printed line.
+pub mod Answers
+pub mod Printed
