@@ -1,0 +1,157 @@
+/*
+ * Margins and verdicts of amplifier recordings: the proved library's C names.
+ *
+ * A slice is a pointer and then the count of its elements. Every function takes slices of any
+ * length: a place that a slice does not have reads as 0, and what has no place is not written, so
+ * the lengths named here are what loses nothing. The caller owns every slice. A pointer must be
+ * valid for its count, and a slice that is written must share no place with another of the call.
+ *
+ * No function keeps a pointer, allocates, or has a state: calls on several threads are
+ * independent, and equal inputs give equal answers.
+ *
+ * A refusal is its number below, 0 for none. Of several that apply, the lowest is returned.
+ */
+#ifndef MARGIN_H
+#define MARGIN_H
+
+#include <stddef.h>
+#include <stdint.h>
+
+#ifdef __cplusplus
+extern "C" {
+#endif
+
+/* Lengths that lose nothing, in elements. */
+#define MARGIN_NODES 320  /* nodes: kind, left, right, lo, hi of each of 64 */
+#define MARGIN_RANGES 32  /* ranges: range and channel of each of 16 predicates */
+#define MARGIN_ENDS 32    /* ends: lo and hi of each of 16 predicates */
+#define MARGIN_NUMBERS 6  /* numbers of a sheet, see MARGIN_SHEET_.. */
+#define MARGIN_COUNTS 2   /* counts of rows: measured, filled */
+#define MARGIN_RESULT 3   /* result of a verdict: verdict, hold, fail */
+#define MARGIN_LINE 128   /* line: more than any printed line */
+
+/* Limits of what is accepted. */
+#define MARGIN_MOST_BYTES 65536
+#define MARGIN_MOST_ROWS 4096
+#define MARGIN_MOST_CHANNELS 8
+#define MARGIN_MOST_NODES 64
+#define MARGIN_PREDICATES 16
+#define MARGIN_NODE_NUMBERS 5
+#define MARGIN_NO_END UINT64_C(4294967295) /* hi of a window without end */
+#define MARGIN_TOP INT64_C(4000000000)     /* margin of what cannot be missed */
+
+/* What varmityep_answer, and with it the program, has room for. */
+#define MARGIN_ANSWER_ROWS 2048
+#define MARGIN_ANSWER_CELLS 8192
+
+/* Refusals. */
+enum {
+    MARGIN_ACCEPTED = 0,
+    MARGIN_TEXT = 1,        /* a line breaks the text form or is missing, or over 65,536 bytes */
+    MARGIN_REQUIREMENT = 2, /* requirement text outside the grammar or its limits */
+    MARGIN_TABLE = 3,       /* a table rule broken, or a predicate named that is unset or above 15 */
+    MARGIN_PREDICATE = 4,   /* channels not 1 to 8, or a set predicate's channel or ends broken */
+    MARGIN_SAMPLES = 5,     /* no sample, over 4,096, or values not rows x channels long */
+    MARGIN_TIMES = 6,       /* times not rising, or one above 2,000,000,000 */
+    MARGIN_VALUES = 7,      /* a value beyond 1,000,000,000, either sign */
+    MARGIN_WORK = 8,        /* work too short */
+    MARGIN_STEP_DRIFT = 9,  /* step not 1 to 1,000,000,000, or drift above 1,000,000,000 */
+    MARGIN_GAP = 10,        /* two neighbouring times differ by more than the step */
+    MARGIN_JUMP = 11        /* neighbouring values of a channel differ by more than 2 x drift */
+};
+
+/* Ranges of a predicate, at ranges[2p]; its channel is at ranges[2p + 1]. */
+enum {
+    MARGIN_UNSET = 0,
+    MARGIN_FREE = 1,
+    MARGIN_AT_LEAST = 2, /* lo at ends[2p] */
+    MARGIN_AT_MOST = 3,  /* hi at ends[2p + 1] */
+    MARGIN_BETWEEN = 4   /* both */
+};
+
+/* Verdicts, at result[0]. */
+enum { MARGIN_NOT_SHOWN = 0, MARGIN_HOLDS = 1, MARGIN_FAILS = 2 };
+
+/* Places of a sheet's numbers. The last three are places in its text. */
+enum {
+    MARGIN_SHEET_CHANNELS = 0,
+    MARGIN_SHEET_STEP = 1,
+    MARGIN_SHEET_DRIFT = 2,
+    MARGIN_SHEET_REQ_FROM = 3, /* the requirement's first byte */
+    MARGIN_SHEET_REQ_TO = 4,   /* the place behind its last byte */
+    MARGIN_SHEET_ROWS = 5      /* the rows' first byte */
+};
+
+/*
+ * The line that the program prints for a sheet's text, its line feed included; a refusal is a line
+ * too. It stands in line from its first byte on, without a closing 0; bytes behind it keep their
+ * contents. Returns its length. Give MARGIN_LINE bytes.
+ */
+size_t varmityep_answer(const uint8_t *text, size_t text_len, uint8_t *line, size_t line_len);
+
+/*
+ * Reads a sheet: refusal 0 or 1. The whole text is judged, its rows too where channels is 1 to 8.
+ * Writes numbers (MARGIN_NUMBERS), ranges (MARGIN_RANGES) and ends (MARGIN_ENDS); an end that a
+ * range does not have is 0, and so is an unset predicate's channel. Under refusal 1 all are 0.
+ */
+uint64_t varmityep_sheet(const uint8_t *text, size_t text_len,
+                         uint64_t *numbers, size_t numbers_len,
+                         uint64_t *ranges, size_t ranges_len,
+                         int64_t *ends, size_t ends_len);
+
+/*
+ * Reads requirement text: refusal 0 or 2. Writes nodes (MARGIN_NODES), 0 beyond the last node, and
+ * their count at count[0]. Under refusal 2 all are 0.
+ */
+uint64_t varmityep_requirement(const uint8_t *text, size_t text_len,
+                               uint64_t *nodes, size_t nodes_len,
+                               uint64_t *count, size_t count_len);
+
+/*
+ * Reads rows, the part of a sheet's text from MARGIN_SHEET_ROWS on: refusal 0, 1, 4 (channels) or
+ * 5 (more measured rows than 4,096, than times, or than values has room for). Fills times, one for
+ * each measured row, and values, channels for each, in order; later places keep their contents.
+ * Writes counts (MARGIN_COUNTS). With no measured row it succeeds with 0. Under a refusal times and
+ * values keep their contents and counts are 0.
+ */
+uint64_t varmityep_rows(const uint8_t *text, size_t text_len, uint64_t channels,
+                        uint64_t *times, size_t times_len,
+                        int64_t *values, size_t values_len,
+                        uint64_t *counts, size_t counts_len);
+
+/*
+ * The margin of a recording: refusal 0 or 3 to 8. The recording has times_len rows; values has
+ * times_len x channels. work needs count x times_len cells: cell k x times_len + i ends as node k's
+ * margin at sample i; later cells keep their contents. Writes the margin at result[0]. Under a
+ * refusal work keeps its contents and result[0] is 0.
+ */
+uint64_t varmityep_margin(const uint64_t *nodes, size_t nodes_len, uint64_t count,
+                          const uint64_t *ranges, size_t ranges_len,
+                          const int64_t *ends, size_t ends_len,
+                          uint64_t channels,
+                          const uint64_t *times, size_t times_len,
+                          const int64_t *values, size_t values_len,
+                          int64_t *work, size_t work_len,
+                          int64_t *result, size_t result_len);
+
+/*
+ * The verdict on a recording: refusal 0 or 3 to 11. work needs 2 x count x times_len cells: row 2k
+ * has node k's strengthened margins, row 2k + 1 those of its negation; later cells keep their
+ * contents. Writes result (MARGIN_RESULT): the verdict, hold, fail. Under a refusal work keeps its
+ * contents and result is MARGIN_NOT_SHOWN, 0, 0.
+ */
+uint64_t varmityep_verdict(const uint64_t *nodes, size_t nodes_len, uint64_t count,
+                           const uint64_t *ranges, size_t ranges_len,
+                           const int64_t *ends, size_t ends_len,
+                           uint64_t channels,
+                           const uint64_t *times, size_t times_len,
+                           const int64_t *values, size_t values_len,
+                           uint64_t step, uint64_t drift,
+                           int64_t *work, size_t work_len,
+                           int64_t *result, size_t result_len);
+
+#ifdef __cplusplus
+}
+#endif
+
+#endif
