@@ -1,0 +1,195 @@
+//! The library's C names, as functions on slices. Nothing checks these declarations against the
+//! library's source, so they are few, flat, and stand in this file alone, with all `unsafe`.
+//! `include/margin.h` says what each place holds.
+
+extern "C" {
+    fn varmityep_answer(text: *const u8, text_len: usize, line: *mut u8, line_len: usize) -> usize;
+
+    fn varmityep_sheet(
+        text: *const u8,
+        text_len: usize,
+        numbers: *mut u64,
+        numbers_len: usize,
+        ranges: *mut u64,
+        ranges_len: usize,
+        ends: *mut i64,
+        ends_len: usize,
+    ) -> u64;
+
+    fn varmityep_requirement(
+        text: *const u8,
+        text_len: usize,
+        nodes: *mut u64,
+        nodes_len: usize,
+        count: *mut u64,
+        count_len: usize,
+    ) -> u64;
+
+    fn varmityep_rows(
+        text: *const u8,
+        text_len: usize,
+        channels: u64,
+        times: *mut u64,
+        times_len: usize,
+        values: *mut i64,
+        values_len: usize,
+        counts: *mut u64,
+        counts_len: usize,
+    ) -> u64;
+
+    fn varmityep_margin(
+        nodes: *const u64,
+        nodes_len: usize,
+        count: u64,
+        ranges: *const u64,
+        ranges_len: usize,
+        ends: *const i64,
+        ends_len: usize,
+        channels: u64,
+        times: *const u64,
+        times_len: usize,
+        values: *const i64,
+        values_len: usize,
+        work: *mut i64,
+        work_len: usize,
+        result: *mut i64,
+        result_len: usize,
+    ) -> u64;
+
+    fn varmityep_verdict(
+        nodes: *const u64,
+        nodes_len: usize,
+        count: u64,
+        ranges: *const u64,
+        ranges_len: usize,
+        ends: *const i64,
+        ends_len: usize,
+        channels: u64,
+        times: *const u64,
+        times_len: usize,
+        values: *const i64,
+        values_len: usize,
+        step: u64,
+        drift: u64,
+        work: *mut i64,
+        work_len: usize,
+        result: *mut i64,
+        result_len: usize,
+    ) -> u64;
+}
+
+/// The printed line's length.
+pub fn answer(text: &[u8], line: &mut [u8]) -> usize {
+    // SAFETY: the library asks nothing of its caller but slices that are live, of the lengths
+    // given and apart from each other. References are; so in every call below.
+    unsafe { varmityep_answer(text.as_ptr(), text.len(), line.as_mut_ptr(), line.len()) }
+}
+
+pub fn sheet(text: &[u8], numbers: &mut [u64], ranges: &mut [u64], ends: &mut [i64]) -> u64 {
+    unsafe {
+        varmityep_sheet(
+            text.as_ptr(),
+            text.len(),
+            numbers.as_mut_ptr(),
+            numbers.len(),
+            ranges.as_mut_ptr(),
+            ranges.len(),
+            ends.as_mut_ptr(),
+            ends.len(),
+        )
+    }
+}
+
+pub fn requirement(text: &[u8], nodes: &mut [u64], count: &mut [u64]) -> u64 {
+    unsafe {
+        varmityep_requirement(
+            text.as_ptr(),
+            text.len(),
+            nodes.as_mut_ptr(),
+            nodes.len(),
+            count.as_mut_ptr(),
+            count.len(),
+        )
+    }
+}
+
+pub fn rows(
+    text: &[u8],
+    channels: u64,
+    times: &mut [u64],
+    values: &mut [i64],
+    counts: &mut [u64],
+) -> u64 {
+    unsafe {
+        varmityep_rows(
+            text.as_ptr(),
+            text.len(),
+            channels,
+            times.as_mut_ptr(),
+            times.len(),
+            values.as_mut_ptr(),
+            values.len(),
+            counts.as_mut_ptr(),
+            counts.len(),
+        )
+    }
+}
+
+/// What margin and verdict are given besides work.
+pub struct Call<'a> {
+    pub nodes: &'a [u64],
+    pub count: u64,
+    pub ranges: &'a [u64],
+    pub ends: &'a [i64],
+    pub channels: u64,
+    pub times: &'a [u64],
+    pub values: &'a [i64],
+}
+
+pub fn margin(call: &Call, work: &mut [i64], result: &mut [i64]) -> u64 {
+    unsafe {
+        varmityep_margin(
+            call.nodes.as_ptr(),
+            call.nodes.len(),
+            call.count,
+            call.ranges.as_ptr(),
+            call.ranges.len(),
+            call.ends.as_ptr(),
+            call.ends.len(),
+            call.channels,
+            call.times.as_ptr(),
+            call.times.len(),
+            call.values.as_ptr(),
+            call.values.len(),
+            work.as_mut_ptr(),
+            work.len(),
+            result.as_mut_ptr(),
+            result.len(),
+        )
+    }
+}
+
+pub fn verdict(call: &Call, step: u64, drift: u64, work: &mut [i64], result: &mut [i64]) -> u64 {
+    unsafe {
+        varmityep_verdict(
+            call.nodes.as_ptr(),
+            call.nodes.len(),
+            call.count,
+            call.ranges.as_ptr(),
+            call.ranges.len(),
+            call.ends.as_ptr(),
+            call.ends.len(),
+            call.channels,
+            call.times.as_ptr(),
+            call.times.len(),
+            call.values.as_ptr(),
+            call.values.len(),
+            step,
+            drift,
+            work.as_mut_ptr(),
+            work.len(),
+            result.as_mut_ptr(),
+            result.len(),
+        )
+    }
+}

@@ -1,0 +1,64 @@
+//! Predicates: a channel together with a range of values.
+
+/// The values that a predicate takes in, its ends counted.
+#[derive(Clone, Copy, PartialEq, Eq, Hash, Debug, Default)]
+pub enum Range {
+    /// No predicate stands at this number.
+    #[default]
+    Unset,
+    /// Every value.
+    Free,
+    AtLeast(i64),
+    AtMost(i64),
+    Between(i64, i64),
+}
+
+/// A range of one channel's values. An unset predicate's channel is 0.
+#[derive(Clone, Copy, PartialEq, Eq, Hash, Debug, Default)]
+pub struct Predicate {
+    pub channel: u64,
+    pub range: Range,
+}
+
+/// Predicates 0 to 15.
+pub type Predicates = [Predicate; 16];
+
+/// Range and channel, lo and hi of each predicate, as the library takes them.
+pub(crate) struct Flat {
+    pub ranges: [u64; 32],
+    pub ends: [i64; 32],
+}
+
+impl Flat {
+    pub const BLANK: Flat = Flat { ranges: [0; 32], ends: [0; 32] };
+}
+
+pub(crate) fn to_flat(predicates: &Predicates) -> Flat {
+    let mut flat = Flat::BLANK;
+    for (p, predicate) in predicates.iter().enumerate() {
+        let (range, lo, hi) = match predicate.range {
+            Range::Unset => (0, 0, 0),
+            Range::Free => (1, 0, 0),
+            Range::AtLeast(lo) => (2, lo, 0),
+            Range::AtMost(hi) => (3, 0, hi),
+            Range::Between(lo, hi) => (4, lo, hi),
+        };
+        flat.ranges[2 * p..2 * p + 2].copy_from_slice(&[range, predicate.channel]);
+        flat.ends[2 * p..2 * p + 2].copy_from_slice(&[lo, hi]);
+    }
+    flat
+}
+
+pub(crate) fn of_flat(flat: &Flat) -> Predicates {
+    std::array::from_fn(|p| {
+        let (lo, hi) = (flat.ends[2 * p], flat.ends[2 * p + 1]);
+        let range = match flat.ranges[2 * p] {
+            1 => Range::Free,
+            2 => Range::AtLeast(lo),
+            3 => Range::AtMost(hi),
+            4 => Range::Between(lo, hi),
+            _ => Range::Unset,
+        };
+        Predicate { channel: flat.ranges[2 * p + 1], range }
+    })
+}

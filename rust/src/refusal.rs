@@ -1,0 +1,80 @@
+//! The numbers by which an input is refused, in document 01's words.
+
+use std::error::Error;
+use std::fmt;
+
+/// Why an input is refused. Of several reasons the lowest number is given.
+#[derive(Clone, Copy, PartialEq, Eq, PartialOrd, Ord, Hash, Debug)]
+pub enum Refusal {
+    Text = 1,
+    Requirement = 2,
+    Table = 3,
+    Predicates = 4,
+    Samples = 5,
+    Times = 6,
+    Values = 7,
+    Work = 8,
+    StepOrDrift = 9,
+    Gap = 10,
+    Jump = 11,
+}
+
+impl Refusal {
+    /// Every refusal, by rising number.
+    pub const ALL: [Refusal; 11] = [
+        Refusal::Text,
+        Refusal::Requirement,
+        Refusal::Table,
+        Refusal::Predicates,
+        Refusal::Samples,
+        Refusal::Times,
+        Refusal::Values,
+        Refusal::Work,
+        Refusal::StepOrDrift,
+        Refusal::Gap,
+        Refusal::Jump,
+    ];
+
+    /// Document 01's number, 1 to 11.
+    pub fn number(self) -> u64 {
+        self as u64
+    }
+
+    /// Nothing, or the refusal of that number.
+    ///
+    /// # Panics
+    /// For a number above 11, which the library never returns.
+    pub(crate) fn check(number: u64) -> Result<(), Refusal> {
+        match number {
+            0 => Ok(()),
+            _ => Err(Refusal::ALL[number as usize - 1]),
+        }
+    }
+}
+
+impl fmt::Display for Refusal {
+    fn fmt(&self, f: &mut fmt::Formatter<'_>) -> fmt::Result {
+        f.write_str(match self {
+            Refusal::Text => {
+                "a line breaks the text form or is missing, or the text exceeds 65,536 bytes"
+            }
+            Refusal::Requirement => "requirement text outside the grammar or its limits",
+            Refusal::Table => {
+                "a table rule broken, or a node names a predicate that is unset or above 15"
+            }
+            Refusal::Predicates => {
+                "channels not 1 to 8, or a set predicate with a channel not below that count, an \
+                 end out of range or lo > hi"
+            }
+            Refusal::Samples => "no sample, over 4,096, or values not rows × channels long",
+            Refusal::Times => "times not rising, or one too large",
+            Refusal::Values => "a value out of range",
+            Refusal::Work => "work shorter than asked for",
+            Refusal::StepOrDrift => "step or drift out of range",
+            Refusal::Gap => "two neighbouring times differ by more than the step",
+            Refusal::Jump => "neighbouring values of a channel differ by more than 2 × drift",
+        })
+    }
+}
+
+impl Error for Refusal {}

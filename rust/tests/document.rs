@@ -1,0 +1,161 @@
+//! Document 01's example, whole and by its parts, and every refusal number.
+
+use margin::{
+    answer, margin, read_requirement, read_rows, read_sheet, verdict, Counts, Judgement, Node,
+    Predicate, Predicates, Range, Recording, Refusal, Table, Verdict,
+};
+
+const EXAMPLE: &str = "\
+chan=1
+p=0 ch=0 lo=5 hi=*
+step=1
+drift=2
+req=G[0,2]p0
+t=0 src=m v0=10
+t=1 src=m v0=11
+t=2 src=m v0=10
+t=3 src=m v0=9
+t=4 src=m v0=10
+";
+
+#[test]
+fn the_example_prints_its_line() {
+    let line = "rows=5 filled=0 margin=6 hold=5 fail=-7 verdict=holds\n";
+    assert_eq!(answer(EXAMPLE.as_bytes()), line);
+}
+
+#[test]
+fn the_example_by_its_parts() {
+    let sheet = read_sheet(EXAMPLE.as_bytes()).unwrap();
+    assert_eq!((sheet.channels, sheet.step, sheet.drift), (1, 1, 2));
+    assert_eq!(sheet.predicates[0], Predicate { channel: 0, range: Range::AtLeast(5) });
+    assert_eq!(sheet.predicates[1..], [Predicate::default(); 15]);
+    assert_eq!(sheet.requirement, b"G[0,2]p0");
+
+    let table = read_requirement(sheet.requirement).unwrap();
+    let leaf = Node { kind: 1, ..Node::default() };
+    assert_eq!(table.nodes, [leaf, Node { kind: 8, hi: 2, ..Node::default() }]);
+
+    let (mut times, mut values) = ([7; 6], [7; 6]);
+    let counts = read_rows(sheet.rows, 1, &mut times, &mut values);
+    assert_eq!(counts, Ok(Counts { measured: 5, filled: 0 }));
+    assert_eq!((times, values), ([0, 1, 2, 3, 4, 7], [10, 11, 10, 9, 10, 7]));
+
+    let recording = Recording { channels: 1, times: &times[..5], values: &values[..5] };
+    let mut work = [77; 21];
+    assert_eq!(margin(&table, &sheet.predicates, &recording, &mut work), Ok(6));
+    assert_eq!(work[..10], [6, 7, 6, 5, 6, 6, 5, 5, 5, 6]);
+    assert_eq!(work[10..], [77; 11]);
+    let judged = verdict(&table, &sheet.predicates, &recording, 1, 2, &mut work);
+    assert_eq!(judged, Ok(Judgement { verdict: Verdict::Holds, hold: 5, fail: -7 }));
+    assert_eq!(work[20], 77);
+}
+
+/// A sheet of so many rows, one second apart, none of which misses anything.
+fn long_sheet(requirement: &str, rows: usize) -> String {
+    let head = format!("chan=1\np=0 ch=0 lo=5 hi=*\nstep=1\ndrift=2\nreq={requirement}\n");
+    head + &(0..rows).map(|t| format!("t={t} src=m v0=10\n")).collect::<String>()
+}
+
+#[test]
+fn every_number_refuses_a_sheet() {
+    let edits = [
+        (1, "step=1", "step=01"),
+        (2, "req=G[0,2]p0", "req=G[2,0]p0"),
+        (3, "req=G[0,2]p0", "req=G[0,2]p1"),
+        (4, "ch=0", "ch=1"),
+        (6, "t=2", "t=1"),
+        (7, "v0=11", "v0=1000000001"),
+        (9, "step=1", "step=0"),
+        (10, "t=2 src=m", "t=2 src=f"),
+        (11, "v0=9", "v0=15"),
+    ];
+    for (number, old, new) in edits {
+        let refused = answer(EXAMPLE.replace(old, new).as_bytes());
+        assert_eq!(refused, format!("refused={number}\n"), "{new}");
+    }
+    assert_eq!(answer(long_sheet("G[0,2]p0", 2_049).as_bytes()), "refused=5\n");
+    assert_eq!(answer(long_sheet("!G[0,2]p0", 2_048).as_bytes()), "refused=8\n");
+    assert!(answer(long_sheet("G[0,2]p0", 2_048).as_bytes()).starts_with("rows=2048 filled=0 "));
+}
+
+/// What margin and verdict are called with, to be broken in one place.
+struct Call {
+    table: Table,
+    predicates: Predicates,
+    channels: u64,
+    times: Vec<u64>,
+    values: Vec<i64>,
+    step: u64,
+    drift: u64,
+    cells: usize,
+}
+
+fn whole() -> Call {
+    let mut predicates = Predicates::default();
+    predicates[0] = Predicate { channel: 0, range: Range::AtLeast(5) };
+    let table = read_requirement(b"G[0,2]p0").unwrap();
+    let (times, values) = (vec![0, 1, 2], vec![10, 11, 10]);
+    Call { table, predicates, channels: 1, times, values, step: 1, drift: 2, cells: 12 }
+}
+
+/// The refusals of margin and verdict, which must leave the cells as they are.
+fn refusals(call: &Call) -> (Option<Refusal>, Option<Refusal>) {
+    let recording = Recording { channels: call.channels, times: &call.times, values: &call.values };
+    let (table, predicates) = (&call.table, &call.predicates);
+    let mut work = vec![77; call.cells];
+    let judged = verdict(table, predicates, &recording, call.step, call.drift, &mut work);
+    assert!(judged.is_ok() || work == vec![77; call.cells]);
+    work.fill(77);
+    let found = margin(table, predicates, &recording, &mut work);
+    assert!(found.is_ok() || work == vec![77; call.cells]);
+    (found.err(), judged.err())
+}
+
+#[test]
+fn every_refusal_of_margin_and_verdict() {
+    type Break = fn(&mut Call);
+    let breaks: [(Refusal, Break); 10] = [
+        (Refusal::Table, |c| c.table.nodes[1].left = 1),
+        (Refusal::Table, |c| c.table.nodes.resize(65, Node::default())),
+        (Refusal::Predicates, |c| c.predicates[9] = Predicate { channel: 1, range: Range::Free }),
+        (Refusal::Samples, |c| c.values.push(10)),
+        (Refusal::Times, |c| c.times[1] = 0),
+        (Refusal::Values, |c| c.values[2] = -1_000_000_001),
+        (Refusal::Work, |c| c.cells = 5),
+        (Refusal::StepOrDrift, |c| c.step = 0),
+        (Refusal::Gap, |c| c.times[2] = 3),
+        (Refusal::Jump, |c| c.values[2] = 6),
+    ];
+    assert_eq!(refusals(&whole()), (None, None));
+    for (refusal, break_it) in breaks {
+        let mut call = whole();
+        break_it(&mut call);
+        // The margin knows neither step nor drift.
+        let plain = Some(refusal).filter(|refusal| refusal.number() <= 8);
+        assert_eq!(refusals(&call), (plain, Some(refusal)));
+    }
+    // Between the two needs of cells, the margin has room and the verdict has not.
+    assert_eq!(refusals(&Call { cells: 11, ..whole() }), (None, Some(Refusal::Work)));
+}
+
+#[test]
+fn every_refusal_of_the_readers() {
+    assert_eq!(read_sheet(b"chan=1\n").err(), Some(Refusal::Text));
+    assert_eq!(read_requirement(b"G[0,2] p0").err(), Some(Refusal::Requirement));
+    let row = b"t=0 src=m v0=10\n";
+    let (mut times, mut values) = ([7; 1], [7; 1]);
+    let mut read = |text: &[u8], channels, room| {
+        read_rows(text, channels, &mut times[..room], &mut values).err()
+    };
+    assert_eq!(read(b"t=0 src=x v0=10\n", 1, 1), Some(Refusal::Text));
+    assert_eq!(read(row, 9, 1), Some(Refusal::Predicates));
+    assert_eq!(read(row, 1, 0), Some(Refusal::Samples));
+    assert_eq!((times, values), ([7], [7]));
+}
+
+#[test]
+fn refusals_count_from_one() {
+    let numbers: Vec<u64> = Refusal::ALL.iter().map(|refusal| refusal.number()).collect();
+    assert_eq!(numbers, (1..=11).collect::<Vec<u64>>());
+}
