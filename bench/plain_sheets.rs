@@ -1,0 +1,301 @@
+//! Sheets, requirement text and rows read and answered in plain Rust, by the algorithm of the proved library: what its speed is compared with.
+
+use crate::plain::{self, Card, Node, Predicate, Range, NO_END};
+use std::io::Write;
+
+const LONGEST_TEXT: usize = 65_536;
+const LARGEST: u64 = 4_294_967_295;
+const LARGEST_SIGNED: u64 = 2_147_483_647;
+const FURTHEST: u64 = 1_000_000_000;
+/// What an answer has room for.
+const ROWS: usize = 2_048;
+const CELLS: usize = 8_192;
+/// `t=0 src=m v0=0` and its line feed.
+const SHORTEST_ROW: usize = 15;
+
+/// What was read, and the bytes behind it.
+type Read<'a, T> = Option<(T, &'a [u8])>;
+
+/// A number of up to ten digits without a leading zero, at most `max`.
+fn number(text: &[u8], max: u64) -> Read<'_, u64> {
+    let digits = text.iter().take(11).take_while(|b| b.is_ascii_digit()).count();
+    if digits == 0 || digits > 10 || digits > 1 && text[0] == b'0' {
+        return None;
+    }
+    let (digits, rest) = text.split_at(digits);
+    let value = digits.iter().fold(0, |value, b| value * 10 + u64::from(b - b'0'));
+    (value <= max).then_some((value, rest))
+}
+
+fn signed(text: &[u8]) -> Read<'_, i64> {
+    match text.strip_prefix(b"-") {
+        Some(text) => number(text, LARGEST_SIGNED).filter(|&(size, _)| size != 0).map(|(size, rest)| (-(size as i64), rest)),
+        None => number(text, LARGEST_SIGNED).map(|(size, rest)| (size as i64, rest)),
+    }
+}
+
+/// A field of a key and a number.
+fn field<'a>(text: &'a [u8], key: &[u8], max: u64) -> Read<'a, u64> {
+    number(text.strip_prefix(key)?, max)
+}
+
+/// A line of a key and a number.
+fn line<'a>(text: &'a [u8], key: &[u8]) -> Read<'a, u64> {
+    let (value, rest) = field(text, key, LARGEST)?;
+    Some((value, rest.strip_prefix(b"\n")?))
+}
+
+/// An end of a range, `*` if it is missing.
+fn end<'a>(text: &'a [u8], key: &[u8]) -> Read<'a, Option<i64>> {
+    let text = text.strip_prefix(key)?;
+    match text.strip_prefix(b"*") {
+        Some(rest) => Some((None, rest)),
+        None => signed(text).map(|(value, rest)| (Some(value), rest)),
+    }
+}
+
+fn predicate(text: &[u8]) -> Read<'_, (usize, Predicate)> {
+    let (p, rest) = field(text, b"p=", 15)?;
+    let (channel, rest) = field(rest, b" ch=", LARGEST)?;
+    let (lo, rest) = end(rest, b" lo=")?;
+    let (hi, rest) = end(rest, b" hi=")?;
+    let range = match (lo, hi) {
+        (None, None) => Range::Free,
+        (Some(lo), None) => Range::AtLeast(lo),
+        (None, Some(hi)) => Range::AtMost(hi),
+        (Some(lo), Some(hi)) => Range::Between(lo, hi),
+    };
+    Some(((p as usize, Predicate { channel: channel as usize, range }), rest.strip_prefix(b"\n")?))
+}
+
+fn predicates(mut text: &[u8]) -> Read<'_, [Predicate; 16]> {
+    let mut predicates = [Predicate { channel: 0, range: Range::Unset }; 16];
+    while text.starts_with(b"p=") {
+        let ((p, predicate), rest) = predicate(text)?;
+        if !matches!(predicates[p].range, Range::Unset) {
+            return None;
+        }
+        predicates[p] = predicate;
+        text = rest;
+    }
+    Some((predicates, text))
+}
+
+/// A row's line: its time, whether it is measured; its values are handed on one by one.
+fn row(text: &[u8], channels: usize, mut each: impl FnMut(usize, i64)) -> Read<'_, (u64, bool)> {
+    let (time, rest) = field(text, b"t=", LARGEST)?;
+    let (&source, mut rest) = rest.strip_prefix(b" src=")?.split_first()?;
+    if source != b'm' && source != b'f' {
+        return None;
+    }
+    for channel in 0..channels {
+        let (value, after) = signed(rest.strip_prefix(&[b' ', b'v', b'0' + channel as u8, b'='])?)?;
+        each(channel, value);
+        rest = after;
+    }
+    Some(((time, source == b'm'), rest.strip_prefix(b"\n")?))
+}
+
+/// Measured and filled rows of a text that has the form.
+fn counted(mut text: &[u8], channels: usize) -> Option<(usize, usize)> {
+    let (mut measured, mut filled) = (0, 0);
+    while !text.is_empty() {
+        let ((_, is_measured), rest) = row(text, channels, |_, _| ())?;
+        if is_measured { measured += 1 } else { filled += 1 }
+        text = rest;
+    }
+    Some((measured, filled))
+}
+
+/// Measured and filled rows, or the number of what refuses them. Nothing is stored under a refusal.
+pub fn rows(text: &[u8], channels: usize, times: &mut [u64], values: &mut [i64]) -> Result<(usize, usize), u64> {
+    if text.len() > LONGEST_TEXT {
+        return Err(1);
+    }
+    if !(1..=8).contains(&channels) {
+        return Err(4);
+    }
+    let (measured, filled) = counted(text, channels).ok_or(1u64)?;
+    if measured > 4_096 || measured > times.len() || measured * channels > values.len() {
+        return Err(5);
+    }
+    let mut places = times.iter_mut().zip(values.chunks_exact_mut(channels));
+    let mut text = text;
+    while !text.is_empty() {
+        let mut own = [0; 8];
+        let ((time, is_measured), rest) = row(text, channels, |c, v| own[c] = v).ok_or(1u64)?;
+        if is_measured {
+            let (t, v) = places.next().ok_or(5u64)?;
+            *t = time;
+            v.copy_from_slice(&own[..channels]);
+        }
+        text = rest;
+    }
+    Ok((measured, filled))
+}
+
+pub struct Sheet<'a> {
+    pub channels: usize,
+    pub step: u64,
+    pub drift: u64,
+    pub predicates: [Predicate; 16],
+    pub requirement: &'a [u8],
+    pub rows: &'a [u8],
+}
+
+pub fn sheet(text: &[u8]) -> Option<Sheet<'_>> {
+    if text.len() > LONGEST_TEXT {
+        return None;
+    }
+    let (channels, rest) = line(text, b"chan=")?;
+    let (predicates, rest) = predicates(rest)?;
+    let (step, rest) = line(rest, b"step=")?;
+    let (drift, rest) = line(rest, b"drift=")?;
+    let rest = rest.strip_prefix(b"req=")?;
+    let (requirement, rows) = rest.split_at(rest.iter().position(|&b| b == b'\n')?);
+    let (channels, rows) = (channels as usize, &rows[1..]);
+    if (1..=8).contains(&channels) {
+        counted(rows, channels)?;
+    }
+    Some(Sheet { channels, step, drift, predicates, requirement, rows })
+}
+
+/// Nodes while they are read: left, right, parent.
+struct Builder {
+    nodes: Vec<Node>,
+}
+
+impl Builder {
+    fn push(&mut self, kind: u64, left: usize, right: usize, (lo, hi): (u64, u64)) -> Option<usize> {
+        if self.nodes.len() == 64 {
+            return None;
+        }
+        self.nodes.push(Node { kind, left, right, lo, hi });
+        Some(self.nodes.len() - 1)
+    }
+
+    fn unary<'a>(&mut self, text: &'a [u8], depth: usize) -> Read<'a, usize> {
+        let (&letter, rest) = text.split_first()?;
+        match letter {
+            b'T' => Some((self.push(0, 0, 0, (0, 0))?, rest)),
+            b'p' => {
+                let (p, rest) = number(rest, 15)?;
+                Some((self.push(1, p as usize, 0, (0, 0))?, rest))
+            }
+            _ if depth == 0 => None,
+            b'(' => {
+                let (node, rest) = self.alternative(rest, depth - 1)?;
+                Some((node, rest.strip_prefix(b")")?))
+            }
+            b'!' => {
+                let (left, rest) = self.unary(rest, depth - 1)?;
+                Some((self.push(2, left, 0, (0, 0))?, rest))
+            }
+            b'F' | b'G' => {
+                let (ends, rest) = window(rest)?;
+                let (left, rest) = self.unary(rest, depth - 1)?;
+                Some((self.push(if letter == b'F' { 7 } else { 8 }, left, 0, ends)?, rest))
+            }
+            _ => None,
+        }
+    }
+
+    fn bind<'a>(&mut self, text: &'a [u8], depth: usize) -> Read<'a, usize> {
+        let (left, rest) = self.unary(text, depth)?;
+        let kind = match rest.first() {
+            Some(b'U') => 5,
+            Some(b'R') => 6,
+            _ => return Some((left, rest)),
+        };
+        let (ends, rest) = window(&rest[1..])?;
+        let (right, rest) = self.unary(rest, depth)?;
+        Some((self.push(kind, left, right, ends)?, rest))
+    }
+
+    fn conjunction<'a>(&mut self, text: &'a [u8], depth: usize) -> Read<'a, usize> {
+        let (mut left, mut text) = self.bind(text, depth)?;
+        while let Some(rest) = text.strip_prefix(b"&") {
+            let (right, rest) = self.bind(rest, depth)?;
+            left = self.push(3, left, right, (0, 0))?;
+            text = rest;
+        }
+        Some((left, text))
+    }
+
+    fn alternative<'a>(&mut self, text: &'a [u8], depth: usize) -> Read<'a, usize> {
+        let (mut left, mut text) = self.conjunction(text, depth)?;
+        while let Some(rest) = text.strip_prefix(b"|") {
+            let (right, rest) = self.conjunction(rest, depth)?;
+            left = self.push(4, left, right, (0, 0))?;
+            text = rest;
+        }
+        Some((left, text))
+    }
+}
+
+fn window(text: &[u8]) -> Read<'_, (u64, u64)> {
+    let (lo, rest) = field(text, b"[", FURTHEST)?;
+    let rest = rest.strip_prefix(b",")?;
+    let (hi, rest) = match rest.strip_prefix(b"*") {
+        Some(rest) => (NO_END, rest),
+        None => number(rest, FURTHEST).filter(|&(hi, _)| lo <= hi)?,
+    };
+    Some(((lo, hi), rest.strip_prefix(b"]")?))
+}
+
+pub fn requirement(text: &[u8]) -> Option<Vec<Node>> {
+    let mut builder = Builder { nodes: Vec::with_capacity(64) };
+    let (_, rest) = builder.alternative(text, 32)?;
+    rest.is_empty().then_some(builder.nodes)
+}
+
+/// The number of what the verdict refuses, its tests in order. Asked only where there is one.
+#[cold]
+fn refusal(nodes: &[Node], card: &Card, step: u64, drift: u64) -> u64 {
+    let set = |n: &Node| n.kind != 1 || !matches!(card.predicates[n.left].range, Range::Unset);
+    let fits = |v: i64| v.unsigned_abs() <= 1_000_000_000;
+    let kept = |p: &Predicate| match p.range {
+        Range::Unset => true,
+        Range::Free => p.channel < card.channels,
+        Range::AtLeast(e) | Range::AtMost(e) => p.channel < card.channels && fits(e),
+        Range::Between(lo, hi) => p.channel < card.channels && fits(lo) && fits(hi) && lo <= hi,
+    };
+    let tests = [
+        (3, nodes.iter().all(set)),
+        (4, (1..=8).contains(&card.channels) && card.predicates.iter().all(kept)),
+        (5, !card.times.is_empty()),
+        (6, card.times.windows(2).all(|t| t[0] < t[1]) && card.times.iter().all(|&t| t <= 2_000_000_000)),
+        (7, card.values.iter().all(|&v| fits(v))),
+        (8, 2 * nodes.len() * card.times.len() <= CELLS),
+        (9, (1..=1_000_000_000).contains(&step) && drift <= 1_000_000_000),
+        (10, card.times.windows(2).all(|t| t[1] - t[0] <= step)),
+    ];
+    tests.iter().find(|(_, holds)| !holds).map_or(11, |&(number, _)| number)
+}
+
+/// The printed figures of a sheet, or the number of what refuses it.
+fn figures(text: &[u8], line: &mut Vec<u8>) -> Result<(), u64> {
+    let sheet = sheet(text).ok_or(1u64)?;
+    let nodes = requirement(sheet.requirement).ok_or(2u64)?;
+    let room = ROWS.min(sheet.rows.len() / SHORTEST_ROW);
+    let width = if sheet.channels <= 8 { sheet.channels } else { 0 };
+    let (mut times, mut values) = (vec![0; room], vec![0; room * width]);
+    // rows that are unread or too many leave a recording without a sample
+    let (measured, filled) = rows(sheet.rows, sheet.channels, &mut times, &mut values).unwrap_or_default();
+    let card = Card { predicates: &sheet.predicates, channels: sheet.channels, times: &times[..measured], values: &values[..measured * width] };
+    let mut work = vec![0; CELLS.min(2 * nodes.len() * measured)];
+    let judged = plain::verdict(&nodes, &card, sheet.step, sheet.drift, &mut work);
+    let Some((hold, fail)) = judged else { return Err(refusal(&nodes, &card, sheet.step, sheet.drift)) };
+    let margin = plain::margin(&nodes, &card, &mut work).ok_or(8u64)?;
+    let drift = sheet.drift as i64;
+    let verdict = if hold > drift { "holds" } else if fail > drift { "fails" } else { "unshown" };
+    writeln!(line, "rows={measured} filled={filled} margin={margin} hold={hold} fail={fail} verdict={verdict}").map_err(|_| 1u64)
+}
+
+/// The line that is printed for a sheet.
+pub fn answer(text: &[u8], line: &mut Vec<u8>) {
+    line.clear();
+    if let Err(number) = figures(text, line) {
+        writeln!(line, "refused={number}").expect("a Vec takes every byte");
+    }
+}

@@ -1,0 +1,32 @@
+//! The time of one call, and figures drawn at random from a seed.
+
+use std::time::Instant;
+
+pub struct Random(pub u64);
+
+impl Random {
+    pub fn next(&mut self, bound: u64) -> u64 {
+        self.0 = self.0.wrapping_mul(6364136223846793005).wrapping_add(1442695040888963407);
+        (self.0 >> 33) % bound
+    }
+
+    pub fn value(&mut self) -> i64 {
+        self.next(2_000_000_001) as i64 - 1_000_000_000
+    }
+}
+
+/// Seconds for one call, from a run of calls that lasts a millisecond or more. The clock is read outside the run, because some calls take no longer than it does.
+pub fn seconds(mut call: impl FnMut()) -> f64 {
+    let mut calls = 1u32;
+    loop {
+        let began = Instant::now();
+        for _ in 0..calls {
+            call();
+        }
+        let took = began.elapsed().as_secs_f64();
+        if took >= 0.001 {
+            return took / f64::from(calls);
+        }
+        calls *= 2;
+    }
+}
