@@ -146,50 +146,37 @@ pub struct Call<'a> {
     pub values: &'a [i64],
 }
 
+/// Margin and verdict take the same call; the verdict takes its step and drift, too.
+macro_rules! ask {
+    ($name:ident, $call:expr, [$($number:expr),*], $work:expr, $result:expr) => {
+        unsafe {
+            $name(
+                $call.nodes.as_ptr(),
+                $call.nodes.len(),
+                $call.count,
+                $call.ranges.as_ptr(),
+                $call.ranges.len(),
+                $call.ends.as_ptr(),
+                $call.ends.len(),
+                $call.channels,
+                $call.times.as_ptr(),
+                $call.times.len(),
+                $call.values.as_ptr(),
+                $call.values.len(),
+                $($number,)*
+                $work.as_mut_ptr(),
+                $work.len(),
+                $result.as_mut_ptr(),
+                $result.len(),
+            )
+        }
+    };
+}
+
 pub fn margin(call: &Call, work: &mut [i64], result: &mut [i64]) -> u64 {
-    unsafe {
-        varmityep_margin(
-            call.nodes.as_ptr(),
-            call.nodes.len(),
-            call.count,
-            call.ranges.as_ptr(),
-            call.ranges.len(),
-            call.ends.as_ptr(),
-            call.ends.len(),
-            call.channels,
-            call.times.as_ptr(),
-            call.times.len(),
-            call.values.as_ptr(),
-            call.values.len(),
-            work.as_mut_ptr(),
-            work.len(),
-            result.as_mut_ptr(),
-            result.len(),
-        )
-    }
+    ask!(varmityep_margin, call, [], work, result)
 }
 
 pub fn verdict(call: &Call, step: u64, drift: u64, work: &mut [i64], result: &mut [i64]) -> u64 {
-    unsafe {
-        varmityep_verdict(
-            call.nodes.as_ptr(),
-            call.nodes.len(),
-            call.count,
-            call.ranges.as_ptr(),
-            call.ranges.len(),
-            call.ends.as_ptr(),
-            call.ends.len(),
-            call.channels,
-            call.times.as_ptr(),
-            call.times.len(),
-            call.values.as_ptr(),
-            call.values.len(),
-            step,
-            drift,
-            work.as_mut_ptr(),
-            work.len(),
-            result.as_mut_ptr(),
-            result.len(),
-        )
-    }
+    ask!(varmityep_verdict, call, [step, drift], work, result)
 }

@@ -67,74 +67,55 @@ unsafe extern "C" fn varmityep_rows(
     refusal
 }
 
-/// The flat parts that margin and verdict share, as the types of the trait.
-unsafe fn parts(
-    nodes: *const u64,
-    count: u64,
-    ranges: *const u64,
-    ends: *const i64,
-) -> (FlatTable, FlatPredicates) {
-    let nodes = from_raw_parts(nodes, 320).try_into().expect("320 numbers");
-    let ranges = from_raw_parts(ranges, 32).try_into().expect("32 numbers");
-    let ends = from_raw_parts(ends, 32).try_into().expect("32 numbers");
-    (FlatTable { count, nodes }, FlatPredicates { ranges, ends })
+/// Margin and verdict are handed the same; the verdict its step and drift, too.
+macro_rules! judging {
+    ($name:ident, [$($number:ident),*], $ask:expr) => {
+        #[no_mangle]
+        unsafe extern "C" fn $name(
+            nodes: *const u64,
+            nodes_len: usize,
+            count: u64,
+            ranges: *const u64,
+            ranges_len: usize,
+            ends: *const i64,
+            ends_len: usize,
+            channels: u64,
+            times: *const u64,
+            times_len: usize,
+            values: *const i64,
+            values_len: usize,
+            $($number: u64,)*
+            work: *mut i64,
+            work_len: usize,
+            result: *mut i64,
+            result_len: usize,
+        ) -> u64 {
+            let nodes = from_raw_parts(nodes, nodes_len).try_into().expect("320 numbers");
+            let ranges = from_raw_parts(ranges, ranges_len).try_into().expect("32 numbers");
+            let ends = from_raw_parts(ends, ends_len).try_into().expect("32 numbers");
+            let call = FlatCall {
+                table: &FlatTable { count, nodes },
+                predicates: &FlatPredicates { ranges, ends },
+                channels,
+                times: from_raw_parts(times, times_len),
+                values: from_raw_parts(values, values_len),
+            };
+            let work = from_raw_parts_mut(work, work_len);
+            let (refusal, handed) = $ask(&call, $($number,)* work);
+            from_raw_parts_mut(result, result_len).copy_from_slice(&handed);
+            refusal
+        }
+    };
 }
 
-#[no_mangle]
-unsafe extern "C" fn varmityep_margin(
-    nodes: *const u64,
-    _nodes_len: usize,
-    count: u64,
-    ranges: *const u64,
-    _ranges_len: usize,
-    ends: *const i64,
-    _ends_len: usize,
-    channels: u64,
-    times: *const u64,
-    times_len: usize,
-    values: *const i64,
-    values_len: usize,
-    work: *mut i64,
-    work_len: usize,
-    result: *mut i64,
-    result_len: usize,
-) -> u64 {
-    let (table, predicates) = parts(nodes, count, ranges, ends);
-    let (times, values) = (from_raw_parts(times, times_len), from_raw_parts(values, values_len));
-    let call = FlatCall { table: &table, predicates: &predicates, channels, times, values };
-    let (refusal, margin) = Peer.margin(&call, from_raw_parts_mut(work, work_len));
-    from_raw_parts_mut(result, result_len).copy_from_slice(&[margin]);
-    refusal
-}
+judging!(varmityep_margin, [], |call: &FlatCall, work| {
+    let (refusal, margin) = Peer.margin(call, work);
+    (refusal, [margin])
+});
 
-#[no_mangle]
-unsafe extern "C" fn varmityep_verdict(
-    nodes: *const u64,
-    _nodes_len: usize,
-    count: u64,
-    ranges: *const u64,
-    _ranges_len: usize,
-    ends: *const i64,
-    _ends_len: usize,
-    channels: u64,
-    times: *const u64,
-    times_len: usize,
-    values: *const i64,
-    values_len: usize,
-    step: u64,
-    drift: u64,
-    work: *mut i64,
-    work_len: usize,
-    result: *mut i64,
-    result_len: usize,
-) -> u64 {
-    let (table, predicates) = parts(nodes, count, ranges, ends);
-    let (times, values) = (from_raw_parts(times, times_len), from_raw_parts(values, values_len));
-    let call = FlatCall { table: &table, predicates: &predicates, channels, times, values };
-    let (refusal, handed) = Peer.verdict(&call, step, drift, from_raw_parts_mut(work, work_len));
-    from_raw_parts_mut(result, result_len).copy_from_slice(&handed);
-    refusal
-}
+judging!(varmityep_verdict, [step, drift], |call: &FlatCall, step, drift, work| {
+    Peer.verdict(call, step, drift, work)
+});
 
 #[test]
 fn the_peer_behind_the_c_names_agrees_with_itself() {

@@ -4,7 +4,7 @@
 use crate::predicate::Predicates;
 use crate::recording::Recording;
 use crate::tree::Atom;
-use crate::truth::Places;
+use crate::truth::{atom_truth, Places};
 
 /// A number for each channel at each second of the span, one second after the other.
 #[derive(Clone, PartialEq, Eq, Debug)]
@@ -116,14 +116,8 @@ impl Places for Seconds<'_> {
     }
 
     fn atom(&self, atom: Atom, negated: bool, second: usize) -> bool {
-        let truth = match atom {
-            Atom::True => true,
-            Atom::Predicate(number) => {
-                let predicate = self.predicates[number];
-                predicate.range.contains(self.history.number(second, predicate.channel))
-            }
-        };
-        truth != negated
+        let number = |channel| self.history.number(second, channel);
+        atom_truth(atom, self.predicates, number) != negated
     }
 }
 

@@ -1,5 +1,7 @@
 //! Truth of a requirement at places that have times: the samples of a recording, or the seconds
 //! of a history. "The table's readings with seconds for samples."
+//!
+//! Nothing is shared with the margins' reading, because the driver compares the two.
 
 use crate::memo::Memo;
 use crate::predicate::Predicates;
@@ -99,6 +101,14 @@ impl<'a, P: Places> Truth<'a, P> {
     }
 }
 
+/// "A predicate is true inside its range", or "where its channel's number then is inside".
+pub fn atom_truth(atom: Atom, predicates: &Predicates, number: impl Fn(u64) -> i64) -> bool {
+    match atom {
+        Atom::True => true,
+        Atom::Predicate(p) => predicates[p].range.contains(number(predicates[p].channel)),
+    }
+}
+
 /// The samples of an accepted recording.
 pub struct Samples<'a> {
     pub predicates: &'a Predicates,
@@ -114,15 +124,8 @@ impl Places for Samples<'_> {
         self.recording.time(sample)
     }
 
-    /// "A predicate is true inside its range."
     fn atom(&self, atom: Atom, negated: bool, sample: usize) -> bool {
-        let truth = match atom {
-            Atom::True => true,
-            Atom::Predicate(number) => {
-                let predicate = self.predicates[number];
-                predicate.range.contains(self.recording.value(sample, predicate.channel))
-            }
-        };
-        truth != negated
+        let value = |channel| self.recording.value(sample, channel);
+        atom_truth(atom, self.predicates, value) != negated
     }
 }
