@@ -8,7 +8,10 @@
 //! Here numbers are only brought into and out of the flat form that the library takes. Whatever is
 //! decided is decided in the library, which is proved.
 
+#![deny(unsafe_code)]
+
 mod judge;
+#[allow(unsafe_code)]
 mod names;
 mod predicate;
 mod refusal;
