@@ -13,7 +13,7 @@ use Rattle.recordings.specs.declared.Verdict.the-variants.{Holds, Fails, NotSho
 use Rattle.text.specs.Bytes.{bytes}
 use Rattle.printing.specs.declared.Line.{Line}
 use Rattle.printing.specs.Decimal.{decimal, decimal-signed}
-use Rattle.printing.specs.Line.{blank-line, written, text-of}
+use Rattle.printing.specs.Line.{blank-line, written, Says}
 use Rattle.printing.proofs.Written.{blank-says}
 use Rattle.printing.proofs.Lengths.{decimal-few, signed-few}
 use Rattle.answers.specs.declared.Outcome.{Outcome}
@@ -45,13 +45,13 @@ module _ (rows filled : ℕ) (margin hold fail : ℤ) (verdict : Verdict) where
   figures-few r f m h l =
       joined (joined (joined (joined (joined (joined (joined (joined (joined (joined (joined (joined (says (bytes "rows=")) (digits rows r)) (says (bytes " filled="))) (digits filled f)) (says (bytes " margin="))) (signs margin m)) (says (bytes " hold="))) (signs hold h)) (says (bytes " fail="))) (signs fail l)) (says (bytes " verdict="))) (word verdict)) (says (bytes "\n"))
 
-  pub figures-said : {r : Line} → Fits w64 rows → Fits w64 filled → SFits w64 margin → SFits w64 hold → SFits w64 fail → r ≡ written blank-line (figures-line rows filled margin hold fail verdict) → text-of r ≡ figures-line rows filled margin hold fail verdict
-  figures-said a b c d f e = ap text-of e ∙ blank-says (figures-line rows filled margin hold fail verdict) (omega (arith, figures-few a b c d f .few))
+  pub figures-said : {r : Line} → Fits w64 rows → Fits w64 filled → SFits w64 margin → SFits w64 hold → SFits w64 fail → r ≡ written blank-line (figures-line rows filled margin hold fail verdict) → Says r (figures-line rows filled margin hold fail verdict)
+  figures-said a b c d f e = rw e (blank-says (figures-line rows filled margin hold fail verdict) (omega (arith, figures-few a b c d f .few)))
 
-pub refusal-said : {r : Line} (n : ℕ) → Fits w64 n → r ≡ written blank-line (refusal-line n) → text-of r ≡ refusal-line n
+pub refusal-said : {r : Line} (n : ℕ) → Fits w64 n → r ≡ written blank-line (refusal-line n) → Says r (refusal-line n)
 refusal-said n f e =
     let h : Few (refusal-line n) 29 = joined (joined (says (bytes "refused=")) (digits n f)) (says (bytes "\n")) in
-    ap text-of e ∙ blank-says (refusal-line n) (omega (arith, h .few))
+    rw e (blank-says (refusal-line n) (omega (arith, h .few)))
 
 -- ---- by the answer's number
 

@@ -1,6 +1,6 @@
 // The printed line of an answer, in an array of its own.
 ghost use mathlib.Core.Path.{_≡_};
-ghost use Rattle.printing.specs.Line.{written, text-of};
+ghost use Rattle.printing.specs.Line.{written, Says};
 ghost use Rattle.answers.specs.Answers.{answer-of-text};
 ghost use Rattle.answers.specs.Printed.{word-of, figures-line, refusal-line, line-of};
 use crate::Outcome;
@@ -25,7 +25,7 @@ fn figures_line(
     fail: i64,
     verdict: Verdict,
 ) -> Line
-    ensures { λ r. ⌜ text-of r ≡ figures-line rows filled margin hold fail verdict ⌝ }
+    ensures { λ r. ⌜ Says r (figures-line rows filled margin hold fail verdict) ⌝ }
 {
     let line = printing::word(printing::blank(), b"rows=");
     let line = printing::number(line, rows as u64);
@@ -43,7 +43,7 @@ fn figures_line(
 }
 
 fn refusal_line(number: u64) -> Line
-    ensures { λ r. ⌜ text-of r ≡ refusal-line number ⌝ }
+    ensures { λ r. ⌜ Says r (refusal-line number) ⌝ }
 {
     let line = printing::word(printing::blank(), b"refused=");
     let line = printing::number(line, number);
@@ -51,7 +51,7 @@ fn refusal_line(number: u64) -> Line
 }
 
 pub fn line(outcome: Outcome) -> Line
-    ensures { λ r. ⌜ text-of r ≡ line-of outcome ⌝ }
+    ensures { λ r. ⌜ Says r (line-of outcome) ⌝ }
 {
     let number = outcome.number;
     if number != 0 {
@@ -70,7 +70,7 @@ pub fn line(outcome: Outcome) -> Line
 
 // The line that is printed for a whole text.
 pub fn answer_line(text: &[u8]) -> Line
-    ensures { λ r. ⌜ text-of r ≡ line-of (answer-of-text (now (text .entry))) ⌝ }
+    ensures { λ r. ⌜ Says r (line-of (answer-of-text (now (text .entry)))) ⌝ }
 {
     line(crate::answer(text))
 }

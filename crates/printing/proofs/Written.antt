@@ -1,17 +1,18 @@
 -- Bytes written one after the other are the bytes written together, and a line with room for them says them.
 -- Assumes nothing.
-use mathlib.Core.Path.{_≡_, refl, sym, ap, _∙_}
+use mathlib.Core.Path.{_≡_, refl, sym, ap, subst, _∙_}
 use mathlib.Core.Bool.{Bool, true, false, cond}
 use mathlib.Core.List.{List, [], _∷_, _++_, append-assoc, append-nil}
 use Prim.Native.Nat.{ℕ, zero, suc, _+_, _≤_, _<_}
 use native.Mathlib.Omega.{arith}
+use native.Mathlib.Decide.{decLt}
 use native.Mathlib.Numerals.{add-one}
 use lib.Seq.{take-suc, take-suc-set}
 use lib.Dec.{ltb}
 use lib.ListN.{length, set, take, getD, length-set}
 use borrow.Author.Tests.{lt-ltb, le-ltb}
 use Rattle.printing.specs.declared.Line.{Line}
-use Rattle.printing.specs.Line.{written, text-of, blank-line}
+use Rattle.printing.specs.Line.{written, text-of, blank-line, Says}
 
 pub written-append : (l : Line) (a b : List ℕ) → written l (a ++ b) ≡ written (written l a) b
 unfolding written
@@ -48,5 +49,17 @@ written-says l (b ∷ bs) h k =
     ∙ written-says (record { bytes = set (l .bytes) (l .len) b; len = l .len + 1 }) bs (rw length-set h) (omega arith)
     ∙ rw (add-one (l .len), take-suc-set (l .bytes) (l .len) b (omega arith), append-assoc (text-of l) (b ∷ []) bs) refl
 
-pub blank-says : (bs : List ℕ) → length bs ≤ 160 → text-of (written blank-line bs) ≡ bs
-blank-says bs h = written-says blank-line bs refl (omega arith)
+-- and never holds more than it has room for
+one-fits : (l : Line) (b : ℕ) → l .len ≤ 160 → written l (b ∷ []) .len ≤ 160
+one-fits l b h = elim (decLt (l .len) 160) [
+  | yes r ↦ subst (λ (m : Line). m .len ≤ 160) (written-room l b r) (omega arith)
+  | no r ↦ subst (λ (m : Line). m .len ≤ 160) (written-full l b (omega arith)) h
+]
+
+written-fits : (l : Line) (bs : List ℕ) → l .len ≤ 160 → written l bs .len ≤ 160
+unfolding written
+written-fits l [] h = h
+written-fits l (b ∷ bs) h = written-fits _ bs (one-fits l b h)
+
+pub blank-says : (bs : List ℕ) → length bs ≤ 160 → Says (written blank-line bs) bs
+blank-says bs h = record { fits = written-fits blank-line bs (omega arith); reads = written-says blank-line bs refl (omega arith) }
