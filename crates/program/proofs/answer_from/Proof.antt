@@ -1,0 +1,67 @@
+-- The bytes that were read lie in the buffer, and those that the line says in the line.
+-- Assumes nothing.
+use mathlib.Core.Path.{_≡_, sym}
+use native.Mathlib.Omega.{arith}
+use lib.ListN.{length}
+use lib.Seq.{length-take-le}
+use borrow.Author.Needs.{needs}
+use Rattle.program.proofs.answer_from.Statement.{statement}
+use Rattle.program.proofs.answer_from.Tie as tie
+use Rattle.program.proofs.answer_from.Reads as reads
+use Rattle.program.proofs.answer_from.Lts as lts
+use Rattle.answers.proofs.printed.answer_line.Reads as answer-line-reads
+use Rattle.program.proofs.read_text.Reads as read-text-reads
+use Rattle.program.proofs.write_line.Reads as write-line-reads
+
+slice-aggregate-read-text : tie.Need-slice-aggregate-read-text
+slice-aggregate-read-text c = search needs
+
+read-text-requires : tie.Need-read-text-requires
+read-text-requires c κs = search needs
+
+enum-known-count : tie.Need-enum-known-count
+enum-known-count c = search needs
+
+enum-told : tie.Need-enum-told
+enum-told c = search needs
+
+returns : tie.Need-returns
+returns c = search needs
+
+array-share-prefix-text : tie.Need-array-share-prefix-text
+array-share-prefix-text c = rw (c .before .count .given .1) at (c .before .before .before .before .read-text .ensures)
+
+slice-aggregate-answer-line : tie.Need-slice-aggregate-answer-line
+slice-aggregate-answer-line c = sym (length-take-le _ _ (rw (c .before .before .count .given .1) at (c .before .before .before .before .before .read-text .ensures)))
+
+answer-line-requires : tie.Need-answer-line-requires
+answer-line-requires c κs = search needs
+
+array-share-prefix-bytes : tie.Need-array-share-prefix-bytes
+array-share-prefix-bytes c = let n : length (c .before .answer-line .result .bytes) ≡ 160 = search needs in omega (arith, c .before .answer-line .ensures .fits)
+
+slice-aggregate-write-line : tie.Need-slice-aggregate-write-line
+slice-aggregate-write-line c = let n : length (c .before .before .answer-line .result .bytes) ≡ 160 = search needs in sym (length-take-le _ _ (omega (arith, c .before .before .answer-line .ensures .fits)))
+
+write-line-requires : tie.Need-write-line-requires
+write-line-requires c κs = search needs
+
+returns-2 : tie.Need-returns-2
+returns-2 c = search needs
+
+pub answer-from-spec : {M : Type 1} → statement M
+answer-from-spec =
+    tie.close
+    (tie.spec
+    slice-aggregate-read-text
+    read-text-requires
+    enum-known-count
+    enum-told
+    returns
+    array-share-prefix-text
+    slice-aggregate-answer-line
+    answer-line-requires
+    array-share-prefix-bytes
+    slice-aggregate-write-line
+    write-line-requires
+    returns-2)
