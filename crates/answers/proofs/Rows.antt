@@ -18,7 +18,7 @@ use Rattle.recordings.specs.Card.{Card, rows}
 use Rattle.tables.specs.declared.Table.{Table}
 use Rattle.predicates.specs.Predicates.{channels-obey, predicates-obey}
 use Rattle.rules.specs.First.{first}
-use Rattle.rules.specs.Refusals.{card}
+use Rattle.rules.specs.Refusals.{card, checks}
 use Rattle.verdicts.specs.Answer.{refusal}
 use Rattle.row_lines.specs.Rows.{limit, channels-in-range, Listing, listed, broken, is-broken, rows-of}
 use Rattle.row_lines.proofs.Exact.{rows-exact}
@@ -27,7 +27,7 @@ use Rattle.sheet_rows.specs.Answer.{measured-of, filled-of, too-many, answer-of
 use Rattle.sheet_rows.proofs.Storing.{length-times, length-values}
 use Rattle.sheet_rows.proofs.Numbers.{few-channels}
 use Rattle.sheets.specs.declared.Sheet.{Sheet}
-use Rattle.answers.specs.Answers.{ROWS, VALUES, CELLS, listing, measured, table-run, answered as outcome-by, table-answer, Checked}
+use Rattle.answers.specs.Answers.{ROWS, VALUES, CELLS, listing, measured, table-run, refused-by, answered as outcome-by, table-answer, Checked}
 use Rattle.answers.proofs.Figures.{only-number}
 use Rattle.answers.proofs.Runs.{run-fits, run-wide, run-many, none-refused}
 
@@ -126,16 +126,13 @@ module _ (s : List ℕ) (x : Sheet) (p : Checked s (x .channels)) where
 
   -- ---- what is judged: no rows where they are refused, else what stands in front of the slices
 
-  pub none-judged : (answer .number ≡ 0 → ⊥) → (t : Table)
-      → outcome-by (refusal (card (x .channels) (x .predicates) [] []) t (x .step) (x .drift) CELLS) (card (x .channels) (x .predicates) [] []) t (x .step) (x .drift) 0 ≡ table-answer x (listing x s) t
+  pub none-judged : (answer .number ≡ 0 → ⊥) → (t : Table) → refused-by (first (checks (card (x .channels) (x .predicates) [] []) t)) ≡ table-answer x (listing x s) t
   none-judged h t =
       let c : Card = measured x (listing x s) in
-      let e : refusal (card (x .channels) (x .predicates) [] []) t (x .step) (x .drift) CELLS ≡ first (table-run c t (x .step) (x .drift)) =
+      let e : first (checks (card (x .channels) (x .predicates) [] []) t) ≡ first (table-run c t (x .step) (x .drift)) =
       ⊎-elim (λ w. run-wide c t (x .step) (x .drift) w) (λ m. run-many c t (x .step) (x .drift) (rw (times-long (listing x s)) m)) (rows-refused h) in
-      let g = none-refused c t (x .step) (x .drift) in
-      sym (only-number _ (card (x .channels) (x .predicates) [] []) t (x .step) (x .drift) 0 g)
-      ∙ (only-number _ c t (x .step) (x .drift) (filled-of (listing x s)) g
-      ∙ ap (λ (n : ℕ). outcome-by n c t (x .step) (x .drift) (filled-of (listing x s))) e)
+      only-number _ c t (x .step) (x .drift) (filled-of (listing x s)) (none-refused c t (x .step) (x .drift))
+      ∙ ap (λ (n : ℕ). outcome-by n c t (x .step) (x .drift) (filled-of (listing x s))) e
 
   module _ (a : Answer) (e : a ≡ answer) (z : a .number ≡ 0) where
     read : Read x (listing x s) a

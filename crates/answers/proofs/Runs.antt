@@ -14,7 +14,7 @@ use Rattle.tables.specs.declared.Table.{Table}
 use Rattle.predicates.specs.Predicates.{requirement-obeys, channels-obey}
 use Rattle.rules.specs.First.{Check, first}
 use Rattle.rules.specs.Recording.{lengths-obey}
-use Rattle.rules.specs.Refusals.{card, table-checks, sample-checks}
+use Rattle.rules.specs.Refusals.{card, table-checks, sample-checks, checks}
 use Rattle.rules.proofs.First.{first-passes, first-fails}
 use Rattle.sampling.specs.Sampling.{checks as sampling-checks}
 use Rattle.verdicts.specs.Answer.{room-check, refusal}
@@ -39,15 +39,15 @@ module _ (c : Card) (t : Table) (step drift : ℕ) where
   run-fits h = first-without (table-checks c t) (rows-check c) (sample-checks c ++ (room-check c t CELLS ∷ sampling-checks c step drift)) (le-leb (rows c) ROWS h)
 
   -- without the rows, the table, the channels and the predicates are judged as with them; and no sample is 5 too
-  pub run-wide : channels-obey (c .channels) (c .predicates) ≡ false → refusal (card (c .channels) (c .predicates) [] []) t step drift CELLS ≡ first (table-run c t step drift)
-  unfolding refusal first
+  pub run-wide : channels-obey (c .channels) (c .predicates) ≡ false → first (checks (card (c .channels) (c .predicates) [] []) t) ≡ first (table-run c t step drift)
+  unfolding first
   run-wide h = rw h refl
 
-  pub run-many : suc ROWS ≤ rows c → refusal (card (c .channels) (c .predicates) [] []) t step drift CELLS ≡ first (table-run c t step drift)
-  unfolding refusal first lengths-obey
+  pub run-many : suc ROWS ≤ rows c → first (checks (card (c .channels) (c .predicates) [] []) t) ≡ first (table-run c t step drift)
+  unfolding first lengths-obey
   run-many h = rw (lt-leb (rows c) ROWS h) refl
 
   -- and something is refused
-  pub none-refused : refusal (card (c .channels) (c .predicates) [] []) t step drift CELLS ≡ 0 → ⊥
-  unfolding refusal first lengths-obey
+  pub none-refused : first (checks (card (c .channels) (c .predicates) [] []) t) ≡ 0 → ⊥
+  unfolding first lengths-obey
   none-refused h = early-some (requirement-obeys t (c .predicates)) (channels-obey (c .channels) (c .predicates)) h

@@ -135,16 +135,8 @@ fn judge_rows(rows: &[u8], sheet: Sheet, table: Table) -> Outcome
     let drift = sheet.drift;
     let read = sheet_rows::read_rows(rows, channels, &mut times, &mut values);
     if read.number != 0 {
-        return judge(
-            table,
-            predicates,
-            channels,
-            &times[..0],
-            &values[..0],
-            step,
-            drift,
-            0,
-        );
+        let early = rules::refusal(table, predicates, channels, &times[..0], &values[..0]);
+        return refused(early);
     }
     let count = read.rows;
     let wide = count * channels;

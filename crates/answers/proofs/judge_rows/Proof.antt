@@ -8,7 +8,7 @@ use lib.Seq.{length-take-le}
 use lib.IntN.{ℤ}
 use Rattle.sheet_rows.specs.declared.Answer.{Answer}
 use Rattle.sheet_rows.specs.Answer.{answer-of, times-of, values-of, after}
-use Rattle.answers.specs.Answers.{ROWS, VALUES, listing}
+use Rattle.answers.specs.Answers.{ROWS, VALUES, listing, refused-by}
 use Rattle.answers.proofs.Rows.{none-judged, rows-few, values-few, rows-judged}
 use borrow.Author.Needs.{needs}
 use Rattle.answers.proofs.judge_rows.Statement.{statement}
@@ -16,6 +16,8 @@ use Rattle.answers.proofs.judge_rows.Tie as tie
 use Rattle.answers.proofs.judge_rows.Reads as reads
 use Rattle.answers.proofs.judge_rows.Lts as lts
 use Rattle.answers.proofs.judge.Reads as judge-reads
+use Rattle.answers.proofs.refused.Reads as refused-reads
+use Rattle.rules.proofs.refusal.Reads as refusal-reads
 use Rattle.sheet_rows.proofs.read_rows.Reads as read-rows-reads
 
 few-rows : (c : tie.Else1) → c .before .before .before .before .read-rows .result .rows ≤ ROWS
@@ -40,23 +42,26 @@ read-rows-requires c κs = search needs
 array-share-prefix-times : tie.Need-array-share-prefix-times
 array-share-prefix-times c = search needs
 
-slice-aggregate-judge : tie.Need-slice-aggregate-judge
-slice-aggregate-judge c = search needs
+slice-aggregate-refusal : tie.Need-slice-aggregate-refusal
+slice-aggregate-refusal c = search needs
 
 array-share-prefix-values : tie.Need-array-share-prefix-values
 array-share-prefix-values c = search needs
 
-slice-aggregate-judge-2 : tie.Need-slice-aggregate-judge-2
-slice-aggregate-judge-2 c = search needs
+slice-aggregate-refusal-2 : tie.Need-slice-aggregate-refusal-2
+slice-aggregate-refusal-2 c = search needs
 
-judge-requires : tie.Need-judge-requires
-judge-requires c κs = search needs
+refusal-requires : tie.Need-refusal-requires
+refusal-requires c κs = search needs
+
+refused-requires : tie.Need-refused-requires
+refused-requires c κs = search needs
 
 returns : tie.Need-returns
 returns c =
-    let s = c .before .before .before .before .before .before .before .before .before .before .before .before in
-    let e : c .before .before .before .before .before .before .before .read-rows .result ≡ answer-of (s .args .rows .now) (s .args .sheet .channels) ROWS VALUES = c .before .before .before .before .before .before .before .read-rows .ensures .0 in
-    c .judge .ensures ∙ none-judged (s .args .rows .now) (s .args .sheet) (s .pre) (λ z. c .before .before .before .if1 .taken (ap (λ (a : Answer). a .number) e ∙ z)) (s .args .table)
+    let s = c .before .before .before .before .before .before .before .before .before .before .before .before .before in
+    let e : c .before .before .before .before .before .before .before .before .read-rows .result ≡ answer-of (s .args .rows .now) (s .args .sheet .channels) ROWS VALUES = c .before .before .before .before .before .before .before .before .read-rows .ensures .0 in
+    c .refused .ensures ∙ (ap refused-by (c .before .refusal .ensures) ∙ none-judged (s .args .rows .now) (s .args .sheet) (s .pre) (λ z. c .before .before .before .before .if1 .taken (ap (λ (a : Answer). a .number) e ∙ z)) (s .args .table))
 
 mul-wide : tie.Need-mul-wide
 mul-wide c = search (needs, few-values c)
@@ -64,23 +69,23 @@ mul-wide c = search (needs, few-values c)
 array-share-prefix-times-2 : tie.Need-array-share-prefix-times-2
 array-share-prefix-times-2 c = let n : length (c .before .before .before .before .read-rows .last .1 .1 .0) ≡ ROWS = search needs in omega (arith, few-rows c)
 
-slice-aggregate-judge-3 : tie.Need-slice-aggregate-judge-3
-slice-aggregate-judge-3 c = let n : length (c .before .before .before .before .before .read-rows .last .1 .1 .0) ≡ ROWS = search needs in sym (length-take-le _ _ (omega (arith, few-rows (c .before))))
+slice-aggregate-judge : tie.Need-slice-aggregate-judge
+slice-aggregate-judge c = let n : length (c .before .before .before .before .before .read-rows .last .1 .1 .0) ≡ ROWS = search needs in sym (length-take-le _ _ (omega (arith, few-rows (c .before))))
 
 array-share-prefix-values-2 : tie.Need-array-share-prefix-values-2
 array-share-prefix-values-2 c = let n : length (c .before .before .before .before .before .read-rows .last .1 .1 .1 .0) ≡ VALUES = search needs in omega (arith, few-values (c .before))
 
-slice-aggregate-judge-4 : tie.Need-slice-aggregate-judge-4
-slice-aggregate-judge-4 c = let n : length (c .before .before .before .before .before .before .read-rows .last .1 .1 .1 .0) ≡ VALUES = search needs in sym (length-take-le _ _ (omega (arith, few-values (c .before .before))))
+slice-aggregate-judge-2 : tie.Need-slice-aggregate-judge-2
+slice-aggregate-judge-2 c = let n : length (c .before .before .before .before .before .before .read-rows .last .1 .1 .1 .0) ≡ VALUES = search needs in sym (length-take-le _ _ (omega (arith, few-values (c .before .before))))
 
-judge-requires-2 : tie.Need-judge-requires-2
-judge-requires-2 c κs = search needs
+judge-requires : tie.Need-judge-requires
+judge-requires c κs = search needs
 
 returns-2 : tie.Need-returns-2
 returns-2 c =
     let s = c .before .before .before .before .before .before .before .before .before .before .before .before in
     let r = c .before .before .before .before .before .before .before .read-rows in
-    c .judge2 .ensures ∙ rows-judged (s .args .rows .now) (s .args .sheet) (s .pre) (r .result) (r .ensures .0) (c .before .before .before .if1 .left) _ _ _ _ (r .ensures .1 .0) (r .ensures .1 .1) (s .args .table)
+    c .judge .ensures ∙ rows-judged (s .args .rows .now) (s .args .sheet) (s .pre) (r .result) (r .ensures .0) (c .before .before .before .if1 .left) _ _ _ _ (r .ensures .1 .0) (r .ensures .1 .1) (s .args .table)
 
 pub judge-rows-spec : {M : Type 1} → statement M
 judge-rows-spec =
@@ -90,15 +95,16 @@ judge-rows-spec =
     slice-aggregate-read-rows-2
     read-rows-requires
     array-share-prefix-times
-    slice-aggregate-judge
+    slice-aggregate-refusal
     array-share-prefix-values
-    slice-aggregate-judge-2
-    judge-requires
+    slice-aggregate-refusal-2
+    refusal-requires
+    refused-requires
     returns
     mul-wide
     array-share-prefix-times-2
-    slice-aggregate-judge-3
+    slice-aggregate-judge
     array-share-prefix-values-2
-    slice-aggregate-judge-4
-    judge-requires-2
+    slice-aggregate-judge-2
+    judge-requires
     returns-2)
