@@ -1,0 +1,57 @@
+-- The flat numbers are the table and the predicates that the verdict is asked of; its answer is what is written.
+-- Assumes nothing.
+use borrow.Author.Needs.{needs}
+use Rattle.exports.proofs.varmityep_verdict.Statement.{statement}
+use Rattle.exports.proofs.varmityep_verdict.Tie as tie
+
+table-from-requires : tie.Need-table-from-requires
+table-from-requires c κs = search needs
+
+predicates-from-requires : tie.Need-predicates-from-requires
+predicates-from-requires c κs = search needs
+
+verdict-requires : tie.Need-verdict-requires
+verdict-requires c κs = search needs
+
+judged-places-requires : tie.Need-judged-places-requires
+judged-places-requires c κs = search needs
+
+slice-aggregate-write-values : tie.Need-slice-aggregate-write-values
+slice-aggregate-write-values c = search needs
+
+write-values-requires : tie.Need-write-values-requires
+write-values-requires c κs = search needs
+
+judged-number-requires : tie.Need-judged-number-requires
+judged-number-requires c κs = search needs
+
+same-length : tie.Need-same-length
+same-length c = search needs
+
+same-length-2 : tie.Need-same-length-2
+same-length-2 c = search needs
+
+returns : tie.Need-returns
+returns c =
+    let w = c .before .before in
+    let q = w .before .before .before in
+    let m = q .before .before in
+    let p = m .before .before in
+    let t = p .before in
+    let e = rw (t .table-from .ensures, p .predicates-from .ensures) at (m .verdict .ensures .0) in
+    (rw (c .judged-number .ensures, e), (rw (t .table-from .ensures, p .predicates-from .ensures) at (m .verdict .ensures .1), rw (q .judged-places .ensures, e) at (w .write-values .ensures)))
+
+pub varmityep-verdict-spec : {M : Type 1} → statement M
+varmityep-verdict-spec =
+    tie.close
+    (tie.spec
+    table-from-requires
+    predicates-from-requires
+    verdict-requires
+    judged-places-requires
+    slice-aggregate-write-values
+    write-values-requires
+    judged-number-requires
+    same-length
+    same-length-2
+    returns)

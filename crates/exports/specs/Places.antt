@@ -1,0 +1,39 @@
+-- What each place of a C function's slices holds.
+-- Assumes nothing.
+use mathlib.Core.List.{List, [], _∷_}
+use Prim.Native.Nat.{ℕ}
+use lib.IntN.{ℤ, pos}
+use Rattle.recordings.specs.declared.Verdict.{Verdict}
+use Rattle.recordings.specs.declared.Verdict.the-variants.{Holds, Fails, NotShown}
+use Rattle.recordings.specs.Card.{Card}
+use Rattle.rules.specs.Refusals.{card}
+use Rattle.margins.specs.Answers.{Outcome as Margin}
+use Rattle.verdicts.specs.Answer.{Outcome as Judgement}
+use Rattle.sheets.specs.declared.Sheet.{Sheet}
+use Rattle.sheet_rows.specs.declared.Answer.{Answer as Rows}
+use Rattle.flat.specs.Predicates.{predicates-from}
+
+-- what a requirement is read against: predicates in flat numbers, and a recording
+abbrev pub card-from : List ℕ → List ℤ → ℕ → List ℕ → List ℤ → Card
+card-from ranges ends channels times values = card channels (predicates-from ranges ends) times values
+
+-- the margin
+abbrev pub margin-places : Margin → List ℤ
+margin-places m = m .margin ∷ []
+
+-- the verdict, hold and fail
+abbrev pub verdict-number : Verdict → ℤ
+verdict-number NotShown = pos 0
+verdict-number Holds = pos 1
+verdict-number Fails = pos 2
+
+abbrev pub verdict-places : Judgement → List ℤ
+verdict-places j = verdict-number (j .verdict) ∷ j .hold ∷ j .fail ∷ []
+
+-- channels, step, drift, the requirement's first place, the place behind its last, the rows' first place
+abbrev pub sheet-places : Sheet → List ℕ
+sheet-places s = s .channels ∷ s .step ∷ s .drift ∷ s .from ∷ s .to ∷ s .rows ∷ []
+
+-- measured rows, filled rows
+abbrev pub row-places : Rows → List ℕ
+row-places a = a .rows ∷ a .filled ∷ []
