@@ -2,12 +2,86 @@
 // but that each slice is a pointer and a length that belong together. tests/README.md has the declarations in C.
 use recordings::Verdict;
 ghost use mathlib.Core.Path.{_≡_};
+ghost use mathlib.Core.List.{[], _∷_};
 ghost use lib.ListN.{length};
-ghost use Rattle.building.specs.Storing.{table-from};
+ghost use Rattle.building.specs.Storing.{cells-of, table-from};
 ghost use Rattle.flat.specs.Written.{written};
+ghost use Rattle.flat.specs.Predicates.{ranges-of, ends-of};
+ghost use Rattle.sheets.specs.Sheets.{sheet-of};
+ghost use Rattle.requirements.specs.Requirement.{requirement-of};
+ghost use Rattle.row_lines.specs.Rows.{rows-of};
+ghost use Rattle.sheet_rows.specs.Answer.{answer-of, times-of, values-of, after};
 ghost use Rattle.margins.specs.Answers.{outcome as margin-outcome, judged as margin-judged, cells-after as margin-cells};
 ghost use Rattle.verdicts.specs.Answer.{outcome as verdict-outcome, judged as verdict-judged, cells-after as verdict-cells};
-ghost use Rattle.exports.specs.Places.{card-from, margin-places, verdict-number, verdict-places};
+ghost use Rattle.exports.specs.Places.{sheet-places, row-places, card-from, margin-places, verdict-number, verdict-places};
+
+// The head of a sheet. Under refusal 1 the blank sheet is written.
+#[no_mangle]
+pub extern "C" fn varmityep_sheet(
+    text: &[u8],
+    numbers: &mut [u64],
+    ranges: &mut [u64],
+    ends: &mut [i64],
+) -> u64
+    ensures number { λ r. ⌜ r ≡ sheet-of (now (text .entry)) .number ⌝ }
+    ensures numbers { λ _. ⌜ now (numbers .exit) ≡ written (sheet-places (sheet-of (now (text .entry)))) (now (numbers .entry)) ⌝ }
+    ensures ranges { λ _. ⌜ now (ranges .exit) ≡ written (ranges-of (sheet-of (now (text .entry)) .predicates)) (now (ranges .entry)) ⌝ }
+    ensures ends { λ _. ⌜ now (ends .exit) ≡ written (ends-of (sheet-of (now (text .entry)) .predicates)) (now (ends .entry)) ⌝ }
+{
+    let sheet = sheets::read_sheet(text);
+    let places = [
+        sheet.channels as u64,
+        sheet.step,
+        sheet.drift,
+        sheet.from as u64,
+        sheet.to as u64,
+        sheet.rows as u64,
+    ];
+    flat::write_numbers(&places, numbers);
+    let predicates = sheet.predicates;
+    let named = flat::ranges_of(predicates);
+    flat::write_numbers(&named, ranges);
+    let bounds = flat::ends_of(predicates);
+    flat::write_values(&bounds, ends);
+    sheet.number
+}
+
+// The table of a requirement text; the empty one under refusal 2.
+#[no_mangle]
+pub extern "C" fn varmityep_requirement(text: &[u8], nodes: &mut [u64], count: &mut [u64]) -> u64
+    ensures number { λ r. ⌜ r ≡ requirement-of (now (text .entry)) .refusal ⌝ }
+    ensures nodes { λ _. ⌜ now (nodes .exit) ≡ written (cells-of (requirement-of (now (text .entry)) .table .nodes)) (now (nodes .entry)) ⌝ }
+    ensures count { λ _. ⌜ now (count .exit) ≡ written (requirement-of (now (text .entry)) .table .count ∷ []) (now (count .entry)) ⌝ }
+{
+    let requirement = requirements::read_requirement(text);
+    let table = requirement.table;
+    let read = table.nodes;
+    let cells = flat::cells_of(read);
+    flat::write_numbers(&cells, nodes);
+    let places = [table.count as u64];
+    flat::write_numbers(&places, count);
+    requirement.refusal
+}
+
+// The measured rows of a text, and the counts of measured and filled rows.
+#[no_mangle]
+pub extern "C" fn varmityep_rows(
+    text: &[u8],
+    channels: u64,
+    times: &mut [u64],
+    values: &mut [i64],
+    counts: &mut [u64],
+) -> u64
+    ensures number { λ r. ⌜ r ≡ answer-of (now (text .entry)) channels (length (now (times .entry))) (length (now (values .entry))) .number ⌝ }
+    ensures times { λ r. ⌜ now (times .exit) ≡ after r (times-of (rows-of channels (now (text .entry)))) (now (times .entry)) ⌝ }
+    ensures values { λ r. ⌜ now (values .exit) ≡ after r (values-of (rows-of channels (now (text .entry)))) (now (values .entry)) ⌝ }
+    ensures counts { λ _. ⌜ now (counts .exit) ≡ written (row-places (answer-of (now (text .entry)) channels (length (now (times .entry))) (length (now (values .entry))))) (now (counts .entry)) ⌝ }
+{
+    let answer = sheet_rows::read_rows(text, channels as usize, times, values);
+    let places = [answer.rows as u64, answer.filled as u64];
+    flat::write_numbers(&places, counts);
+    answer.number
+}
 
 fn margin_number(answer: margins::Answer) -> u64
     ensures { λ r. ⌜ r ≡ margin-outcome answer .number ⌝ }
