@@ -5,65 +5,72 @@ use plain::{Card, Node, Predicate, Range, NO_END};
 use std::time::Instant;
 
 extern "C" {
-    fn bench_margin(
-        numbers: *const u64, numbers_len: usize, count: usize,
-        named: *const u64, named_len: usize, ranges: *const i64, ranges_len: usize,
-        channels: usize, times: *const u64, times_len: usize,
-        values: *const i64, values_len: usize, work: *mut i64, work_len: usize,
+    fn varmityep_margin(
+        nodes: *const u64, nodes_len: usize, count: u64,
+        ranges: *const u64, ranges_len: usize, ends: *const i64, ends_len: usize,
+        channels: u64, times: *const u64, times_len: usize, values: *const i64, values_len: usize,
+        work: *mut i64, work_len: usize, result: *mut i64, result_len: usize,
     ) -> u64;
-    fn bench_verdict(
-        numbers: *const u64, numbers_len: usize, count: usize,
-        named: *const u64, named_len: usize, ranges: *const i64, ranges_len: usize,
-        channels: usize, times: *const u64, times_len: usize,
-        values: *const i64, values_len: usize, step: u64, drift: u64, work: *mut i64, work_len: usize,
+    fn varmityep_verdict(
+        nodes: *const u64, nodes_len: usize, count: u64,
+        ranges: *const u64, ranges_len: usize, ends: *const i64, ends_len: usize,
+        channels: u64, times: *const u64, times_len: usize, values: *const i64, values_len: usize,
+        step: u64, drift: u64, work: *mut i64, work_len: usize, result: *mut i64, result_len: usize,
     ) -> u64;
 }
 
 /// A table and its predicates as flat numbers.
 struct Flat {
-    numbers: Vec<u64>,
-    named: Vec<u64>,
-    ranges: Vec<i64>,
+    nodes: [u64; 320],
+    ranges: [u64; 32],
+    ends: [i64; 32],
 }
 
 fn flat(nodes: &[Node], predicates: &[Predicate; 16]) -> Flat {
-    let mut numbers = vec![0; 320];
-    for (k, n) in nodes.iter().enumerate() {
-        numbers[5 * k..5 * k + 5].copy_from_slice(&[n.kind, n.left as u64, n.right as u64, n.lo, n.hi]);
+    let mut f = Flat { nodes: [0; 320], ranges: [0; 32], ends: [0; 32] };
+    for (place, n) in f.nodes.chunks_mut(5).zip(nodes) {
+        place.copy_from_slice(&[n.kind, n.left as u64, n.right as u64, n.lo, n.hi]);
     }
-    let ranges = predicates.iter().flat_map(|p| match p.range {
-        Range::Unset => [0, 0, 0],
-        Range::Free => [1, 0, 0],
-        Range::AtLeast(lo) => [2, lo, 0],
-        Range::AtMost(hi) => [3, 0, hi],
-        Range::Between(lo, hi) => [4, lo, hi],
-    });
-    Flat { numbers, named: predicates.iter().map(|p| p.channel as u64).collect(), ranges: ranges.collect() }
+    for (k, p) in predicates.iter().enumerate() {
+        let (range, lo, hi) = match p.range {
+            Range::Unset => (0, 0, 0),
+            Range::Free => (1, 0, 0),
+            Range::AtLeast(lo) => (2, lo, 0),
+            Range::AtMost(hi) => (3, 0, hi),
+            Range::Between(lo, hi) => (4, lo, hi),
+        };
+        f.ranges[2 * k..2 * k + 2].copy_from_slice(&[range, p.channel as u64]);
+        f.ends[2 * k..2 * k + 2].copy_from_slice(&[lo, hi]);
+    }
+    f
 }
 
 fn proved(f: &Flat, count: usize, card: &Card, work: &mut [i64]) -> Option<i64> {
+    let mut result = [0; 1];
     // the function asks nothing of its caller but that the slices are what their lengths say
     let number = unsafe {
-        bench_margin(
-            f.numbers.as_ptr(), f.numbers.len(), count,
-            f.named.as_ptr(), f.named.len(), f.ranges.as_ptr(), f.ranges.len(),
-            card.channels, card.times.as_ptr(), card.times.len(), card.values.as_ptr(), card.values.len(), work.as_mut_ptr(), work.len(),
+        varmityep_margin(
+            f.nodes.as_ptr(), f.nodes.len(), count as u64,
+            f.ranges.as_ptr(), f.ranges.len(), f.ends.as_ptr(), f.ends.len(),
+            card.channels as u64, card.times.as_ptr(), card.times.len(), card.values.as_ptr(), card.values.len(),
+            work.as_mut_ptr(), work.len(), result.as_mut_ptr(), result.len(),
         )
     };
-    if number == 0 { Some(work[(count - 1) * card.times.len()]) } else { None }
+    if number == 0 { Some(result[0]) } else { None }
 }
 
 fn proved_verdict(f: &Flat, count: usize, card: &Card, step: u64, drift: u64, work: &mut [i64]) -> Option<(i64, i64)> {
+    let mut result = [0; 3];
     // the same
     let number = unsafe {
-        bench_verdict(
-            f.numbers.as_ptr(), f.numbers.len(), count,
-            f.named.as_ptr(), f.named.len(), f.ranges.as_ptr(), f.ranges.len(),
-            card.channels, card.times.as_ptr(), card.times.len(), card.values.as_ptr(), card.values.len(), step, drift, work.as_mut_ptr(), work.len(),
+        varmityep_verdict(
+            f.nodes.as_ptr(), f.nodes.len(), count as u64,
+            f.ranges.as_ptr(), f.ranges.len(), f.ends.as_ptr(), f.ends.len(),
+            card.channels as u64, card.times.as_ptr(), card.times.len(), card.values.as_ptr(), card.values.len(),
+            step, drift, work.as_mut_ptr(), work.len(), result.as_mut_ptr(), result.len(),
         )
     };
-    let root = 2 * (count - 1) * card.times.len();
-    if number == 0 { Some((work[root], work[root + card.times.len()])) } else { None }
+    if number == 0 { Some((result[1], result[2])) } else { None }
 }
 
 struct Random(u64);
