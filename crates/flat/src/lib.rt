@@ -63,9 +63,9 @@ fn value_at(values: &[i64], at: usize) -> i64
 pub fn table_from(numbers: &[u64], count: u64) -> Table
     ensures { λ r. ⌜ r ≡ table-from (now (numbers .entry)) count ⌝ }
 {
-    let mut cells = [0u64; CELLS];
-    write_numbers(numbers, &mut cells);
-    building::table_from(&cells, count as usize)
+    let mut padded = [0u64; CELLS];
+    write_numbers(numbers, &mut padded);
+    building::table_from(&padded, count as usize)
 }
 
 // The five numbers of each of a table's nodes, kept as the requirement reader keeps them.
