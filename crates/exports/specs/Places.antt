@@ -14,7 +14,7 @@ use Rattle.sheet_rows.specs.declared.Answer.{Answer as Rows}
 use Rattle.flat.specs.Predicates.{predicates-from}
 
 -- what a requirement is read against: predicates in flat numbers, and a recording
-abbrev pub card-from : List ℕ → List ℤ → ℕ → List ℕ → List ℤ → Card
+unfoldable pub card-from : List ℕ → List ℤ → ℕ → List ℕ → List ℤ → Card
 card-from ranges ends channels times values = card channels (predicates-from ranges ends) times values
 
 -- the margin

@@ -4,8 +4,9 @@ use recordings::Verdict;
 ghost use mathlib.Core.Path.{_≡_};
 ghost use mathlib.Core.List.{[], _∷_};
 ghost use lib.ListN.{length};
-ghost use Rattle.building.specs.Storing.{cells-of, table-from};
+ghost use Rattle.building.specs.Storing.{cells-of};
 ghost use Rattle.flat.specs.Written.{written};
+ghost use Rattle.flat.specs.Tables.{table-from};
 ghost use Rattle.flat.specs.Predicates.{ranges-of, ends-of};
 ghost use Rattle.sheets.specs.Sheets.{sheet-of};
 ghost use Rattle.requirements.specs.Requirement.{requirement-of};
@@ -39,10 +40,7 @@ pub extern "C" fn varmityep_sheet(
     ];
     flat::write_numbers(&places, numbers);
     let predicates = sheet.predicates;
-    let named = flat::ranges_of(predicates);
-    flat::write_numbers(&named, ranges);
-    let bounds = flat::ends_of(predicates);
-    flat::write_values(&bounds, ends);
+    flat::write_predicates(predicates, ranges, ends);
     sheet.number
 }
 

@@ -8,8 +8,9 @@ use native.Mathlib.Decide.{decLt, decLe}
 use lib.ListN.{length, getD, take, drop, replicate, length-take, length-replicate, getD-replicate, List·getD-append, List·getD-eq-default}
 use lib.Seq.{take-all, getD-take, getD-drop, getD-append-add}
 use borrow.Author.Tests.{lt-leb}
-use Rattle.building.specs.Storing.{node-from, nodes-from, table-from}
+use Rattle.building.specs.Storing.{node-from, nodes-from, table-from as table-in}
 use Rattle.flat.specs.Written.{written}
+use Rattle.flat.specs.Tables.{table-from}
 
 module _ (ns : List ℕ) (room : ℕ) where
   padded-at : (j : ℕ) → j < room → getD (written ns (replicate room 0)) j 0 ≡ getD ns j 0
@@ -31,9 +32,10 @@ module _ (ns : List ℕ) (room : ℕ) where
   padded-nodes zero h = refl
   padded-nodes (suc k) h = rw (padded-nodes k (omega arith), padded-node k (omega arith))
 
-pub padded-table : (ns : List ℕ) (count : ℕ) → table-from (written ns (replicate 320 0)) count ≡ table-from ns count
+pub padded-table : (ns : List ℕ) (count : ℕ) → table-in (written ns (replicate 320 0)) count ≡ table-from ns count
+unfolding table-from
 padded-table ns count = go (decLe count 64)
   where
-    go : Dec (count ≤ 64) → table-from (written ns (replicate 320 0)) count ≡ table-from ns count
+    go : Dec (count ≤ 64) → table-in (written ns (replicate 320 0)) count ≡ table-from ns count
     go (yes p) = rw (padded-nodes ns 320 count (omega arith))
     go (no p) = rw (lt-leb count 64 (omega arith))

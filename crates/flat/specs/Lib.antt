@@ -1,3 +1,4 @@
--- What is written into a slice (`Written`), and predicates as flat numbers (`Predicates`). A table's flat numbers are those of `building`.
+-- What is written into a slice (`Written`), and tables and predicates as flat numbers (`Tables`, `Predicates`).
 pub mod Written
+pub mod Tables
 pub mod Predicates

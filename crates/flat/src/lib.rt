@@ -9,8 +9,9 @@ ghost use mathlib.Core.Path.{_≡_};
 ghost use Prim.Native.Nat.{_<_};
 ghost use lib.IntN.{pos};
 ghost use lib.ListN.{getD};
-ghost use Rattle.building.specs.Storing.{cells-of, table-from};
+ghost use Rattle.building.specs.Storing.{cells-of};
 ghost use Rattle.flat.specs.Written.{written};
+ghost use Rattle.flat.specs.Tables.{table-from};
 ghost use Rattle.flat.specs.Predicates.{range-number, lo-of, hi-of, ranges-of, ends-of, range-from, predicate-from, predicates-from};
 
 // Writes numbers into a slice from its front on.
@@ -154,7 +155,7 @@ fn hi_of(range: Range) -> i64
 }
 
 // Each predicate's range and channel.
-pub fn ranges_of(predicates: [Predicate; 16]) -> [u64; 32]
+fn ranges_of(predicates: [Predicate; 16]) -> [u64; 32]
     ensures { λ r. ⌜ r ≡ ranges-of predicates ⌝ }
 {
     let mut ranges = [0u64; 32];
@@ -168,7 +169,7 @@ pub fn ranges_of(predicates: [Predicate; 16]) -> [u64; 32]
 }
 
 // Each predicate's lo and hi.
-pub fn ends_of(predicates: [Predicate; 16]) -> [i64; 32]
+fn ends_of(predicates: [Predicate; 16]) -> [i64; 32]
     ensures { λ r. ⌜ r ≡ ends-of predicates ⌝ }
 {
     let mut ends = [0i64; 32];
@@ -179,4 +180,15 @@ pub fn ends_of(predicates: [Predicate; 16]) -> [i64; 32]
         ends[2 * p + 1] = hi_of(range);
     }
     ends
+}
+
+// Writes predicates into two slices.
+pub fn write_predicates(predicates: [Predicate; 16], ranges: &mut [u64], ends: &mut [i64])
+    ensures ranges { λ _. ⌜ now (ranges .exit) ≡ written (ranges-of predicates) (now (ranges .entry)) ⌝ }
+    ensures ends { λ _. ⌜ now (ends .exit) ≡ written (ends-of predicates) (now (ends .entry)) ⌝ }
+{
+    let numbers = ranges_of(predicates);
+    write_numbers(&numbers, ranges);
+    let values = ends_of(predicates);
+    write_values(&values, ends);
 }

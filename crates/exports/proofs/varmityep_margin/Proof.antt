@@ -1,6 +1,7 @@
 -- The flat numbers are the table and the predicates that the margin is asked of; its answer is what is written.
 -- Assumes nothing.
 use borrow.Author.Needs.{needs}
+use Rattle.exports.specs.Places.{card-from}
 use Rattle.exports.proofs.varmityep_margin.Statement.{statement}
 use Rattle.exports.proofs.varmityep_margin.Tie as tie
 
@@ -32,6 +33,7 @@ same-length-2 : tie.Need-same-length-2
 same-length-2 c = search needs
 
 returns : tie.Need-returns
+unfolding card-from
 returns c =
     let w = c .before .before in
     let q = w .before .before .before in
