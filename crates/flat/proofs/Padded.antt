@@ -1,4 +1,4 @@
--- Numbers copied over zeros read as they do in their slice, where a missing place is 0: so a table made from the copy is the slice's.
+-- Slices that read alike give the same table. Numbers copied over zeros read as they do in their slice, where a missing place is 0.
 -- Assumes nothing.
 use mathlib.Core.Path.{_≡_, refl, _∙_}
 use mathlib.Core.List.{List, _++_}
@@ -12,30 +12,30 @@ use Rattle.building.specs.Storing.{node-from, nodes-from, table-from as table-i
 use Rattle.flat.specs.Written.{written}
 use Rattle.flat.specs.Tables.{table-from}
 
-module _ (ns : List ℕ) (room : ℕ) where
-  padded-at : (j : ℕ) → j < room → getD (written ns (replicate room 0)) j 0 ≡ getD ns j 0
-  unfolding written
-  padded-at j h = rw length-replicate (go (decLt j (length ns)))
-    where
-      go : Dec (j < length ns) → getD (take room ns ++ drop (length ns) (replicate room 0)) j 0 ≡ getD ns j 0
-      go (yes p) = List·getD-append (take room ns) _ 0 j (rw length-take (omega arith)) ∙ getD-take room ns j 0 h
-      go (no p) =
-          let e : j ≡ length ns + (j - length ns) = omega arith in
-          rw (take-all room ns (omega arith), List·getD-eq-default ns 0 {n = j} (omega arith), e, getD-append-add, getD-drop, ← e) (getD-replicate room j 0 0 h)
+module _ (a b : List ℕ) (room : ℕ) (alike : (j : ℕ) → j < room → getD a j 0 ≡ getD b j 0) where
+  same-node : (k : ℕ) → 5 * k + 4 < room → node-from a k ≡ node-from b k
+  same-node k h =
+      rw (alike (5 * k) (omega arith), alike (5 * k + 1) (omega arith), alike (5 * k + 2) (omega arith), alike (5 * k + 3) (omega arith), alike (5 * k + 4) h)
 
-  padded-node : (k : ℕ) → 5 * k + 4 < room → node-from (written ns (replicate room 0)) k ≡ node-from ns k
-  padded-node k h =
-      rw (padded-at (5 * k) (omega arith), padded-at (5 * k + 1) (omega arith), padded-at (5 * k + 2) (omega arith), padded-at (5 * k + 3) (omega arith), padded-at (5 * k + 4) h)
-
-  padded-nodes : (k : ℕ) → 5 * k ≤ room → nodes-from (written ns (replicate room 0)) k ≡ nodes-from ns k
+  pub same-nodes : (k : ℕ) → 5 * k ≤ room → nodes-from a k ≡ nodes-from b k
   unfolding nodes-from
-  padded-nodes zero h = refl
-  padded-nodes (suc k) h = rw (padded-nodes k (omega arith), padded-node k (omega arith))
+  same-nodes zero h = refl
+  same-nodes (suc k) h = rw (same-nodes k (omega arith), same-node k (omega arith))
+
+padded-at : (ns : List ℕ) (room j : ℕ) → j < room → getD (written ns (replicate room 0)) j 0 ≡ getD ns j 0
+unfolding written
+padded-at ns room j h = rw length-replicate (go (decLt j (length ns)))
+  where
+    go : Dec (j < length ns) → getD (take room ns ++ drop (length ns) (replicate room 0)) j 0 ≡ getD ns j 0
+    go (yes p) = List·getD-append (take room ns) _ 0 j (rw length-take (omega arith)) ∙ getD-take room ns j 0 h
+    go (no p) =
+        let e : j ≡ length ns + (j - length ns) = omega arith in
+        rw (take-all room ns (omega arith), List·getD-eq-default ns 0 {n = j} (omega arith), e, getD-append-add, getD-drop, ← e) (getD-replicate room j 0 0 h)
 
 pub padded-table : (ns : List ℕ) (count : ℕ) → table-in (written ns (replicate 320 0)) count ≡ table-from ns count
 unfolding table-from
 padded-table ns count = go (decLe count 64)
   where
     go : Dec (count ≤ 64) → table-in (written ns (replicate 320 0)) count ≡ table-from ns count
-    go (yes p) = rw (padded-nodes ns 320 count (omega arith))
+    go (yes p) = rw (same-nodes (written ns (replicate 320 0)) ns 320 (padded-at ns 320) count (omega arith))
     go (no p) = rw (lt-leb count 64 (omega arith))

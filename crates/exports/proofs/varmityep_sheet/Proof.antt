@@ -26,7 +26,7 @@ same-length-3 : tie.Need-same-length-3
 same-length-3 c = search needs
 
 returns : tie.Need-returns
-returns c = 
+returns c =
     let p = c .before .before .before in
     let n = p .before .before .before .before .before .before in
     let s = n .before .before .before .read-sheet .ensures in
