@@ -1,10 +1,11 @@
--- What the readers write into slices with room is what the margin and the verdict take up from them: the table of the text, the predicates of the sheet.
+-- What the readers write into slices with room stands in front of them, and is what the margin and the verdict take up: the table of the text, the predicates of the sheet.
 -- Assumes nothing.
 use mathlib.Core.Path.{_≡_, refl, _∙_}
 use mathlib.Core.List.{List}
 use Prim.Native.Nat.{ℕ, _≤_}
 use lib.IntN.{ℤ}
 use lib.ListN.{length, length-set}
+use lib.Seq.{take-all}
 use Rattle.recordings.specs.declared.Predicate.{Predicate}
 use Rattle.building.specs.Nodes.{nodes-of}
 use Rattle.building.specs.Storing.{cells-of}
@@ -15,10 +16,16 @@ use Rattle.requirements.proofs.Rules.{required-rules}
 use Rattle.predicate_lines.specs.Form.{Lines, over, more}
 use Rattle.sheets.specs.Sheets.{sheet-of}
 use Rattle.sheets.proofs.Exact.{sheet-sound}
+use Rattle.sheet_rows.specs.Answer.{in-front}
 use Rattle.flat.specs.Written.{written}
 use Rattle.flat.specs.Tables.{table-from}
 use Rattle.flat.specs.Predicates.{ranges-of, ends-of, predicates-from}
 use Rattle.flat.proofs.Back.{predicates-back, table-read-back}
+
+-- as the row reader's rows do
+pub written-in-front : {X : Type 0} (new old : List X) → length new ≤ length old → written new old ≡ in-front new old
+unfolding written
+written-in-front new old r = rw (take-all (length old) new r)
 
 pub table-handed : (s : List ℕ) → requirement-of s .refusal ≡ 0 → (nodes : List ℕ) → 320 ≤ length nodes
     → table-from (written (cells-of (requirement-of s .table .nodes)) nodes) (requirement-of s .table .count) ≡ requirement-of s .table
