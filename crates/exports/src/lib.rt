@@ -81,21 +81,21 @@ pub extern "C" fn varmityep_rows(
     answer.number
 }
 
-fn margin_number(answer: margins::Answer) -> u64
-    ensures { λ r. ⌜ r ≡ margin-outcome answer .number ⌝ }
+fn write_margin(answer: margins::Answer, result: &mut [i64]) -> u64
+    ensures number { λ r. ⌜ r ≡ margin-outcome answer .number ⌝ }
+    ensures result { λ _. ⌜ now (result .exit) ≡ written (margin-places (margin-outcome answer)) (now (result .entry)) ⌝ }
 {
     match answer {
-        margins::Answer::Margin(_) => 0,
-        margins::Answer::Refused(number) => number,
-    }
-}
-
-fn margin_places(answer: margins::Answer) -> [i64; 1]
-    ensures { λ r. ⌜ r ≡ margin-places (margin-outcome answer) ⌝ }
-{
-    match answer {
-        margins::Answer::Margin(margin) => [margin],
-        margins::Answer::Refused(_) => [0],
+        margins::Answer::Margin(margin) => {
+            let places = [margin];
+            flat::write_values(&places, result);
+            0
+        }
+        margins::Answer::Refused(number) => {
+            let places = [0i64];
+            flat::write_values(&places, result);
+            number
+        }
     }
 }
 
@@ -119,9 +119,7 @@ pub extern "C" fn varmityep_margin(
     let table = flat::table_from(nodes, count);
     let predicates = flat::predicates_from(ranges, ends);
     let answer = margins::margin(table, predicates, channels as usize, times, values, work);
-    let places = margin_places(answer);
-    flat::write_values(&places, result);
-    margin_number(answer)
+    write_margin(answer, result)
 }
 
 fn verdict_number(verdict: Verdict) -> i64
@@ -134,21 +132,21 @@ fn verdict_number(verdict: Verdict) -> i64
     }
 }
 
-fn judged_number(answer: verdicts::Answer) -> u64
-    ensures { λ r. ⌜ r ≡ verdict-outcome answer .number ⌝ }
+fn write_verdict(answer: verdicts::Answer, result: &mut [i64]) -> u64
+    ensures number { λ r. ⌜ r ≡ verdict-outcome answer .number ⌝ }
+    ensures result { λ _. ⌜ now (result .exit) ≡ written (verdict-places (verdict-outcome answer)) (now (result .entry)) ⌝ }
 {
     match answer {
-        verdicts::Answer::Judged(_, _, _) => 0,
-        verdicts::Answer::Refused(number) => number,
-    }
-}
-
-fn judged_places(answer: verdicts::Answer) -> [i64; 3]
-    ensures { λ r. ⌜ r ≡ verdict-places (verdict-outcome answer) ⌝ }
-{
-    match answer {
-        verdicts::Answer::Judged(verdict, hold, fail) => [verdict_number(verdict), hold, fail],
-        verdicts::Answer::Refused(_) => [0, 0, 0],
+        verdicts::Answer::Judged(verdict, hold, fail) => {
+            let places = [verdict_number(verdict), hold, fail];
+            flat::write_values(&places, result);
+            0
+        }
+        verdicts::Answer::Refused(number) => {
+            let places = [0i64; 3];
+            flat::write_values(&places, result);
+            number
+        }
     }
 }
 
@@ -183,7 +181,5 @@ pub extern "C" fn varmityep_verdict(
         drift,
         work,
     );
-    let places = judged_places(answer);
-    flat::write_values(&places, result);
-    judged_number(answer)
+    write_verdict(answer, result)
 }

@@ -14,17 +14,8 @@ predicates-from-requires c κs = search needs
 verdict-requires : tie.Need-verdict-requires
 verdict-requires c κs = search needs
 
-judged-places-requires : tie.Need-judged-places-requires
-judged-places-requires c κs = search needs
-
-slice-aggregate-write-values : tie.Need-slice-aggregate-write-values
-slice-aggregate-write-values c = search needs
-
-write-values-requires : tie.Need-write-values-requires
-write-values-requires c κs = search needs
-
-judged-number-requires : tie.Need-judged-number-requires
-judged-number-requires c κs = search needs
+write-verdict-requires : tie.Need-write-verdict-requires
+write-verdict-requires c κs = search needs
 
 same-length : tie.Need-same-length
 same-length c = search needs
@@ -35,13 +26,12 @@ same-length-2 c = search needs
 returns : tie.Need-returns
 unfolding card-from
 returns c =
-    let w = c .before .before in
-    let q = w .before .before .before in
-    let m = q .before .before in
+    let w = c .before in
+    let m = w .before .before .before in
     let p = m .before .before in
     let t = p .before in
     let e = rw (t .table-from .ensures, p .predicates-from .ensures) at (m .verdict .ensures .0) in
-    (rw (c .judged-number .ensures, e), (rw (t .table-from .ensures, p .predicates-from .ensures) at (m .verdict .ensures .1), rw (q .judged-places .ensures, e) at (w .write-values .ensures)))
+    (rw (w .write-verdict .ensures .0, e), (rw (t .table-from .ensures, p .predicates-from .ensures) at (m .verdict .ensures .1), rw e at (w .write-verdict .ensures .1)))
 
 pub varmityep-verdict-spec : {M : Type 1} → statement M
 varmityep-verdict-spec =
@@ -50,10 +40,7 @@ varmityep-verdict-spec =
     table-from-requires
     predicates-from-requires
     verdict-requires
-    judged-places-requires
-    slice-aggregate-write-values
-    write-values-requires
-    judged-number-requires
+    write-verdict-requires
     same-length
     same-length-2
     returns)
