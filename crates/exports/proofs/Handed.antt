@@ -1,19 +1,18 @@
 -- What the readers write into slices with room stands in front of them, and is what the margin and the verdict take up: the table of the text, the predicates of the sheet.
 -- Assumes nothing.
-use mathlib.Core.Path.{_≡_, refl, _∙_}
+use mathlib.Core.Path.{_≡_}
 use mathlib.Core.List.{List}
 use Prim.Native.Nat.{ℕ, _≤_}
 use lib.IntN.{ℤ}
-use lib.ListN.{length, length-set}
+use lib.ListN.{length}
 use lib.Seq.{take-all}
-use Rattle.recordings.specs.declared.Predicate.{Predicate}
 use Rattle.building.specs.Nodes.{nodes-of}
 use Rattle.building.specs.Storing.{cells-of}
 use Rattle.building.proofs.Cells.{length-nodes}
 use Rattle.requirements.specs.Requirement.{requirement-of}
 use Rattle.requirements.proofs.Answers.{answer-sound}
 use Rattle.requirements.proofs.Rules.{required-rules}
-use Rattle.predicate_lines.specs.Form.{Lines, over, more}
+use Rattle.predicate_lines.proofs.Exact.{lines-keep}
 use Rattle.sheets.specs.Sheets.{sheet-of}
 use Rattle.sheets.proofs.Exact.{sheet-sound}
 use Rattle.sheet_rows.specs.Answer.{in-front}
@@ -35,10 +34,6 @@ table-handed s h nodes r =
     let few = required-rules s a (x .1) .few-nodes in
     rw (x .2) (rw (length-nodes 0 a) at (table-read-back (nodes-of 0 a) (rw (length-nodes 0 a) few) nodes r))
 
-lines-long : {ps qs : List Predicate} {ls : List (List ℕ)} → Lines ps ls qs → length qs ≡ length ps
-lines-long over = refl
-lines-long (more l u r) = lines-long r ∙ simp length-set
-
 pub predicates-handed : (s : List ℕ) → sheet-of s .number ≡ 0 → (ranges : List ℕ) (ends : List ℤ) → 32 ≤ length ranges → 32 ≤ length ends
     → predicates-from (written (ranges-of (sheet-of s .predicates)) ranges) (written (ends-of (sheet-of s .predicates)) ends) ≡ sheet-of s .predicates
-predicates-handed s h ranges ends = predicates-back (sheet-of s .predicates) (lines-long (sheet-sound s h .predicates)) ranges ends
+predicates-handed s h ranges ends = predicates-back (sheet-of s .predicates) (lines-keep (sheet-sound s h .predicates)) ranges ends

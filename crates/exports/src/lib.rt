@@ -1,5 +1,5 @@
-// The library for C and Rust: every function takes and hands back flat numbers and slices, and returns the number of the refusal, 0 for none. Nothing is asked of a caller
-// but that each slice is a pointer and a length that belong together. tests/README.md has the declarations in C.
+// The library for C and Rust: every function takes and hands back flat numbers and slices, and the number of the refusal, 0 for none; `varmityep_answer` prints it. Nothing is asked of a caller
+// but that each slice is a pointer and a length that belong together. include/margin.h has the declarations in C.
 use recordings::Verdict;
 ghost use mathlib.Core.Path.{_≡_};
 ghost use mathlib.Core.List.{[], _∷_};
@@ -14,7 +14,22 @@ ghost use Rattle.row_lines.specs.Rows.{rows-of};
 ghost use Rattle.sheet_rows.specs.Answer.{answer-of, times-of, values-of, after};
 ghost use Rattle.margins.specs.Answers.{outcome as margin-outcome, judged as margin-judged, cells-after as margin-cells};
 ghost use Rattle.verdicts.specs.Answer.{outcome as verdict-outcome, judged as verdict-judged, cells-after as verdict-cells};
+ghost use Rattle.answers.specs.Answers.{answer-of-text};
+ghost use Rattle.answers.specs.Printed.{line-of};
 ghost use Rattle.exports.specs.Places.{sheet-places, row-places, card-from, margin-places, verdict-number, verdict-places};
+
+// The printed line of the answer to a whole text, and its length.
+#[no_mangle]
+pub extern "C" fn varmityep_answer(text: &[u8], line: &mut [u8]) -> usize
+    ensures length { λ r. ⌜ r ≡ length (line-of (answer-of-text (now (text .entry)))) ⌝ }
+    ensures line { λ _. ⌜ now (line .exit) ≡ written (line-of (answer-of-text (now (text .entry)))) (now (line .entry)) ⌝ }
+{
+    let printed = answers::printed::answer_line(text);
+    let len = printed.len;
+    let bytes = printed.bytes;
+    flat::write_bytes(&bytes[..len], line);
+    len
+}
 
 // The head of a sheet. Under refusal 1 the blank sheet is written.
 #[no_mangle]

@@ -42,6 +42,20 @@ pub fn write_values(new: &[i64], out: &mut [i64])
     }
 }
 
+// And of bytes.
+pub fn write_bytes(new: &[u8], out: &mut [u8])
+    ensures { λ _. ⌜ now (out .exit) ≡ written (now (new .entry)) (now (out .entry)) ⌝ }
+{
+    let mut i = 0;
+    while i < new.len() {
+        if i == out.len() {
+            return;
+        }
+        out[i] = new[i];
+        i += 1;
+    }
+}
+
 fn number_at(numbers: &[u64], at: usize) -> u64
     ensures { λ r. ⌜ r ≡ getD (now (numbers .entry)) at 0 ⌝ }
 {
