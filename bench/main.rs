@@ -1,23 +1,14 @@
 //! Times the proved margin and verdict against plain Rust of the same algorithm, checks that every cell is equal, and prints the ratios.
 
+#[path = "../rust/src/names.rs"]
+#[allow(dead_code)]
+mod names;
 mod plain;
-use plain::{Card, Node, Predicate, Range, NO_END};
-use std::time::Instant;
+mod timing;
 
-extern "C" {
-    fn varmityep_margin(
-        nodes: *const u64, nodes_len: usize, count: u64,
-        ranges: *const u64, ranges_len: usize, ends: *const i64, ends_len: usize,
-        channels: u64, times: *const u64, times_len: usize, values: *const i64, values_len: usize,
-        work: *mut i64, work_len: usize, result: *mut i64, result_len: usize,
-    ) -> u64;
-    fn varmityep_verdict(
-        nodes: *const u64, nodes_len: usize, count: u64,
-        ranges: *const u64, ranges_len: usize, ends: *const i64, ends_len: usize,
-        channels: u64, times: *const u64, times_len: usize, values: *const i64, values_len: usize,
-        step: u64, drift: u64, work: *mut i64, work_len: usize, result: *mut i64, result_len: usize,
-    ) -> u64;
-}
+use names::Call;
+use plain::{Card, Node, Predicate, Range, NO_END};
+use timing::{seconds, Random};
 
 /// A table and its predicates as flat numbers.
 struct Flat {
@@ -45,54 +36,28 @@ fn flat(nodes: &[Node], predicates: &[Predicate; 16]) -> Flat {
     f
 }
 
+fn call<'a>(f: &'a Flat, count: usize, card: &Card<'a>) -> Call<'a> {
+    Call {
+        nodes: &f.nodes,
+        count: count as u64,
+        ranges: &f.ranges,
+        ends: &f.ends,
+        channels: card.channels as u64,
+        times: card.times,
+        values: card.values,
+    }
+}
+
 fn proved(f: &Flat, count: usize, card: &Card, work: &mut [i64]) -> Option<i64> {
     let mut result = [0; 1];
-    // the function asks nothing of its caller but that the slices are what their lengths say
-    let number = unsafe {
-        varmityep_margin(
-            f.nodes.as_ptr(), f.nodes.len(), count as u64,
-            f.ranges.as_ptr(), f.ranges.len(), f.ends.as_ptr(), f.ends.len(),
-            card.channels as u64, card.times.as_ptr(), card.times.len(), card.values.as_ptr(), card.values.len(),
-            work.as_mut_ptr(), work.len(), result.as_mut_ptr(), result.len(),
-        )
-    };
-    if number == 0 { Some(result[0]) } else { None }
+    let number = names::margin(&call(f, count, card), work, &mut result);
+    (number == 0).then_some(result[0])
 }
 
 fn proved_verdict(f: &Flat, count: usize, card: &Card, step: u64, drift: u64, work: &mut [i64]) -> Option<(i64, i64)> {
     let mut result = [0; 3];
-    // the same
-    let number = unsafe {
-        varmityep_verdict(
-            f.nodes.as_ptr(), f.nodes.len(), count as u64,
-            f.ranges.as_ptr(), f.ranges.len(), f.ends.as_ptr(), f.ends.len(),
-            card.channels as u64, card.times.as_ptr(), card.times.len(), card.values.as_ptr(), card.values.len(),
-            step, drift, work.as_mut_ptr(), work.len(), result.as_mut_ptr(), result.len(),
-        )
-    };
-    if number == 0 { Some((result[1], result[2])) } else { None }
-}
-
-struct Random(u64);
-
-impl Random {
-    fn next(&mut self, bound: u64) -> u64 {
-        self.0 = self.0.wrapping_mul(6364136223846793005).wrapping_add(1442695040888963407);
-        (self.0 >> 33) % bound
-    }
-    fn value(&mut self) -> i64 {
-        self.next(2_000_000_001) as i64 - 1_000_000_000
-    }
-}
-
-/// Seconds for one call, from a run of calls that lasts a millisecond or more.
-fn seconds(mut call: impl FnMut()) -> f64 {
-    let (began, mut calls) = (Instant::now(), 0u32);
-    while calls == 0 || began.elapsed().as_secs_f64() < 0.001 {
-        call();
-        calls += 1;
-    }
-    began.elapsed().as_secs_f64() / f64::from(calls)
+    let number = names::verdict(&call(f, count, card), step, drift, work, &mut result);
+    (number == 0).then_some((result[1], result[2]))
 }
 
 /// Best times of two functions, taken in turn, that must answer the same and leave the same cells.
