@@ -41,7 +41,7 @@ struct Case {
 
 /// Room for everything that the library hands back, used again in each call.
 struct Room {
-    line: [u8; 128],
+    line: [u8; 160],
     numbers: [u64; 6],
     ranges: [u64; 32],
     ends: [i64; 32],
@@ -54,7 +54,7 @@ struct Room {
 
 impl Room {
     fn new() -> Room {
-        let (line, numbers, ranges, ends, nodes, count, counts) = ([0; 128], [0; 6], [0; 32], [0; 32], [0; 320], [0], [0; 2]);
+        let (line, numbers, ranges, ends, nodes, count, counts) = ([0; 160], [0; 6], [0; 32], [0; 32], [0; 320], [0], [0; 2]);
         Room { line, numbers, ranges, ends, nodes, count, times: vec![0; 4_096], values: vec![0; 8 * 4_096], counts }
     }
 }

@@ -28,7 +28,7 @@ extern "C" {
 #define MARGIN_NUMBERS 6  /* numbers of a sheet, see MARGIN_SHEET_.. */
 #define MARGIN_COUNTS 2   /* counts of rows: measured, filled */
 #define MARGIN_RESULT 3   /* result of a verdict: verdict, hold, fail */
-#define MARGIN_LINE 128   /* line: more than any printed line */
+#define MARGIN_LINE 160   /* line: no printed line is longer */
 
 /* Limits of what is accepted. */
 #define MARGIN_MOST_BYTES 65536
@@ -85,7 +85,8 @@ enum {
 /*
  * The line that the program prints for a sheet's text, its line feed included; a refusal is a line
  * too. It stands in line from its first byte on, without a closing 0; bytes behind it keep their
- * contents. Returns its length. Give MARGIN_LINE bytes.
+ * contents. Returns its length. Give MARGIN_LINE bytes. Its own arrays are on the stack: leave it
+ * 512 KiB (a run was measured to need less than 260).
  */
 size_t varmityep_answer(const uint8_t *text, size_t text_len, uint8_t *line, size_t line_len);
 

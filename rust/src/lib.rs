@@ -29,8 +29,8 @@ pub const ANSWER_ROWS: usize = 2_048;
 /// Cells that [`answer`] has; a verdict that needs more is refused by 8.
 pub const ANSWER_CELLS: usize = 8_192;
 
-/// More than any printed line.
-const LINE: usize = 128;
+/// No printed line is longer.
+const LINE: usize = 160;
 
 /// The line that is printed for a sheet, its line feed included; a refusal is a line too.
 pub fn answer(text: &[u8]) -> String {

@@ -3,6 +3,7 @@
 use recordings::Verdict;
 ghost use mathlib.Core.Path.{_≡_};
 ghost use mathlib.Core.List.{[], _∷_};
+ghost use Prim.Native.Nat.{_≤_};
 ghost use lib.ListN.{length};
 ghost use Rattle.building.specs.Storing.{cells-of};
 ghost use Rattle.flat.specs.Written.{written};
@@ -22,6 +23,7 @@ ghost use Rattle.exports.specs.Places.{sheet-places, row-places, card-fr
 #[no_mangle]
 pub extern "C" fn varmityep_answer(text: &[u8], line: &mut [u8]) -> usize
     ensures length { λ r. ⌜ r ≡ length (line-of (answer-of-text (now (text .entry)))) ⌝ }
+    ensures room { λ r. ⌜ r ≤ 160 ⌝ }
     ensures line { λ _. ⌜ now (line .exit) ≡ written (line-of (answer-of-text (now (text .entry)))) (now (line .entry)) ⌝ }
 {
     let printed = answers::printed::answer_line(text);

@@ -32,7 +32,7 @@ returns c =
     let a = c .before .before .before .before .before .before .answer-line in
     let n : length (a .result .bytes) ≡ 160 = search needs in
     let l : length (take (a .result .len) (a .result .bytes)) ≡ a .result .len = length-take-le (a .result .len) (a .result .bytes) (omega (arith, a .ensures .fits)) in
-    (sym l ∙ ap length (a .ensures .reads), rw (a .ensures .reads) at (c .before .before .write-bytes .ensures))
+    (sym l ∙ ap length (a .ensures .reads), (a .ensures .fits, rw (a .ensures .reads) at (c .before .before .write-bytes .ensures)))
 
 pub varmityep-answer-spec : {M : Type 1} → statement M
 varmityep-answer-spec =
