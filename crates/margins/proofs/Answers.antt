@@ -54,7 +54,7 @@ module _ (c : Card) (t : Table) (cells : ℕ) where
 
 -- an accepted table over an accepted recording needs few cells
 pub few-cells : {c : Card} {t : Table} → Sound c t → t .count * rows c ≤ 262_144
-few-cells {c} s = omega (arith, mul-le-mul-right (rows c) (s .ruled .few-nodes), s .recorded .few-rows)
+few-cells {c} s = omega (arith, mul-le-mul-right (rows c) (s .ruled .few-nodes), s .recorded .lengths .few-rows)
 
 -- ---- the cells
 module _ (c : Card) (t : Table) (w : List ℤ) where

@@ -48,14 +48,14 @@ module _ {w : List ℤ} {c : Card} {n : Node} {left right row : ℕ} (a : NodeAs
   above operand h = record { earlier = h; room = a .room }
 
   pub row-asks : (l : Left) (operand : ℕ) → LeftEarlier row l → operand < row → RowAsks w (c .times) l operand row
-  row-asks l operand h k = record { left-earlier = h; right-earlier = k; right-bounded = a .bounded operand k; room = a .room; times-rise = record { rising = a .recorded .rising } }
+  row-asks l operand h k = record { left-earlier = h; right-earlier = k; right-bounded = a .bounded operand k; room = a .room; times-rise = record { rising = a .recorded .times .rising } }
 
   pub leaf : n .kind ≡ 1 → Leaf (c .values) (c .channels) (predicate c (n .left)) (rows c)
   leaf e = record {
-    known = elim (a .recorded .proper (n .left) .known) [ inl u ↦ absurd (a .set e u) | inr k ↦ k ];
-    ends = a .recorded .proper (n .left) .ends;
-    all-values = omega (arith, a .recorded .all-values);
-    in-range = a .recorded .in-range;
+    known = elim (a .recorded .channels .proper (n .left) .known) [ inl u ↦ absurd (a .set e u) | inr k ↦ k ];
+    ends = a .recorded .channels .proper (n .left) .ends;
+    all-values = omega (arith, a .recorded .lengths .all-values);
+    in-range = a .recorded .values .in-range;
   }
 
 -- eight kinds that it is not leave the last

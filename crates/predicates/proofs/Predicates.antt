@@ -19,11 +19,11 @@ use Rattle.recordings.specs.declared.Predicate.{Predicate}
 use Rattle.recordings.specs.declared.Range.{Range}
 use Rattle.recordings.specs.declared.Range.the-variants.{Unset, Free, AtLeast, AtMost, Between}
 use Rattle.recordings.specs.Card.{Card, predicate}
-use Rattle.recordings.specs.Accepted.{InRange, Ends, Proper}
+use Rattle.recordings.specs.Accepted.{InRange, Ends, Proper, Channels}
 use Rattle.tables.specs.declared.Node.{Node}
 use Rattle.tables.specs.declared.Table.{Table}
 use Rattle.tables.specs.Tree.{node-at}
-use Rattle.predicates.specs.Predicates.{predicate-at, is-set, names-set, all-named, Named, value-obeys, range-obeys, predicate-obeys, predicates-obey, channels-obey, Channels}
+use Rattle.predicates.specs.Predicates.{predicate-at, is-set, names-set, all-named, Named, value-obeys, range-obeys, predicate-obeys, predicates-obey, channels-obey}
 
 unset-is : (r : Range) → T (not (is-set r)) → r ≡ Unset
 unset-is Unset t = refl

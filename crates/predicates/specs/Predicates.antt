@@ -1,9 +1,9 @@
--- Refusal 4, and what refusal 3 asks of the predicates: for each number the test, and the sentence that it stands for. `proofs/Predicates` shows the two equal.
+-- The tests of refusal 4 and of what refusal 3 asks of the predicates. `proofs/Predicates` shows each equal to its sentence: `Channels` of `recordings/specs/Accepted`, and `Named` below.
 -- Assumes nothing.
 use mathlib.Core.Path.{_≡_}
 use mathlib.Core.Bool.{Bool, true, false, not, _&&_, _||_}
 use mathlib.Core.List.{List}
-use Prim.Native.Nat.{ℕ, _≤_, _<_}
+use Prim.Native.Nat.{ℕ, _<_}
 use lib.Dec.{leb, ltb, eqb}
 use lib.ListN.{getD}
 use lib.IntN.{ℤ, pos, negℤ}
@@ -13,7 +13,6 @@ use Rattle.recordings.specs.declared.Predicate.{Predicate}
 use Rattle.recordings.specs.declared.Range.{Range}
 use Rattle.recordings.specs.declared.Range.the-variants.{Unset, Free, AtLeast, AtMost, Between}
 use Rattle.recordings.specs.Card.{Card, predicate}
-use Rattle.recordings.specs.Accepted.{Proper}
 use Rattle.tables.specs.declared.Node.{Node}
 use Rattle.tables.specs.declared.Table.{Table}
 use Rattle.tables.specs.Tree.{node-at}
@@ -64,8 +63,3 @@ predicates-obey channels ps n = all-below (λ p. predicate-obeys channels (predi
 
 unfoldable pub channels-obey : ℕ → List Predicate → Bool
 channels-obey channels ps = leb 1 channels && (leb channels 8 && predicates-obey channels ps 16)
-
-pub record Channels (c : Card) : Type 0 where
-  pub some-channel : 1 ≤ c .channels
-  pub few-channels : c .channels ≤ 8
-  pub proper : (p : ℕ) → Proper (c .channels) (predicate c p)

@@ -1,4 +1,4 @@
-// The predicates that a requirement names: refusal 4, and of refusal 3 whether they are set. Their sentences are in specs/.
+// The predicates that a requirement names: refusal 4, and of refusal 3 whether they are set. Their sentences are in recordings/specs/Accepted and in specs/.
 // No test branches on what it has found so far: each looks at everything that it judges.
 ghost use mathlib.Core.Path.{_≡_};
 ghost use Prim.Native.Nat.{_≤_};

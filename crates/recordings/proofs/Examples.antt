@@ -40,23 +40,23 @@ record Computed (c : Card) (step drift : ℕ) : Type 0 where
 accepted : {c : Card} {step drift : ℕ} → Computed c step drift → Accepted c step drift
 accepted {c} {step} {drift} t = record {
   recorded = record {
-    some-channel = omega (arith, t .one-channel);
-    few-channels = omega (arith, t .one-channel);
-    proper = t .proper;
-    some-row = leb→le 1 (rows c) (t .some-row);
-    few-rows = leb→le (rows c) 4_096 (t .few-rows);
-    all-values = t .all-values;
-    rising = λ i h. ltb→lt _ _ (all-at (λ j. ltb (time c j) (time c (suc j))) (rows c - 1) (t .rising) i (omega arith));
-    small-times = λ i h. leb→le _ _ (all-at (λ j. leb (time c j) 2_000_000_000) (rows c) (t .small-times) i h);
-    in-range = λ m h. record { size = leb→le _ _ (all-at (λ j. leb (natAbs (getD (c .values) j (pos 0))) 1_000_000_000) (length (c .values)) (t .in-range) m h) };
+    channels = record { some-channel = omega (arith, t .one-channel); few-channels = omega (arith, t .one-channel); proper = t .proper };
+    lengths = record { some-row = leb→le 1 (rows c) (t .some-row); few-rows = leb→le (rows c) 4_096 (t .few-rows); all-values = t .all-values };
+    times = record {
+      rising = λ i h. ltb→lt _ _ (all-at (λ j. ltb (time c j) (time c (suc j))) (rows c - 1) (t .rising) i (omega arith));
+      small-times = λ i h. leb→le _ _ (all-at (λ j. leb (time c j) 2_000_000_000) (rows c) (t .small-times) i h);
+    };
+    values = record {
+      in-range = λ m h. record { size = leb→le _ _ (all-at (λ j. leb (natAbs (getD (c .values) j (pos 0))) 1_000_000_000) (length (c .values)) (t .in-range) m h) };
+    };
   };
-  some-step = leb→le 1 step (t .some-step);
-  short-step = leb→le step 1_000_000_000 (t .short-step);
-  small-drift = leb→le drift 1_000_000_000 (t .small-drift);
-  no-gap = λ i h. leb→le _ _ (all-at (λ j. leb (time c (suc j)) (time c j + step)) (rows c - 1) (t .no-gap) i (omega arith));
-  no-jump = λ i ch h k.
-      let e : ch ≡ 0 = omega (arith, t .one-channel) in
-      rw e (leb→le _ _ (all-at (λ j. leb (natAbs (value c 0 (suc j) -ℤ value c 0 j)) (2 * drift)) (rows c - 1) (t .no-jump) i (omega arith)));
+  stepped = record { some-step = leb→le 1 step (t .some-step); short-step = leb→le step 1_000_000_000 (t .short-step); small-drift = leb→le drift 1_000_000_000 (t .small-drift) };
+  gapless = record { no-gap = λ i h. leb→le _ _ (all-at (λ j. leb (time c (suc j)) (time c j + step)) (rows c - 1) (t .no-gap) i (omega arith)) };
+  steady = record {
+    no-jump = λ i ch h k.
+        let e : ch ≡ 0 = omega (arith, t .one-channel) in
+        rw e (leb→le _ _ (all-at (λ j. leb (natAbs (value c 0 (suc j) -ℤ value c 0 j)) (2 * drift)) (rows c - 1) (t .no-jump) i (omega arith)));
+  };
 }
 
 -- ---- the program's example

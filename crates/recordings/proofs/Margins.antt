@@ -64,12 +64,12 @@ module _ {c : Card} (ok : Recorded c) where
   in-range-at m = go (decLt m (length (c .values)))
     where
       go : Dec (m < length (c .values)) → InRange (getD (c .values) m (pos 0))
-      go (yes h) = ok .in-range m h
+      go (yes h) = ok .values .in-range m h
       go (no h) = rw (List·getD-eq-default (c .values) (pos 0) {n = m} (omega arith)) (record { size = lit≤ tt })
 
   -- a distance that is not free is smaller than TOP
   pub distance-below : (p i : ℕ) → Open (predicate c p .range) ⊎ Within 2_000_000_001 (distance-at TOP c p i)
-  distance-below p i = distance-small TOP (predicate c p .range) _ (ok .proper p .ends) (in-range-at (i * c .channels + predicate c p .channel))
+  distance-below p i = distance-small TOP (predicate c p .range) _ (ok .channels .proper p .ends) (in-range-at (i * c .channels + predicate c p .channel))
 
   pub recorded-bounded : Bounded TOP c
   recorded-bounded = record { bound = λ p i. go p i (distance-below p i) }

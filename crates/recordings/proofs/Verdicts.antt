@@ -36,15 +36,15 @@ truth-is false false t = refl
 module _ {c : Card} {step drift : ℕ} (ok : Accepted c step drift) where
   sampled : Sampled c step
   sampled = record {
-    some-row = ok .recorded .some-row;
-    rising = ok .recorded .rising;
-    no-gap = ok .no-gap;
-    some-step = ok .some-step;
-    known = λ p. ok .recorded .proper p .known;
+    some-row = ok .recorded .lengths .some-row;
+    rising = ok .recorded .times .rising;
+    no-gap = ok .gapless .no-gap;
+    some-step = ok .stepped .some-step;
+    known = λ p. ok .recorded .channels .proper p .known;
   }
 
   drift-below : drift < TOP
-  drift-below = omega (arith, ok .small-drift)
+  drift-below = omega (arith, ok .stepped .small-drift)
 
   -- what a strengthened margin is above, the margin itself is above, so its sign is positive
   samples-agree : (b : Bool) (φ : Formula ℕ) → T (above (pos drift) (margin c (strengthened step b φ) 0)) → T (signed booleans b (true-of c φ 0))
@@ -60,7 +60,7 @@ module _ {c : Card} {step drift : ℕ} (ok : Accepted c step drift) where
   shown : (b : Bool) (φ : Formula ℕ) → T (above (pos drift) (margin c (strengthened step b φ) 0)) → Shown c step drift b φ
   shown b φ m = record {
     of-samples = truth-is b _ (samples-agree b φ m);
-    of-histories = λ h history t s o. truth-is b _ (carries sampled TOP drift drift-below h history b φ 0 t (ok .recorded .some-row) s o m);
+    of-histories = λ h history t s o. truth-is b _ (carries sampled TOP drift drift-below h history b φ 0 t (ok .recorded .lengths .some-row) s o m);
   }
 
   -- When the verdict is "holds", the requirement is true of the samples, and of every history at every second of it within one step of the first sample.

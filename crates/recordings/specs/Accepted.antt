@@ -1,4 +1,4 @@
--- What is accepted: the conditions of refusals 4 to 7 and 9 to 11, none of which applies, as sentences.
+-- What is accepted: the conditions of refusals 4 to 7 and 9 to 11, none of which applies, each as a sentence. Their tests stand in predicates, rules and sampling.
 -- Assumes nothing.
 use mathlib.Core.Path.{_≡_}
 use mathlib.Core.Logic.{_⊎_}
@@ -30,23 +30,52 @@ pub record Proper (channels : ℕ) (p : Predicate) : Type 0 where
   pub known : (p .range ≡ Unset) ⊎ (p .channel < channels)
   pub ends : Ends (p .range)
 
--- refusals 4 to 7 do not apply
-pub record Recorded (c : Card) : Type 0 where
+-- ---- the sentence of each refusal that looks at a recording, step or drift: what holds where the refusal does not apply
+-- 4: 1 to 8 channels, and every predicate proper
+pub record Channels (c : Card) : Type 0 where
   pub some-channel : 1 ≤ c .channels
   pub few-channels : c .channels ≤ 8
   pub proper : (p : ℕ) → Proper (c .channels) (predicate c p)
+
+-- 5: 1 to 4,096 samples, and the values rows × channels long, rows being the count of times
+pub record Lengths (c : Card) : Type 0 where
   pub some-row : 1 ≤ rows c
   pub few-rows : rows c ≤ 4_096
   pub all-values : length (c .values) ≡ rows c * c .channels
+
+-- 6: times strictly rising, at most 2,000,000,000
+pub record Times (c : Card) : Type 0 where
   pub rising : (i : ℕ) → suc i < rows c → time c i < time c (suc i)
   pub small-times : (i : ℕ) → i < rows c → time c i ≤ 2_000_000_000
+
+-- 7: no value out of range
+pub record Values (c : Card) : Type 0 where
   pub in-range : (m : ℕ) → m < length (c .values) → InRange (getD (c .values) m (pos 0))
+
+-- 9: the step is 1 to 1,000,000,000 seconds, the drift 0 to 1,000,000,000
+pub record Step (step drift : ℕ) : Type 0 where
+  pub some-step : 1 ≤ step
+  pub short-step : step ≤ 1_000_000_000
+  pub small-drift : drift ≤ 1_000_000_000
+
+-- 10: no two neighbouring times differ by more than the step
+pub record Gapless (c : Card) (step : ℕ) : Type 0 where
+  pub no-gap : (i : ℕ) → suc i < rows c → time c (suc i) ≤ time c i + step
+
+-- 11: no neighbouring values of a channel differ by more than 2 × drift
+pub record Steady (c : Card) (drift : ℕ) : Type 0 where
+  pub no-jump : (i ch : ℕ) → suc i < rows c → ch < c .channels → natAbs (value c ch (suc i) -ℤ value c ch i) ≤ 2 * drift
+
+-- ---- refusals 4 to 7 do not apply
+pub record Recorded (c : Card) : Type 0 where
+  pub channels : Channels c
+  pub lengths : Lengths c
+  pub times : Times c
+  pub values : Values c
 
 -- nor do refusals 9 to 11
 pub record Accepted (c : Card) (step drift : ℕ) : Type 0 where
   pub recorded : Recorded c
-  pub some-step : 1 ≤ step
-  pub short-step : step ≤ 1_000_000_000
-  pub small-drift : drift ≤ 1_000_000_000
-  pub no-gap : (i : ℕ) → suc i < rows c → time c (suc i) ≤ time c i + step
-  pub no-jump : (i ch : ℕ) → suc i < rows c → ch < c .channels → natAbs (value c ch (suc i) -ℤ value c ch i) ≤ 2 * drift
+  pub stepped : Step step drift
+  pub gapless : Gapless c step
+  pub steady : Steady c drift

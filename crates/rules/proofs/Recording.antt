@@ -11,9 +11,10 @@ use mir.Facts.{and-yes, yes-and, yes-eqb}
 use Rattle.numbers.proofs.Parts.{holds}
 use Rattle.lists.proofs.Below.{all-at, at-all}
 use Rattle.recordings.specs.Card.{Card, rows, time}
+use Rattle.recordings.specs.Accepted.{Lengths, Times, Values}
 use Rattle.predicates.specs.Predicates.{value-obeys}
 use Rattle.predicates.proofs.Predicates.{value-in-range, in-range-passes}
-use Rattle.rules.specs.Recording.{lengths-obey, Lengths, all-rising, all-early, times-obey, Times, all-in-range, values-obey, Values}
+use Rattle.rules.specs.Recording.{lengths-obey, all-rising, all-early, times-obey, all-in-range, values-obey}
 
 -- ---- 5
 pub lengths-are : (c : Card) → T (lengths-obey (rows c) (length (c .values)) (c .channels)) → Lengths c

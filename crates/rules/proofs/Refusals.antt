@@ -9,30 +9,15 @@ use lib.Dec.{T}
 use lib.ListN.{length}
 use mir.Facts.{and-yes, yes-and}
 use Rattle.recordings.specs.Card.{Card, rows}
-use Rattle.recordings.specs.Accepted.{Recorded}
 use Rattle.tables.specs.declared.Table.{Table}
 use Rattle.tables.specs.Rules.{table-obeys}
 use Rattle.tables.proofs.Rules.{table-rules, table-passes}
 use Rattle.rules.specs.First.{first, Exact, AllExact, check-at, Refused, Passed}
-use Rattle.predicates.specs.Predicates.{requirement-obeys, all-named, Channels}
+use Rattle.predicates.specs.Predicates.{requirement-obeys, all-named}
 use Rattle.predicates.proofs.Predicates.{named, named-passes, channels-are, channels-pass}
-use Rattle.rules.specs.Recording.{Lengths, Times, Values}
 use Rattle.rules.specs.Refusals.{checks, Sound}
 use Rattle.rules.proofs.First.{passed, none-fails, refused, first-is}
 use Rattle.rules.proofs.Recording.{lengths-are, lengths-pass, times-are, times-pass, values-are, values-pass}
-
-recorded : {c : Card} → Channels c → Lengths c → Times c → Values c → Recorded c
-recorded h l t v = record {
-  some-channel = h .some-channel;
-  few-channels = h .few-channels;
-  proper = h .proper;
-  some-row = l .some-row;
-  few-rows = l .few-rows;
-  all-values = l .all-values;
-  rising = t .rising;
-  small-times = t .small-times;
-  in-range = v .in-range;
-}
 
 -- sixteen predicates are all there are
 pub exact : (c : Card) (t : Table) → length (c .predicates) ≤ 16 → AllExact (checks c t)
@@ -50,7 +35,7 @@ pub passed-sound : {c : Card} {t : Table} → Passed (checks c t) → Sound c t
 passed-sound p = record {
   ruled = p .each 0 (omega arith) .0;
   named = p .each 0 (omega arith) .1;
-  recorded = recorded (p .each 1 (omega arith)) (p .each 2 (omega arith)) (p .each 3 (omega arith)) (p .each 4 (omega arith));
+  recorded = record { channels = p .each 1 (omega arith); lengths = p .each 2 (omega arith); times = p .each 3 (omega arith); values = p .each 4 (omega arith) };
 }
 
 pub sound : (c : Card) (t : Table) → length (c .predicates) ≤ 16 → first (checks c t) ≡ 0 → Sound c t
@@ -59,15 +44,12 @@ sound c t l e = passed-sound (passed (checks c t) tt (exact c t l) e)
 pub sound-passes : (c : Card) (t : Table) → length (c .predicates) ≤ 16 → Sound c t → first (checks c t) ≡ 0
 sound-passes c t l s = none-fails (checks c t) (exact c t l) (record { each = each })
   where
-    r : Recorded c
-    r = s .recorded
-
     each : (j : ℕ) → j < 5 → check-at (checks c t) j .sentence
     each zero h = (s .ruled, s .named)
-    each (suc zero) h = record { some-channel = r .some-channel; few-channels = r .few-channels; proper = r .proper }
-    each (suc (suc zero)) h = record { some-row = r .some-row; few-rows = r .few-rows; all-values = r .all-values }
-    each (suc (suc (suc zero))) h = record { rising = r .rising; small-times = r .small-times }
-    each (suc (suc (suc (suc zero)))) h = record { in-range = r .in-range }
+    each (suc zero) h = s .recorded .channels
+    each (suc (suc zero)) h = s .recorded .lengths
+    each (suc (suc (suc zero))) h = s .recorded .times
+    each (suc (suc (suc (suc zero)))) h = s .recorded .values
     each (suc (suc (suc (suc (suc j))))) h = absurd (omega arith)
 
 -- each number, exactly: `refused` and `first-is` of this list

@@ -6,12 +6,12 @@ use lib.ListN.{length}
 use lib.IntN.{ℤ}
 use Rattle.recordings.specs.declared.Predicate.{Predicate}
 use Rattle.recordings.specs.Card.{Card, rows}
-use Rattle.recordings.specs.Accepted.{Recorded}
+use Rattle.recordings.specs.Accepted.{Channels, Lengths, Times, Values, Recorded}
 use Rattle.tables.specs.declared.Table.{Table}
 use Rattle.tables.specs.Rules.{TableRules}
 use Rattle.rules.specs.First.{Check}
-use Rattle.predicates.specs.Predicates.{requirement-obeys, Named, channels-obey, Channels}
-use Rattle.rules.specs.Recording.{lengths-obey, Lengths, times-obey, Times, values-obey, Values}
+use Rattle.predicates.specs.Predicates.{requirement-obeys, Named, channels-obey}
+use Rattle.rules.specs.Recording.{lengths-obey, times-obey, values-obey}
 
 -- what the library's callers hand over, as a card
 abbrev pub card : ℕ → List Predicate → List ℕ → List ℤ → Card

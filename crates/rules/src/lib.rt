@@ -1,4 +1,4 @@
-// Refusals 3 to 7: what a table, its predicates and a recording are judged by before a margin is taken. Their sentences are in specs/.
+// Refusals 3 to 7: what a table, its predicates and a recording are judged by before a margin is taken. Their sentences are listed in specs/Refusals.
 // No test branches on what it has found so far; none counts past what an earlier one has bounded.
 ghost use mathlib.Core.Path.{_≡_};
 ghost use Prim.Native.Nat.{_≤_, _<_};

@@ -16,13 +16,13 @@ use Rattle.numbers.proofs.Parts.{plus, minus, holds, le-parts, parts-le, parts-
 use Rattle.lists.proofs.Below.{same-test, all-at, at-all}
 use Rattle.lists.proofs.Filled.{earlier-row}
 use Rattle.recordings.specs.Card.{Card, rows, time, value}
-use Rattle.recordings.specs.Accepted.{InRange, Recorded, Accepted}
+use Rattle.recordings.specs.Accepted.{Step, Gapless, Steady, Recorded, Accepted}
 use Rattle.tables.specs.declared.Table.{Table}
 use Rattle.rules.specs.First.{first, Exact, AllExact, check-at}
 use Rattle.rules.specs.Refusals.{checks as recording-checks}
 use Rattle.rules.proofs.First.{passed, none-fails}
 use Rattle.rules.proofs.Refusals.{sound}
-use Rattle.sampling.specs.Sampling.{step-obeys, Step, all-close, times-close, Gapless, near, all-near, values-near, Steady, checks, samples-alone, Measured}
+use Rattle.sampling.specs.Sampling.{step-obeys, all-close, times-close, near, all-near, values-near, checks, samples-alone, Measured}
 
 -- ---- 9
 pub step-is : (step drift : ℕ) → T (step-obeys step drift) → Step step drift
@@ -101,35 +101,27 @@ steady-passes c drift s l r = at-all (λ m. near drift (getD (c .values) m (pos 
 
 -- ---- all of them
 pub measured : {c : Card} → Recorded c → Measured (c .channels) (c .times) (c .values)
-measured {c} r = record { some-row = r .some-row; some-values = omega (arith, r .all-values, mul-le-mul-right (c .channels) (r .some-row)); in-range = r .in-range }
+measured {c} r = record { some-row = r .lengths .some-row; some-values = omega (arith, r .lengths .all-values, mul-le-mul-right (c .channels) (r .lengths .some-row)); in-range = r .values .in-range }
 
 pub exact : (c : Card) (step drift : ℕ) → Recorded c → AllExact (checks c step drift)
 exact c step drift r = (record { sound = step-is step drift; complete = step-passes step drift }, λ _. (record { sound = gapless c step; complete = gapless-passes c step }, λ _. (eleven, λ _. tt)))
   where
     eleven : Exact (check-at (checks c step drift) 2)
-    eleven = record { sound = steady c drift (r .all-values); complete = steady-passes c drift (r .some-channel) (r .all-values) }
+    eleven = record { sound = steady c drift (r .lengths .all-values); complete = steady-passes c drift (r .channels .some-channel) (r .lengths .all-values) }
 
 -- behind refusals 3 to 7, number 0 is acceptance, and acceptance is number 0
 pub accepted : (c : Card) (step drift : ℕ) → Recorded c → first (checks c step drift) ≡ 0 → Accepted c step drift
 accepted c step drift r e =
     let p = passed (checks c step drift) tt (exact c step drift r) e in
-    let s : Step step drift = p .each 0 (omega arith) in
-    record {
-      recorded = r;
-      some-step = s .some-step;
-      short-step = s .short-step;
-      small-drift = s .small-drift;
-      no-gap = p .each 1 (omega arith) .no-gap;
-      no-jump = p .each 2 (omega arith) .no-jump;
-    }
+    record { recorded = r; stepped = p .each 0 (omega arith); gapless = p .each 1 (omega arith); steady = p .each 2 (omega arith) }
 
 pub accepted-passes : (c : Card) (step drift : ℕ) → Accepted c step drift → first (checks c step drift) ≡ 0
 accepted-passes c step drift a = none-fails (checks c step drift) (exact c step drift (a .recorded)) (record { each = each })
   where
     each : (j : ℕ) → j < 3 → check-at (checks c step drift) j .sentence
-    each zero h = record { some-step = a .some-step; short-step = a .short-step; small-drift = a .small-drift }
-    each (suc zero) h = record { no-gap = a .no-gap }
-    each (suc (suc zero)) h = record { no-jump = a .no-jump }
+    each zero h = a .stepped
+    each (suc zero) h = a .gapless
+    each (suc (suc zero)) h = a .steady
     each (suc (suc (suc j))) h = absurd (omega arith)
 
 -- no number of 3 to 7 and none of 9 to 11: what demand 3 asks

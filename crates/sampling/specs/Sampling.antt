@@ -1,4 +1,4 @@
--- Refusals 9 to 11, which the verdict alone has: for each number the test, and the sentence that it stands for. `proofs/Sampling` shows the two equal.
+-- The tests of refusals 9 to 11, which the verdict alone has. `proofs/Sampling` shows each equal to its sentence in `recordings/specs/Accepted`.
 -- Assumes nothing.
 use mathlib.Core.Bool.{Bool, _&&_}
 use mathlib.Core.List.{List, [], _∷_}
@@ -7,8 +7,8 @@ use lib.Dec.{leb}
 use lib.ListN.{length, getD}
 use lib.IntN.{ℤ, pos, _-ℤ_, natAbs}
 use Rattle.lists.specs.Fold.{all-below}
-use Rattle.recordings.specs.Card.{Card, rows, time, value}
-use Rattle.recordings.specs.Accepted.{InRange}
+use Rattle.recordings.specs.Card.{Card}
+use Rattle.recordings.specs.Accepted.{InRange, Step, Gapless, Steady}
 use Rattle.rules.specs.First.{Check}
 use Rattle.rules.specs.Refusals.{card}
 
@@ -16,20 +16,12 @@ use Rattle.rules.specs.Refusals.{card}
 unfoldable pub step-obeys : ℕ → ℕ → Bool
 step-obeys step drift = leb 1 step && (leb step 1_000_000_000 && leb drift 1_000_000_000)
 
-pub record Step (step drift : ℕ) : Type 0 where
-  pub some-step : 1 ≤ step
-  pub short-step : step ≤ 1_000_000_000
-  pub small-drift : drift ≤ 1_000_000_000
-
 -- ---- 10: two neighbouring times differ by more than the step
 unfoldable pub all-close : ℕ → List ℕ → ℕ → Bool
 all-close step ts n = all-below (λ i. leb (getD ts (suc i) 0 - getD ts i 0) step) n
 
 unfoldable pub times-close : ℕ → List ℕ → Bool
 times-close step ts = all-close step ts (length ts - 1)
-
-pub record Gapless (c : Card) (step : ℕ) : Type 0 where
-  pub no-gap : (i : ℕ) → suc i < rows c → time c (suc i) ≤ time c i + step
 
 -- ---- 11: neighbouring values of a channel differ by more than 2 × drift
 unfoldable pub near : ℕ → ℤ → ℤ → Bool
@@ -41,9 +33,6 @@ all-near drift channels vs n = all-below (λ m. near drift (getD vs m (pos 0)) (
 
 unfoldable pub values-near : ℕ → ℕ → List ℤ → Bool
 values-near drift channels vs = all-near drift channels vs (length vs - channels)
-
-pub record Steady (c : Card) (drift : ℕ) : Type 0 where
-  pub no-jump : (i ch : ℕ) → suc i < rows c → ch < c .channels → natAbs (value c ch (suc i) -ℤ value c ch i) ≤ 2 * drift
 
 -- ---- in the order in which they count; in a verdict they stand behind refusals 3 to 8
 abbrev pub checks : Card → ℕ → ℕ → List Check

@@ -1,4 +1,4 @@
-// Refusals 9 to 11: whether step and drift are in range, and whether neighbouring samples are near enough in time and in value. Their sentences are in specs/.
+// Refusals 9 to 11: whether step and drift are in range, and whether neighbouring samples are near enough in time and in value. Their sentences are in recordings/specs/Accepted.
 // Differences are compared; nothing is added to a time or a value.
 ghost use mathlib.Core.Path.{_≡_};
 ghost use Prim.Native.Nat.{_-_, _≤_, _<_};

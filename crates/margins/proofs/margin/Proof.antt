@@ -34,7 +34,7 @@ last-row c =
     let f = fine e in
     let n = length (s .args .times .now) in
     let r : (s .args .table .count - 1) * n + n ≤ s .args .table .count * n = earlier-row (s .args .table .count - 1) (s .args .table .count) n (omega (arith, f .0 .ruled .some-node)) in
-    let a : 1 ≤ n = f .0 .recorded .some-row in
+    let a : 1 ≤ n = f .0 .recorded .lengths .some-row in
     let b : s .args .table .count * n ≤ length (s .args .work .now) = f .1 in
     let d : s .args .table .count * n ≤ 262_144 = few-cells (f .0) in
     (omega arith, omega arith)
@@ -70,7 +70,7 @@ returns-2 c =
     let f = fine e in
     let z = sym (e .before .refusal-of .ensures) ∙ e .if1 .left in
     let g = c .before .before .fill-margins .ensures in (
-      margin-outcome (card-of s) (s .args .table) (length (s .args .work .now)) _ z (back-ok _ (c .value .given) ∙ root-cell (card-of s) (s .args .table) (s .args .work .now) (f .0 .ruled .some-node) (f .0 .recorded .some-row) (f .1) g),
+      margin-outcome (card-of s) (s .args .table) (length (s .args .work .now)) _ z (back-ok _ (c .value .given) ∙ root-cell (card-of s) (s .args .table) (s .args .work .now) (f .0 .ruled .some-node) (f .0 .recorded .lengths .some-row) (f .1) g),
       cells-filled (card-of s) (s .args .table) (s .args .work .now) z g,
     )
 

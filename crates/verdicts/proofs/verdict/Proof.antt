@@ -44,7 +44,7 @@ late-zero c = sym (first-alone (card-of (c .before .before .before .before .befo
 small-at : (c : tie.Else3) → (c .before .before .before .before .before .before .args .step ≤ 1_000_000_000) × (c .before .before .before .before .before .before .args .drift ≤ 1_000_000_000)
 small-at c =
     let a = accepted (card-of (c .before .before .before .before .before .before)) _ _ (sound-at (c .before .before .before) .recorded) (late-zero c) in
-    (a .short-step, a .small-drift)
+    (a .stepped .short-step, a .stepped .small-drift)
 
 ready-at : (c : tie.Else3) → Ready (card-of (c .before .before .before .before .before .before)) (c .before .before .before .before .before .before .args .table) (c .before .before .before .before .before .before .args .step) (length (c .before .before .before .before .before .before .args .work .now))
 ready-at c = record { sound = sound-at (c .before .before .before); step-bound = small-at c .0; room = c .before .before .if2 .left }
@@ -64,7 +64,7 @@ mul-if2 : tie.Need-mul-if2
 mul-if2 c = omega (arith, sound-at c .ruled .few-nodes)
 
 mul-if2-2 : tie.Need-mul-if2-2
-mul-if2-2 c = omega (arith, few-cells (c .before .before .before .args .table .count) (length (c .before .before .before .args .times .now)) (sound-at c .ruled .few-nodes) (sound-at c .recorded .few-rows))
+mul-if2-2 c = omega (arith, few-cells (c .before .before .before .args .table .count) (length (c .before .before .before .args .times .now)) (sound-at c .ruled .few-nodes) (sound-at c .recorded .lengths .few-rows))
 
 returns-2 : tie.Need-returns-2
 returns-2 c =
