@@ -1,7 +1,8 @@
-// The smaller and the larger of two signed 64-bit numbers, their difference, and a number's negative.
+// The smaller and the larger of two signed 64-bit numbers, whether one is at most the other, their difference, and a number's negative.
 // Only these functions compare or subtract margins, so that no proof above them sees how a sign is stored.
 ghost use mathlib.Core.Path.{_≡_};
 ghost use lib.IntN.{negℤ, _-ℤ_, natAbs};
+ghost use lib.Signed.{leZ};
 ghost use mir.Syntax.{w64};
 ghost use mir.Val.{SFits};
 ghost use Rattle.numbers.specs.Order.{smaller-of, larger-of};
@@ -16,6 +17,13 @@ pub fn larger(a: i64, b: i64) -> i64
     ensures { λ r. ⌜ r ≡ larger-of a b ⌝ }
 {
     if a < b { b } else { a }
+}
+
+// Whether a is not above b.
+pub fn at_most(a: i64, b: i64) -> bool
+    ensures { λ r. ⌜ r ≡ leZ a b ⌝ }
+{
+    a <= b
 }
 
 pub fn negated(a: i64) -> i64

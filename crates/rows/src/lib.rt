@@ -3,7 +3,6 @@
 ghost use mathlib.Core.Path.{_≡_};
 ghost use Prim.Native.Nat.{ℕ, _+_, _*_, _≤_, _<_};
 ghost use lib.IntN.{pos, negℤ};
-ghost use lib.Signed.{leZ};
 ghost use mir.Syntax.{w64};
 ghost use mir.Val.{SFits};
 ghost use lib.ListN.{length, getD};
@@ -47,20 +46,13 @@ pub fn cell_at(work: &[i64], rows: usize, row: usize, i: usize) -> i64
     work[row * rows + i]
 }
 
-// Whether a is not above b.
-pub fn at_most(a: i64, b: i64) -> bool
-    ensures { λ r. ⌜ r ≡ leZ a b ⌝ }
-{
-    a <= b
-}
-
 // How far b is from falling below a, counted from 1, or minus how far it is below.
 fn clearance_of(a: i64, b: i64) -> i64
     requires { ⌜ InRange a × InRange b ⌝ }
     ensures { λ r. ⌜ r ≡ clearance a b ⌝ }
 {
     let apart = numbers::difference(b, a);
-    let kept = at_most(a, b);
+    let kept = numbers::at_most(a, b);
     if kept { apart + 1 } else { apart }
 }
 

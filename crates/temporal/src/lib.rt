@@ -95,9 +95,9 @@ fn settled(largest: bool, best: i64, run: i64) -> bool
     ensures { λ r. ⌜ (r ≡ true → margin-extreme (extremum-of largest) best run ≡ best) ⌝ }
 {
     if largest {
-        rows::at_most(run, best)
+        numbers::at_most(run, best)
     } else {
-        rows::at_most(best, run)
+        numbers::at_most(best, run)
     }
 }
 
