@@ -2,13 +2,13 @@
 -- smallest have changed places, so until and release, "and" and "or" share one argument.
 -- Assumes nothing.
 use mathlib.Core.Bool.{Bool, true, false, not}
-use mathlib.Core.Path.{_≡_, refl, ap₂}
+use mathlib.Core.Path.{_≡_, refl}
 use Prim.Native.Nat.{ℕ}
 use Rattle.logic.specs.Window.{Window}
 use Rattle.logic.specs.Formula.{Extremum, largest, smallest, dual, Formula, truth, atom, negation, junction, temporal, eventually, always}
 use Rattle.logic.specs.Reading.{Algebra, Places, place, count, offset, along, read, booleans, boolean-extreme, boolean-nothing}
-use Rattle.logic.specs.Negation.{push, Plain, Normal}
-use Rattle.logic.proofs.Steps.{Step, along-step}
+use Rattle.logic.specs.Negation.{push, Normal}
+use Rattle.logic.proofs.Steps.{Step, along-step, same}
 
 pub record DeMorgan {X : Type 0} (A : Algebra X) : Type 0 where
   pub twice : (a : X) → A .negate (A .negate a) ≡ a
@@ -25,9 +25,6 @@ signed A true a = a
 signed A false a = A .negate a
 
 module _ {X : Type 0} {A : Algebra X} (D : DeMorgan A) where
-  same : Step A A _≡_
-  same = record { nothing = λ e. refl; extremes = λ e p q. ap₂ (A .extreme e) p q }
-
   abbrev Negated : X → X → Type 0
   Negated a b = A .negate a ≡ b
 
@@ -46,9 +43,9 @@ module _ {X : Type 0} {A : Algebra X} (D : DeMorgan A) where
   pushed F at false (atom p) i = refl
   pushed F at true (negation φ) i = pushed F at false φ i
   pushed F at false (negation φ) i = rw (D .twice) (pushed F at true φ i)
-  pushed F at true (junction e l r) i = same .extremes e (pushed F at true l i) (pushed F at true r i)
+  pushed F at true (junction e l r) i = same A .extremes e (pushed F at true l i) (pushed F at true r i)
   pushed F at false (junction e l r) i = mirrored .extremes e (pushed F at false l i) (pushed F at false r i)
-  pushed F at true (temporal d e w l r) i = along-step same e w (offset d F i) (λ m. pushed F at true l (place d i m)) (λ m. pushed F at true r (place d i m)) (count d F i)
+  pushed F at true (temporal d e w l r) i = along-step (same A) e w (offset d F i) (λ m. pushed F at true l (place d i m)) (λ m. pushed F at true r (place d i m)) (count d F i)
   pushed F at false (temporal d e w l r) i = along-step mirrored e w (offset d F i) (λ m. pushed F at false l (place d i m)) (λ m. pushed F at false r (place d i m)) (count d F i)
 
 -- ---- the form that pushing leaves

@@ -3,16 +3,16 @@
 -- Assumes nothing.
 use mathlib.Core.Path.{_≡_, refl, sym, ap, ap₂, _∙_, subst}
 use mathlib.Core.Bool.{Bool, true, false, not, cond, _&&_, _||_}
-use Prim.Native.Nat.{ℕ, suc, _+_, _-_, _≤_, _<_}
+use Prim.Native.Nat.{ℕ, _≤_, _<_}
 use native.Mathlib.Omega.{arith}
 use lib.Dec.{T}
-use lib.IntN.{ℤ, pos, negℤ, negℤ-negℤ, natAbs}
-use lib.Signed.{ltZ, leZ, _≤ℤ_, ≤ℤ-refl}
+use lib.IntN.{ℤ, pos, negℤ, negℤ-negℤ}
+use lib.Signed.{ltZ}
 use Rattle.numbers.specs.Order.{Within}
-use Rattle.numbers.proofs.Parts.{plus, minus, lt-parts, parts-lt, nlt-parts, parts-nlt, parts-le, plus-neg, minus-neg, abs-parts, within-either}
+use Rattle.numbers.proofs.Parts.{plus, minus, lt-parts, parts-lt, nlt-parts, plus-neg, minus-neg, abs-parts, within-either}
 use Rattle.lists.proofs.Below.{same-test}
 use Rattle.logic.specs.Formula.{Extremum, largest, smallest, dual}
-use Rattle.logic.specs.Reading.{Algebra, booleans, boolean-extreme, boolean-nothing, margins, margin-extreme, margin-nothing}
+use Rattle.logic.specs.Reading.{booleans, boolean-extreme, boolean-nothing, margins, margin-extreme, margin-nothing}
 use Rattle.logic.proofs.Steps.{Step}
 use Rattle.logic.proofs.Duality.{DeMorgan, booleans-dual}
 use Rattle.logic.proofs.Carry.{Tests, junction-carries}
@@ -144,12 +144,3 @@ bounded-step top = record { nothing = nothing; extremes = λ e {a} {b} p q. extr
     extremes : (e : Extremum) (a b : ℤ) → Within top a → Within top b → Within top (margin-extreme e a b)
     extremes largest a b p q = within-either (ltZ a b) p q
     extremes smallest a b p q = within-either (ltZ b a) p q
-
--- what lies within top is not moved by an extremum over nothing: a loop may pass over what a window leaves out
-not-taken : (c : Bool) (a b : ℤ) → T (not c) → cond c b a ≡ a
-not-taken true a b t = absurd t
-not-taken false a b t = refl
-
-pub nothing-moves : (top : ℕ) (e : Extremum) (a : ℤ) → Within top a → margin-extreme e a (margin-nothing top e) ≡ a
-nothing-moves top largest a h = not-taken (ltZ a (negℤ (pos top))) a (negℤ (pos top)) (parts-nlt a (negℤ (pos top)) (omega (arith, abs-parts a, plus-neg (pos top), minus-neg (pos top), h .size)))
-nothing-moves top smallest a h = not-taken (ltZ (pos top) a) a (pos top) (parts-nlt (pos top) a (omega (arith, abs-parts a, h .size)))

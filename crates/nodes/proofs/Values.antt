@@ -7,12 +7,12 @@ use native.Mathlib.Omega.{arith}
 use lib.IntN.{ℤ}
 use Rattle.logic.specs.Window.{Window}
 use Rattle.logic.specs.Formula.{Extremum, dual, Direction, future}
-use Rattle.logic.specs.Reading.{margins, margin-extreme, margin-nothing, along, offset, place, count}
+use Rattle.logic.specs.Reading.{margins, margin-extreme, margin-nothing, offset}
 use Rattle.logic.specs.Negation.{turn}
+use Rattle.logic.proofs.Steps.{along-cong}
 use Rattle.recordings.specs.Card.{Card, rows, samples}
 use Rattle.recordings.specs.Distance.{TOP}
 use Rattle.temporal.specs.Reading.{temporal-at}
-use Rattle.temporal.proofs.Along.{along-cong}
 use Rattle.tables.specs.declared.Node.{Node}
 use Rattle.tables.specs.Kind.{Operator, constant, named, negated, unknown, joined, binary, unary}
 use Rattle.tables.specs.Rules.{left-use, right-use}

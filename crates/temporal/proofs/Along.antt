@@ -1,6 +1,6 @@
--- Until and release from what their windows hold: places outside the window, and all places after the carried value is beaten, may be left out.
+-- Until and release place by place: places outside the window, and all places after the carried value is beaten, are left out.
 -- Assumes nothing.
-use mathlib.Core.Path.{_≡_, refl, sym, ap, ap₂, _∙_}
+use mathlib.Core.Path.{_≡_, refl, sym, ap, _∙_}
 use mathlib.Core.Bool.{Bool, true, false, not, cond, _&&_}
 use Prim.Native.Nat.{ℕ, zero, suc, _+_, _-_, _≤_, _<_}
 use native.Mathlib.Omega.{arith}
@@ -11,34 +11,13 @@ use borrow.Author.Tests.{le-leb, lt-leb, lt-ltb, le-ltb}
 use Rattle.numbers.specs.Order.{Within}
 use Rattle.logic.specs.Window.{Window, before, inside}
 use Rattle.logic.specs.Formula.{Extremum, dual}
-use Rattle.logic.specs.Reading.{Algebra, extremum, along, margins, margin-extreme, margin-nothing}
-use Rattle.logic.proofs.Margins.{nothing-moves}
+use Rattle.logic.specs.Reading.{extremum, along, margins, margin-extreme, margin-nothing}
+use Rattle.logic.proofs.Beaten.{nothing-moves, nothing-carried, along-outside, along-settled}
 use Rattle.rows.specs.Cells.{extremum-of}
-use Rattle.temporal.proofs.Beaten.{beaten-stays, stays-beaten, either-beaten, nothing-beaten, run-beaten, extremum-still}
 
 pub dual-of : (b : Bool) → extremum-of (not b) ≡ dual (extremum-of b)
 dual-of true = refl
 dual-of false = refl
-
--- ---- readings that agree on the first n places
-module _ {X : Type 0} (A : Algebra X) where
-  pub extremum-cong : (e : Extremum) (f g : ℕ → X) (n : ℕ) → ((m : ℕ) → m < n → f m ≡ g m) → extremum A e f n ≡ extremum A e g n
-  extremum-cong e f g zero h = refl
-  extremum-cong e f g (suc n) h = ap₂ (A .extreme e) (extremum-cong e f g n (λ m q. h m (omega arith))) (h n (omega arith))
-
-  pub along-cong : (e : Extremum) (v w : Window) (c d : ℕ → ℕ) (l l′ r r′ : ℕ → X) (n : ℕ) → ((m : ℕ) → m < n → inside v (c m) ≡ inside w (d m)) → ((m : ℕ) → m < n → l m ≡ l′ m) → ((m : ℕ) → m < n → r m ≡ r′ m) → along A e v c l r n ≡ along A e w d l′ r′ n
-  along-cong e v w c d l l′ r r′ n hw hl hr =
-      extremum-cong e _ _ n (λ m q. rw (hw m q, hr m q, extremum-cong (dual e) l l′ m (λ k p. hl k (omega arith))) refl)
-
--- ---- what may be left out
-module _ (top : ℕ) (e : Extremum) (w : Window) (d : ℕ → ℕ) (l r : ℕ → ℤ) where
-  pub along-outside : (m n : ℕ) → m ≤ n → ((k : ℕ) → m ≤ k → k < n → inside w (d k) ≡ false) → along (margins top) e w d l r n ≡ along (margins top) e w d l r m
-  along-outside m n h k = extremum-still top e _ m n h (λ j a b. rw (k j a b) (nothing-beaten top e _ m))
-
-  pub along-settled : (m n : ℕ) → m ≤ n → margin-extreme e (along (margins top) e w d l r m) (extremum (margins top) (dual e) l m) ≡ along (margins top) e w d l r m → along (margins top) e w d l r n ≡ along (margins top) e w d l r m
-  along-settled m n h s =
-      extremum-still top e _ m n h (λ j a b.
-      either-beaten e (inside w (d j)) _ _ _ (run-beaten top e _ (r j) l m j a (stays-beaten e _ _ s)) (nothing-beaten top e _ m))
 
 -- ---- one place more, places counted from i on
 module _ (top : ℕ) (e : Extremum) (l : ℕ → ℤ) (i j : ℕ) (h : i ≤ j) where
@@ -98,11 +77,6 @@ module _ (first end : ℕ) where
     best-settled j n h k s = along-settled top e between _ _ _ (j - i) (n - i) (omega arith) s
 
 -- ---- no left operand: the extremum of right over the window's places
-module _ (top : ℕ) (e : Extremum) where
-  nothing-carried : (n : ℕ) → extremum (margins top) e (λ m. margin-nothing top e) n ≡ margin-nothing top e
-  nothing-carried zero = refl
-  nothing-carried (suc n) = rw (nothing-carried n) (beaten-stays e _ _ (nothing-beaten top e (λ m. margin-nothing top e) 0))
-
 module _ (first end top : ℕ) (e : Extremum) (r : ℕ → ℤ) (i n : ℕ) (within-top : (j : ℕ) → j < n → Within top (r j)) (h : i ≤ first) (g : end ≤ n) where
   lone-to : (k : ℕ) → first + k ≤ end → best first end top e (λ j. margin-nothing top (dual e)) r i (first + k) ≡ extremum (margins top) e (λ m. r (first + m)) k
   lone-to zero a = best-first first end top e (λ j. margin-nothing top (dual e)) r i (first + 0) (omega arith)

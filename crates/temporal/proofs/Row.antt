@@ -12,6 +12,7 @@ use Rattle.lists.proofs.Filled.{earlier-row}
 use Rattle.logic.specs.Window.{Window, before}
 use Rattle.logic.specs.Formula.{Extremum, future}
 use Rattle.logic.specs.Reading.{along, margins}
+use Rattle.logic.proofs.Steps.{along-cong}
 use Rattle.recordings.specs.Distance.{TOP}
 use Rattle.rows.specs.Cells.{cell, Bounded}
 use Rattle.rows.proofs.Kept.{child-kept}
@@ -20,7 +21,7 @@ use Rattle.temporal.specs.declared.Left.the-variants.{Row, Absent}
 use Rattle.temporal.specs.Reading.{places, left-at, temporal-at, LeftInside, LeftEarlier}
 use Rattle.temporal.specs.Edges.{Edge}
 use Rattle.temporal.specs.Asks.{RowAsks}
-use Rattle.temporal.proofs.Along.{between, along-cong}
+use Rattle.temporal.proofs.Along.{between}
 use Rattle.temporal.proofs.Edges.{edges-inside}
 
 pub left-inside : (left : Left) (cells n row : ℕ) → LeftEarlier row left → row * n + n ≤ cells → LeftInside cells n left

@@ -6,8 +6,8 @@ use lib.Signed.{leZ}
 use borrow.Author.Needs.{needs}
 use mir.Facts.{toZ-ofZ}
 use Rattle.numbers.proofs.Parts.{holds, le-parts}
-use Rattle.temporal.proofs.Beaten.{beaten-stays}
 use Rattle.logic.specs.Formula.{largest, smallest}
+use Rattle.logic.proofs.Beaten.{beaten-stays}
 use Rattle.temporal.proofs.settled.Statement.{statement}
 use Rattle.temporal.proofs.settled.Tie as tie
 

@@ -1,5 +1,5 @@
 -- A value that another one beats does not move the extremum of the two. What is joined to a beaten value by the dual extremum is beaten too, and
--- an extremum over nothing is beaten by every extremum: so a loop may stop where all that is left is beaten.
+-- an extremum over nothing is beaten by every extremum: so until and release may leave out what is outside the window, and all that is beaten.
 -- Assumes nothing.
 use mathlib.Core.Path.{_≡_, refl, subst}
 use mathlib.Core.Bool.{Bool, true, false, not, cond}
@@ -7,11 +7,13 @@ use Prim.Native.Nat.{ℕ, zero, suc, _+_, _≤_, _<_}
 use native.Mathlib.Omega.{arith}
 use native.Mathlib.Decide.{decLe}
 use lib.Dec.{T}
-use lib.IntN.{ℤ}
+use lib.IntN.{ℤ, pos, negℤ}
 use lib.Signed.{ltZ}
-use Rattle.numbers.proofs.Parts.{plus, minus, parts-nlt, Smaller, Larger, smaller-parts, larger-parts}
+use Rattle.numbers.specs.Order.{Within}
+use Rattle.numbers.proofs.Parts.{plus, minus, parts-nlt, plus-neg, minus-neg, abs-parts, Smaller, Larger, smaller-parts, larger-parts}
+use Rattle.logic.specs.Window.{Window, inside}
 use Rattle.logic.specs.Formula.{Extremum, largest, smallest, dual}
-use Rattle.logic.specs.Reading.{extremum, margins, margin-extreme, margin-nothing}
+use Rattle.logic.specs.Reading.{extremum, along, margins, margin-extreme, margin-nothing}
 
 abbrev AtMost : ℤ → ℤ → Type 0
 AtMost a b = plus a + minus b ≤ plus b + minus a
@@ -29,7 +31,7 @@ pub beaten-stays : (e : Extremum) (b a : ℤ) → Beaten e b a → margin-extrem
 beaten-stays largest b a h = not-taken (ltZ b a) b a (parts-nlt b a h)
 beaten-stays smallest b a h = not-taken (ltZ a b) b a (parts-nlt a b h)
 
-pub stays-beaten : (e : Extremum) (b a : ℤ) → margin-extreme e b a ≡ b → Beaten e b a
+stays-beaten : (e : Extremum) (b a : ℤ) → margin-extreme e b a ≡ b → Beaten e b a
 stays-beaten largest b a h = let p : Larger b a b = rw h at (larger-parts b a) in omega arith
 stays-beaten smallest b a h = let p : Smaller b a b = rw h at (smaller-parts b a) in omega arith
 
@@ -50,17 +52,26 @@ beaten-last : (e : Extremum) (b a x : ℤ) → Beaten e b a → Beaten e b (marg
 beaten-last largest b a x h = omega (arith, smaller-parts x a)
 beaten-last smallest b a x h = omega (arith, larger-parts x a)
 
-pub either-beaten : (e : Extremum) (t : Bool) (b x y : ℤ) → Beaten e b x → Beaten e b y → Beaten e b (cond t x y)
+either-beaten : (e : Extremum) (t : Bool) (b x y : ℤ) → Beaten e b x → Beaten e b y → Beaten e b (cond t x y)
 either-beaten e true b x y h k = h
 either-beaten e false b x y h k = k
 
+-- what lies within top beats an extremum over nothing
+pub nothing-moves : (top : ℕ) (e : Extremum) (a : ℤ) → Within top a → margin-extreme e a (margin-nothing top e) ≡ a
+nothing-moves top largest a h = beaten-stays largest a (negℤ (pos top)) (omega (arith, abs-parts a, plus-neg (pos top), minus-neg (pos top), h .size))
+nothing-moves top smallest a h = beaten-stays smallest a (pos top) (omega (arith, abs-parts a, h .size))
+
 module _ (top : ℕ) (e : Extremum) where
-  pub nothing-beaten : (f : ℕ → ℤ) (n : ℕ) → Beaten e (extremum (margins top) e f n) (margin-nothing top e)
+  nothing-beaten : (f : ℕ → ℤ) (n : ℕ) → Beaten e (extremum (margins top) e f n) (margin-nothing top e)
   nothing-beaten f zero = beaten-self e (margin-nothing top e)
   nothing-beaten f (suc n) = beaten-more e _ _ (f n) (nothing-beaten f n)
 
+  pub nothing-carried : (n : ℕ) → extremum (margins top) e (λ m. margin-nothing top e) n ≡ margin-nothing top e
+  nothing-carried zero = refl
+  nothing-carried (suc n) = rw (nothing-carried n) (beaten-stays e _ _ (beaten-self e (margin-nothing top e)))
+
   -- a carried value that is beaten stays so, whatever it is joined to
-  pub run-beaten : (b x : ℤ) (l : ℕ → ℤ) (m k : ℕ) → m ≤ k → Beaten e b (extremum (margins top) (dual e) l m) → Beaten e b (margin-extreme (dual e) x (extremum (margins top) (dual e) l k))
+  run-beaten : (b x : ℤ) (l : ℕ → ℤ) (m k : ℕ) → m ≤ k → Beaten e b (extremum (margins top) (dual e) l m) → Beaten e b (margin-extreme (dual e) x (extremum (margins top) (dual e) l k))
   run-beaten b x l m k h g = beaten-last e b (extremum (margins top) (dual e) l k) x (go k h)
     where
       the : (a c : ℕ) → a ≡ c → a ≡ c
@@ -75,10 +86,20 @@ module _ (top : ℕ) (e : Extremum) where
           ]
 
   -- where all that is left is beaten, the extremum is what it is
-  pub extremum-still : (f : ℕ → ℤ) (m n : ℕ) → m ≤ n → ((k : ℕ) → m ≤ k → k < n → Beaten e (extremum (margins top) e f m) (f k)) → extremum (margins top) e f n ≡ extremum (margins top) e f m
+  extremum-still : (f : ℕ → ℤ) (m n : ℕ) → m ≤ n → ((k : ℕ) → m ≤ k → k < n → Beaten e (extremum (margins top) e f m) (f k)) → extremum (margins top) e f n ≡ extremum (margins top) e f m
   extremum-still f m zero h k = let p : m ≡ 0 = omega arith in rw p refl
   extremum-still f m (suc n) h k =
       elim (decLe m n) [
         | yes q ↦ rw (extremum-still f m n q (λ j a b. k j a (omega arith))) (beaten-stays e _ (f n) (k n q (omega arith)))
         | no q ↦ let p : m ≡ suc n = omega arith in rw p refl
       ]
+
+-- ---- what may be left out
+module _ (top : ℕ) (e : Extremum) (w : Window) (d : ℕ → ℕ) (l r : ℕ → ℤ) where
+  pub along-outside : (m n : ℕ) → m ≤ n → ((k : ℕ) → m ≤ k → k < n → inside w (d k) ≡ false) → along (margins top) e w d l r n ≡ along (margins top) e w d l r m
+  along-outside m n h k = extremum-still top e _ m n h (λ j a b. rw (k j a b) (nothing-beaten top e _ m))
+
+  pub along-settled : (m n : ℕ) → m ≤ n → margin-extreme e (along (margins top) e w d l r m) (extremum (margins top) (dual e) l m) ≡ along (margins top) e w d l r m → along (margins top) e w d l r n ≡ along (margins top) e w d l r m
+  along-settled m n h s =
+      extremum-still top e _ m n h (λ j a b.
+      either-beaten e (inside w (d j)) _ _ _ (run-beaten top e _ (r j) l m j a (stays-beaten e _ _ s)) (nothing-beaten top e _ m))
