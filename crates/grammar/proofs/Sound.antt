@@ -12,7 +12,7 @@ use Rattle.text.specs.Number.{field-at, after-number}
 use Rattle.text.specs.declared.Mark.{Mark}
 use Rattle.text.specs.declared.Mark.the-variants.{Next, Bad as Mark·Bad}
 use Rattle.text.proofs.Places.{Between, between-both}
-use Rattle.text.proofs.Answers.{mark-is, field-is, mark-taken, number-taken}
+use Rattle.text.proofs.Answers.{mark-is, field-is, past-mark, past-number}
 use Rattle.grammar.specs.declared.Span.{Span}
 use Rattle.grammar.specs.declared.Operator.{Operator}
 use Rattle.grammar.specs.declared.Operator.the-variants.{Absent, Over, Bad as Operator·Bad}
@@ -59,7 +59,7 @@ leaf-sound d s at a n h = go (mark-at (letter true-kind) s at) refl h
   where
     number : after-number (field-at (letter predicate-kind) s at 15) (λ p m. got (predicate p) m) none ≡ got a n → Stands unary d s at a n
     number g =
-        let i = number-taken none (got a n) none-got (field-at (letter predicate-kind) s at 15) _ g in
+        let i = past-number none (got a n) none-got (field-at (letter predicate-kind) s at 15) _ g in
         let f = field-is (letter predicate-kind) s at 15 (i .0) (i .1) (i .2) in
         let q = f .2 in
         stands-as (i .3)
@@ -156,7 +156,7 @@ module _ (d : ℕ) (part : Reads) (sound : Sound unary d part) where
       group : (m : ℕ) → Between s at m (bytes "(") → closing s (alternative-of part s m) ≡ got a n → Stands unary (suc d) s at a n
       group m l g =
           let x = got-taken a n (alternative-of part s m) _ g in
-          let y = mark-taken none (got a n) none-got (mark-at (bytes ")") s (x .1)) _ (x .3) in
+          let y = past-mark none (got a n) none-got (mark-at (bytes ")") s (x .1)) _ (x .3) in
           let q = alternative-sound s m (x .0) (x .1) (x .2) in
           stands-as (y .2)
           (record {

@@ -20,7 +20,7 @@ use Rattle.text.proofs.Tests.{both, by-test, false-true}
 use Rattle.text.proofs.Places.{Between, between-both, after-bytes}
 use Rattle.text.proofs.Digits.{digit-range}
 use Rattle.text.proofs.Numerals.{Numbered, number-is, number-made, numeral-begins}
-use Rattle.text.proofs.Answers.{mark-is, mark-made, mark-first, field-is, field-made, mark-taken, number-taken}
+use Rattle.text.proofs.Answers.{mark-is, mark-made, mark-first, field-is, field-made, past-mark, past-number}
 use Rattle.grammar.specs.declared.Span.{Span}
 use Rattle.grammar.specs.declared.Window.{Window}
 use Rattle.grammar.specs.declared.Window.the-variants.{Ends, Bad as Window·Bad}
@@ -63,11 +63,11 @@ module _ (s : List ℕ) (at : ℕ) (r : Span) (n : ℕ) where
         window = rw (← z) (endless (b .numeral) (b .bound));
       }
   upper-is lo comma end m a b c Mark·Bad e h =
-      let i = number-taken Window·Bad (Ends r n) bad-ends (number-at s end furthest) _ h in
+      let i = past-number Window·Bad (Ends r n) bad-ends (number-at s end furthest) _ h in
       let hi = i .0 in
       let close = i .1 in
       let j = number-is s end furthest hi close (i .2) in
-      let k = mark-taken Window·Bad (Ends r n) bad-ends (mark-at (bytes "]") s close) _ (i .3) in
+      let k = past-mark Window·Bad (Ends r n) bad-ends (mark-at (bytes "]") s close) _ (i .3) in
       last hi close j (k .0) (mark-is (bytes "]") s close (k .0) (k .1)) (ltb hi lo) refl (k .2)
     where
       last : (hi close : ℕ) → Numbered s end furthest hi close → (next : ℕ) → Between s close next (bytes "]") → (t : Bool) → ltb hi lo ≡ t
@@ -85,9 +85,9 @@ module _ (s : List ℕ) (at : ℕ) (r : Span) (n : ℕ) where
   pub window-is : window-at s at ≡ Ends r n → WindowIs s at r n
   unfolding window-at
   window-is h =
-      let i = number-taken Window·Bad (Ends r n) bad-ends (field-at (bytes "[") s at furthest) _ h in
+      let i = past-number Window·Bad (Ends r n) bad-ends (field-at (bytes "[") s at furthest) _ h in
       let f = field-is (bytes "[") s at furthest (i .0) (i .1) (i .2) in
-      let k = mark-taken Window·Bad (Ends r n) bad-ends (mark-at (bytes ",") s (i .1)) _ (i .3) in
+      let k = past-mark Window·Bad (Ends r n) bad-ends (mark-at (bytes ",") s (i .1)) _ (i .3) in
       upper-is (i .0) (i .1) (k .0) (f .0) (f .1) (f .2) (mark-is (bytes ",") s (i .1) (k .0) (k .1)) (mark-at (bytes "*]") s (k .0)) refl (k .2)
 
 -- a number is no `*`

@@ -18,8 +18,8 @@ use Rattle.text.specs.declared.Field.the-variants.{Number, Bad as Field·Bad}
 use Rattle.text.proofs.Tests.{by-test}
 use Rattle.text.proofs.Places.{Between, between-both, after-bytes}
 use Rattle.text.proofs.Answers.{mark-is, field-is}
+use Rattle.text.proofs.Fields.{mark-case, number-case, mark-taken, field-taken}
 use Rattle.row_lines.specs.Form.{cut, lines}
-use Rattle.row_lines.proofs.Fields.{mark-case, number-case, mark-taken, field-taken}
 use Rattle.row_lines.proofs.Lines.{lines-split, count, count-append, numeral-count, Fed}
 use Rattle.head_lines.specs.declared.Requirement.{Requirement}
 use Rattle.head_lines.specs.declared.Requirement.the-variants.{At, Bad}

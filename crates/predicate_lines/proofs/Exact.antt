@@ -10,9 +10,8 @@ use lib.Dec.{leb}
 use borrow.Author.Tests.{le-leb}
 use Rattle.text.specs.Bytes.{bytes}
 use Rattle.text.specs.Mark.{prefix-of, key-at}
-use Rattle.text.proofs.Tests.{false-true, never}
+use Rattle.text.proofs.Tests.{false-true, never, test-case}
 use Rattle.row_lines.specs.Form.{lines, size}
-use Rattle.row_lines.proofs.Fields.{test-case}
 use Rattle.row_lines.proofs.Lines.{lines-fed, lines-split}
 use Rattle.recordings.specs.declared.Predicate.{Predicate}
 use Rattle.predicate_lines.specs.declared.Bound.{Bound}

@@ -8,8 +8,7 @@ use lib.ListN.{getD, set, replicate}
 use lib.IntN.{ℤ}
 use Rattle.text.specs.Bytes.{bytes}
 use Rattle.text.specs.Number.{largest}
-use Rattle.text.specs.Numeral.{Numeral}
-use Rattle.row_lines.specs.Form.{Signed}
+use Rattle.text.specs.Numeral.{Numeral, Signed}
 use Rattle.recordings.specs.declared.Predicate.{Predicate}
 use Rattle.recordings.specs.declared.Range.{Range}
 use Rattle.recordings.specs.declared.Range.the-variants.{Unset, Free, AtLeast, AtMost, Between}

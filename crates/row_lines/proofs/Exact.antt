@@ -10,13 +10,13 @@ use lib.ListN.{length, drop, drop-of-length-le, length-drop, length-append}
 use lib.Dec.{leb}
 use borrow.Author.Tests.{leb-true, le-leb, lt-leb}
 use Rattle.text.specs.Bytes.{bytes}
+use Rattle.text.proofs.Tests.{test-case}
 use Rattle.text.proofs.Places.{Between}
 use Rattle.row_lines.specs.declared.Row.{Row}
 use Rattle.row_lines.specs.declared.Row.the-variants.{Measured, Filled, Bad}
 use Rattle.row_lines.specs.Form.{lines, Sample, Rows, none, measured, filled}
 use Rattle.row_lines.specs.Rows.{row-at, after-row, Listing, listed, broken, also-measured, also-filled, sample-at, rows-from, rows-of}
 use Rattle.row_lines.specs.Same.{Alike, none as Alike·none, same, filled as Alike·filled, SameButFilled}
-use Rattle.row_lines.proofs.Fields.{test-case}
 use Rattle.row_lines.proofs.Written.{RowHere, row-here, row-taken}
 use Rattle.row_lines.proofs.Lines.{Fed, row-fed, lines-fed, lines-split, lines-none, one-width, one-source}
 

@@ -1,5 +1,4 @@
--- What is read is what is written (`Fields`, `Written`, `Lines`, `Exact`), and the loops of the code (`Steps`, `Counting`).
-pub mod Fields
+-- What is read is what is written (`Written`, `Lines`, `Exact`), and the loops of the code (`Steps`, `Counting`).
 pub mod Written
 pub mod Lines
 pub mod Exact

@@ -12,10 +12,10 @@ use lib.Dec.{eqb}
 use borrow.Author.Tests.{ne-eqb}
 use Rattle.text.specs.Bytes.{bytes}
 use Rattle.text.specs.Number.{is-digit}
-use Rattle.text.specs.Numeral.{Numeral, digit, longer}
+use Rattle.text.specs.Numeral.{Numeral, digit, longer, Signed, plain, minus}
 use Rattle.text.proofs.Tests.{by-test, false-true}
 use Rattle.text.proofs.Numerals.{numeral-begins}
-use Rattle.row_lines.specs.Form.{cut, lines, Signed, plain, minus, Values, none, next, source, Row}
+use Rattle.row_lines.specs.Form.{cut, lines, Values, none, next, source, Row}
 
 -- how often a byte stands in a text
 unfoldable pub count : ℕ → List ℕ → ℕ

@@ -12,18 +12,19 @@ use borrow.Author.Tests.{eq-eqb, eqb-true}
 use Rattle.text.specs.Bytes.{bytes}
 use Rattle.text.specs.Mark.{prefix-of, mark-at, after-mark}
 use Rattle.text.specs.Number.{is-digit, largest, field-at, signed-field-at}
-use Rattle.text.specs.Numeral.{Numeral}
+use Rattle.text.specs.Numeral.{Numeral, Signed}
 use Rattle.text.specs.declared.Mark.the-variants.{Next, Bad as Mark·Bad}
 use Rattle.text.specs.declared.Field.the-variants.{Number}
 use Rattle.text.specs.declared.signed.Field.{Field as SignedField}
 use Rattle.text.specs.declared.signed.Field.the-variants.{Number as Signed·Number, Bad as Signed·Bad}
+use Rattle.text.proofs.Tests.{test-case}
 use Rattle.text.proofs.Places.{Between, between-both}
 use Rattle.text.proofs.Answers.{mark-is, mark-missing, field-is}
+use Rattle.text.proofs.Fields.{mark-case, number-case, signed-case, signed-field-bytes, mark-taken, field-taken, signed-field-taken}
 use Rattle.row_lines.specs.declared.Row.{Row}
 use Rattle.row_lines.specs.declared.Row.the-variants.{Measured, Filled, Bad}
-use Rattle.row_lines.specs.Form.{Signed, Values as Form·Values, none, next, source, Row as Form·Row}
+use Rattle.row_lines.specs.Form.{Values as Form·Values, none, next, source, Row as Form·Row}
 use Rattle.row_lines.specs.Rows.{value-at, Values, read, missing, also, values-from, end-of, all-of, rest-at, row-at}
-use Rattle.row_lines.proofs.Fields.{mark-case, number-case, signed-case, test-case, signed-field-bytes, mark-taken, field-taken, signed-field-taken}
 
 -- ---- one value
 

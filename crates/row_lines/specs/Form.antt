@@ -1,15 +1,15 @@
--- The form of a sheet's rows, in the order of document 01: lines, signed numbers, the fields of a row, a row, rows.
+-- The form of a sheet's rows, in the order of document 01: lines, the fields of a row, a row, rows.
 -- Assumes nothing.
-use Prim.Native.Nat.{ℕ, suc, _+_, _≤_, _<_}
+use Prim.Native.Nat.{ℕ, suc, _+_, _≤_}
 use mathlib.Core.Path.{_≡_}
 use mathlib.Core.Bool.{Bool, true, false}
 use mathlib.Core.List.{List, [], _∷_, _++_}
 use lib.ListN.{length}
-use lib.IntN.{ℤ, pos, negℤ}
+use lib.IntN.{ℤ}
 use lib.Dec.{eqb}
 use Rattle.text.specs.Bytes.{bytes}
-use Rattle.text.specs.Number.{largest, largest-signed}
-use Rattle.text.specs.Numeral.{Numeral}
+use Rattle.text.specs.Number.{largest}
+use Rattle.text.specs.Numeral.{Numeral, Signed}
 
 -- a text cut after each line feed; what follows the last one is a line too, which no form has
 abbrev pub cut : ℕ → Bool → List (List ℕ) → List (List ℕ)
@@ -25,11 +25,6 @@ lines (b ∷ s) = cut b (eqb b 10) (lines s)
 unfoldable pub size : List (List ℕ) → ℕ
 size [] = 0
 size (l ∷ ls) = length l + size ls
-
--- the bytes of a signed number: `-` before it or not, and no `-0`
-pub data Signed : List ℕ → ℤ → Type 0 where
-  plain : {w : List ℕ} {v : ℕ} → Numeral w v → v ≤ largest-signed → Signed w (pos v)
-  minus : {w : List ℕ} {v : ℕ} → Numeral w v → 0 < v → v ≤ largest-signed → Signed (bytes "-" ++ w) (negℤ (pos v))
 
 -- the fields ` v0=`, ` v1=` and so on: of k channels, from channel c on, whose number is written as any other
 pub data Values : ℕ → ℕ → List ℕ → List ℤ → Type 0 where

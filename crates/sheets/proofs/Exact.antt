@@ -15,11 +15,11 @@ use borrow.Author.Tests.{le-ltb, ltb-false}
 use Rattle.text.specs.Bytes.{bytes}
 use Rattle.text.specs.Mark.{prefix-of}
 use Rattle.text.specs.declared.Field.the-variants.{Number}
-use Rattle.text.proofs.Tests.{false-true}
+use Rattle.text.proofs.Tests.{false-true, test-case}
+use Rattle.text.proofs.Fields.{number-case}
 use Rattle.row_lines.specs.Form.{lines, size, Sample, Rows, Row as Form·Row}
 use Rattle.row_lines.specs.Rows.{limit, channels-in-range, Listing, listed, broken, is-broken, rows-of}
 use Rattle.row_lines.specs.Same.{Alike, none, same, filled, SameButFilled}
-use Rattle.row_lines.proofs.Fields.{number-case, test-case}
 use Rattle.row_lines.proofs.Lines.{count, Fed, lines-split}
 use Rattle.row_lines.proofs.Exact.{fed-lines, rows-exact, alike-sym, alike-rows}
 use Rattle.head_lines.specs.Form.{NumberLine}

@@ -7,18 +7,14 @@ use Prim.Native.Nat.{ℕ, _+_, _-_, _^_, _≤_, _<_}
 use native.Mathlib.Omega.{arith}
 use lib.ListN.{length, getD, drop, length-append, length-drop}
 use lib.Seq.{drop-drop}
-use lib.IntN.{ℤ, pos, negℤ}
 use lib.Dec.{leb, eqb}
-use borrow.Author.Tests.{le-leb, leb-true}
-use Rattle.text.specs.Bytes.{bytes}
+use borrow.Author.Tests.{le-leb}
 use Rattle.text.specs.Mark.{prefix-of, key-at, mark-at, after-mark}
-use Rattle.text.specs.Number.{is-digit, largest-signed, number-at, field-at, signed-at, signed-field-at, after-number, after-signed}
+use Rattle.text.specs.Number.{is-digit, number-at, field-at, after-number}
 use Rattle.text.specs.declared.Mark.{Mark}
 use Rattle.text.specs.declared.Mark.the-variants.{Next, Bad as Mark·Bad}
 use Rattle.text.specs.declared.Field.{Field}
 use Rattle.text.specs.declared.Field.the-variants.{Number, Bad}
-use Rattle.text.specs.declared.signed.Field.{Field as Signed}
-use Rattle.text.specs.declared.signed.Field.the-variants.{Number as Signed·Number, Bad as Signed·Bad}
 use Rattle.text.proofs.Tests.{both, never}
 use Rattle.text.specs.Numeral.{Numeral}
 use Rattle.text.proofs.Places.{Between, after-bytes}
@@ -63,72 +59,15 @@ field-is key s at max v n h = go (mark-at key s at) refl h
     go (Next m) e g = (m, mark-is key s at m e, number-is s m max v n g)
     go Mark·Bad e g = let z : _≡_ {A = ℕ} 0 1 = cc in absurd (omega arith)
 
--- a signed number that was read
-pub record SignedIs (s : List ℕ) (at : ℕ) (v : ℤ) (n : ℕ) : Type 0 where
-  pub size : ℕ
-  pub minus : Bool
-  pub worth : v ≡ cond minus (negℤ (pos size)) (pos size)
-  pub bound : size ≤ largest-signed
-  pub past : at < n
-  pub inside : n ≤ length s
-
-pub signed-is : (s : List ℕ) (at : ℕ) (v : ℤ) (n : ℕ) → signed-at s at ≡ Signed·Number v n → SignedIs s at v n
-unfolding signed-at
-signed-is s at v n h = go (mark-at (bytes "-") s at) refl h
-  where
-    plus : (x : Field) → number-at s at largest-signed ≡ x → after-number x (λ w k. Signed·Number (pos w) k) Signed·Bad ≡ Signed·Number v n → SignedIs s at v n
-    plus (Number w k) e g =
-        let a = number-is s at largest-signed w k e in
-        let z : k ≡ n = cc in
-        record { size = w; minus = false; worth = cc; bound = a .bound; past = rw (← z) (a .past); inside = rw (← z) (a .between .inside) }
-    plus Bad e g = let z : _≡_ {A = ℕ} 0 1 = cc in absurd (omega arith)
-
-    negated : (w k : ℕ) (t : Bool) → cond t Signed·Bad (Signed·Number (negℤ (pos w)) k) ≡ Signed·Number v n → (v ≡ negℤ (pos w)) × (k ≡ n)
-    negated w k true g = let z : _≡_ {A = ℕ} 0 1 = cc in absurd (omega arith)
-    negated w k false g = (cc, cc)
-
-    less : (d : ℕ) → Between s at d (bytes "-") → (x : Field) → number-at s d largest-signed ≡ x
-        → after-number x (λ w k. cond (eqb w 0) Signed·Bad (Signed·Number (negℤ (pos w)) k)) Signed·Bad ≡ Signed·Number v n → SignedIs s at v n
-    less d m (Number w k) e g =
-        let a = number-is s d largest-signed w k e in
-        let y = negated w k (eqb w 0) g in
-        let z : k ≡ n = y .1 in
-        let p : at < k = let q = a .past in let r = m .end in omega arith in
-        record { size = w; minus = true; worth = y .0; bound = a .bound; past = rw (← z) p; inside = rw (← z) (a .between .inside) }
-    less d m Bad e g = let z : _≡_ {A = ℕ} 0 1 = cc in absurd (omega arith)
-
-    go : (m : Mark) → mark-at (bytes "-") s at ≡ m
-        → after-mark m
-        (λ d. after-number (number-at s d largest-signed) (λ w k. cond (eqb w 0) Signed·Bad (Signed·Number (negℤ (pos w)) k)) Signed·Bad)
-        (after-number (number-at s at largest-signed) (λ w k. Signed·Number (pos w) k) Signed·Bad)
-        ≡ Signed·Number v n
-        → SignedIs s at v n
-    go (Next d) e g = less d (mark-is (bytes "-") s at d e) (number-at s d largest-signed) refl g
-    go Mark·Bad e g = plus (number-at s at largest-signed) refl g
-
--- a signed number that follows a key
-pub signed-field-is : (key s : List ℕ) (at : ℕ) (v : ℤ) (n : ℕ) → signed-field-at key s at ≡ Signed·Number v n
-    → (m : ℕ) × Between s at m key × SignedIs s m v n
-unfolding signed-field-at
-signed-field-is key s at v n h = go (mark-at key s at) refl h
-  where
-    go : (m : Mark) → mark-at key s at ≡ m → after-mark m (λ k. signed-at s k) Signed·Bad ≡ Signed·Number v n → (m : ℕ) × Between s at m key × SignedIs s m v n
-    go (Next m) e g = (m, mark-is key s at m e, signed-is s m v n g)
-    go Mark·Bad e g = let z : _≡_ {A = ℕ} 0 1 = cc in absurd (omega arith)
-
 -- an answer y that is not the one of a missing mark, or number, comes from what follows it
 module _ {A : Type 0} (bad y : A) (ne : bad ≡ y → ⊥) where
-  pub mark-taken : (m : Mark) (f : ℕ → A) → after-mark m f bad ≡ y → (k : ℕ) × (m ≡ Next k) × (f k ≡ y)
-  mark-taken (Next k) f h = (k, refl, h)
-  mark-taken Mark·Bad f h = absurd (ne h)
+  pub past-mark : (m : Mark) (f : ℕ → A) → after-mark m f bad ≡ y → (k : ℕ) × (m ≡ Next k) × (f k ≡ y)
+  past-mark (Next k) f h = (k, refl, h)
+  past-mark Mark·Bad f h = absurd (ne h)
 
-  pub number-taken : (x : Field) (f : ℕ → ℕ → A) → after-number x f bad ≡ y → (v : ℕ) × (k : ℕ) × (x ≡ Number v k) × (f v k ≡ y)
-  number-taken (Number v k) f h = (v, k, refl, h)
-  number-taken Bad f h = absurd (ne h)
-
-  pub signed-taken : (x : Signed) (f : ℤ → ℕ → A) → after-signed x f bad ≡ y → (v : ℤ) × (k : ℕ) × (x ≡ Signed·Number v k) × (f v k ≡ y)
-  signed-taken (Signed·Number v k) f h = (v, k, refl, h)
-  signed-taken Signed·Bad f h = absurd (ne h)
+  pub past-number : (x : Field) (f : ℕ → ℕ → A) → after-number x f bad ≡ y → (v : ℕ) × (k : ℕ) × (x ≡ Number v k) × (f v k ≡ y)
+  past-number (Number v k) f h = (v, k, refl, h)
+  past-number Bad f h = absurd (ne h)
 
 -- a key and a numeral within the bound that no digit follows are read
 pub field-made : (key s : List ℕ) (at max v : ℕ) (w r : List ℕ) → 0 < length key → drop at s ≡ key ++ (w ++ r) → Numeral w v → v ≤ max → max < 10 ^ 10

@@ -5,3 +5,4 @@ pub mod Marks
 pub mod Signs
 pub mod Answers
 pub mod Numerals
+pub mod Fields

@@ -1,7 +1,7 @@
 -- What a test that joins two others tells. Everything is by cases on the first.
 -- Assumes nothing.
 use mathlib.Core.Path.{_≡_, refl}
-use mathlib.Core.Bool.{Bool, true, false, not, _&&_}
+use mathlib.Core.Bool.{Bool, true, false, cond, _&&_}
 use Prim.Native.Nat.{ℕ}
 use native.Mathlib.Omega.{arith}
 
@@ -23,3 +23,8 @@ by-test {A} t f g = go t refl
     go : (b : Bool) → t ≡ b → A
     go true e = f e
     go false e = g e
+
+-- what holds of a choice, by its test
+pub test-case : {A : Type 0} (P : A → Type 0) (t : Bool) (x y : A) → (t ≡ true → P x) → (t ≡ false → P y) → P (cond t x y)
+test-case P true x y h k = h refl
+test-case P false x y h k = k refl

@@ -2,28 +2,27 @@
 -- Assumes nothing.
 use mathlib.Core.Path.{_≡_, refl, sym, ap, _∙_}
 use mathlib.Core.List.{List, [], _++_}
-use mathlib.Core.Bool.{Bool, true, false, cond}
+use mathlib.Core.Bool.{false}
 use Prim.Native.Nat.{ℕ, _+_, _^_, _≤_, _<_}
 use native.Mathlib.Omega.{arith}
 use lib.ListN.{length, getD, drop, List·getD-append}
 use lib.IntN.{ℤ}
 use lib.Dec.{eqb}
 use borrow.Author.Tests.{ne-eqb, eqb-false}
 use Rattle.text.specs.Bytes.{bytes}
 use Rattle.text.specs.Mark.{mark-at, after-mark}
 use Rattle.text.specs.Number.{is-digit, largest-signed, number-at, field-at, signed-at, signed-field-at, after-number, after-signed}
-use Rattle.text.specs.Numeral.{Numeral}
+use Rattle.text.specs.Numeral.{Numeral, Signed, plain, minus}
 use Rattle.text.specs.declared.Mark.{Mark}
 use Rattle.text.specs.declared.Mark.the-variants.{Next, Bad as Mark·Bad}
 use Rattle.text.specs.declared.Field.{Field}
 use Rattle.text.specs.declared.Field.the-variants.{Number, Bad}
 use Rattle.text.specs.declared.signed.Field.{Field as SignedField}
 use Rattle.text.specs.declared.signed.Field.the-variants.{Number as Signed·Number, Bad as Signed·Bad}
-use Rattle.text.proofs.Tests.{false-true}
+use Rattle.text.proofs.Tests.{false-true, test-case}
 use Rattle.text.proofs.Places.{Between, between-both, after-bytes}
 use Rattle.text.proofs.Numerals.{number-is, number-made, numeral-begins}
 use Rattle.text.proofs.Answers.{mark-is, mark-made, mark-first, field-made}
-use Rattle.row_lines.specs.Form.{Signed, plain, minus}
 
 -- ---- what holds of an answer, by its cases
 module _ {A : Type 0} (P : A → Type 0) where
@@ -38,10 +37,6 @@ module _ {A : Type 0} (P : A → Type 0) where
   pub signed-case : (x : SignedField) (f : ℤ → ℕ → A) (a : A) → ((v : ℤ) (n : ℕ) → x ≡ Signed·Number v n → P (f v n)) → (x ≡ Signed·Bad → P a) → P (after-signed x f a)
   signed-case (Signed·Number v n) f a h k = h v n refl
   signed-case Signed·Bad f a h k = k refl
-
-  pub test-case : (t : Bool) (x y : A) → (t ≡ true → P x) → (t ≡ false → P y) → P (cond t x y)
-  test-case true x y h k = h refl
-  test-case false x y h k = k refl
 
 -- ---- a signed number that is read stands there
 abbrev SignedHere : List ℕ → ℕ → SignedField → Type 0
