@@ -1,11 +1,11 @@
 -- The parts of a text in their order: the sheet, its requirement, its rows. What the sheet reader accepts has its places inside the text and its rows checked.
 -- Assumes nothing.
-use mathlib.Core.Path.{_≡_, refl, sym, ap, _∙_}
+use mathlib.Core.Path.{_≡_, refl, sym, ap}
 use mathlib.Core.Bool.{Bool, true, false}
 use mathlib.Core.List.{List, _++_}
 use Prim.Native.Nat.{ℕ, zero, suc, _+_, _-_, _≤_}
 use native.Mathlib.Omega.{arith}
-use lib.ListN.{length, take, drop, length-drop, length-append}
+use lib.ListN.{length, take, drop, length-drop}
 use lib.Seq.{take-all}
 use borrow.Author.Tests.{eq-eqb, ne-eqb}
 use Rattle.tables.specs.declared.Table.{Table}
@@ -14,6 +14,7 @@ use Rattle.rules.proofs.First.{first-passes}
 use Rattle.requirements.specs.declared.Requirement.{Requirement}
 use Rattle.requirements.specs.Requirement.{requirement-of}
 use Rattle.text.specs.Bytes.{bytes}
+use Rattle.text.proofs.Places.{length-behind}
 use Rattle.row_lines.specs.Rows.{limit, channels-in-range, Listing, is-broken, rows-of}
 use Rattle.row_lines.proofs.Exact.{rows-exact}
 use Rattle.sheets.specs.declared.Sheet.{Sheet}
@@ -69,8 +70,7 @@ checked s x f = record {
 placed-by : (s : List ℕ) (x : Sheet) → Form s x → Placed s x (x .from) (x .to)
 placed-by s x f =
     let b = behind s x f in
-    let e : length s - x .from ≡ length (f .requirement) + suc (length (b .rest)) =
-    sym (length-drop (x .from) s) ∙ (ap length (b .begins) ∙ (length-append (f .requirement) (bytes "\n" ++ b .rest))) in
+    let e : length s - x .from ≡ length (f .requirement) + suc (length (b .rest)) = length-behind s (x .from) (f .requirement) (bytes "\n" ++ b .rest) (b .begins) in
     record {
       ordered = omega (arith, f .to);
       inside = omega (arith, f .to);

@@ -1,12 +1,11 @@
 -- A line of the head is read exactly where it is written.
 -- Assumes nothing.
-use mathlib.Core.Path.{_≡_, refl, sym, ap, _∙_}
+use mathlib.Core.Path.{_≡_, refl, ap, _∙_}
 use mathlib.Core.List.{List, [], _∷_, _++_, append-assoc}
-use mathlib.Core.Bool.{Bool, true, false}
 use Prim.Native.Nat.{ℕ, _+_, _-_, _≤_, _<_}
 use native.Mathlib.Nat.{zero-add}
 use native.Mathlib.Omega.{arith}
-use lib.ListN.{length, drop, length-drop, length-append}
+use lib.ListN.{length, drop, length-append}
 use lib.Seq.{drop-drop}
 use lib.Dec.{eqb}
 use Rattle.text.specs.Bytes.{bytes}
@@ -16,22 +15,15 @@ use Rattle.text.specs.declared.Mark.the-variants.{Next}
 use Rattle.text.specs.declared.Field.{Field}
 use Rattle.text.specs.declared.Field.the-variants.{Number, Bad as Field·Bad}
 use Rattle.text.proofs.Tests.{by-test}
-use Rattle.text.proofs.Places.{Between, between-both, after-bytes}
+use Rattle.text.proofs.Places.{Between, between-both, after-bytes, place-inside, place-after}
 use Rattle.text.proofs.Answers.{mark-is, field-is}
 use Rattle.text.proofs.Fields.{mark-case, number-case, mark-taken, field-taken}
-use Rattle.row_lines.specs.Form.{cut, lines}
+use Rattle.row_lines.specs.Form.{lines}
 use Rattle.row_lines.proofs.Lines.{lines-split, count, count-append, numeral-count, Fed}
 use Rattle.head_lines.specs.declared.Requirement.{Requirement}
 use Rattle.head_lines.specs.declared.Requirement.the-variants.{At, Bad}
 use Rattle.head_lines.specs.Form.{NumberLine}
 use Rattle.head_lines.specs.Lines.{number-at, until-feed, requirement-at}
-
--- where a line that was read ends
-pub place-after : (s : List ℕ) (at n : ℕ) (l r : List ℕ) → drop at s ≡ l ++ r → drop n s ≡ r → at ≤ length s → n ≤ length s → n ≡ at + length l
-place-after s at n l r e f p q =
-    let a : length s - at ≡ length l + length r = sym (length-drop at s) ∙ (ap length e ∙ length-append l r) in
-    let b : length s - n ≡ length r = sym (length-drop n s) ∙ ap length f in
-    omega arith
 
 -- ---- a key and a number
 
@@ -55,10 +47,6 @@ number-here key s at =
 pub number-line-is : (key s : List ℕ) (at v n : ℕ) → number-at key s at ≡ Number v n → (l : List ℕ) × Between s at n l × NumberLine key l v
 number-line-is key s at v n h = rw h at (number-here key s at)
 
--- the lines from a place on are not empty, so the place is inside
-pub line-inside : (s : List ℕ) (at : ℕ) (l r : List ℕ) → drop at s ≡ l ++ r → 0 < length l → at ≤ length s
-line-inside s at l r e p = let a : length s - at ≡ length l + length r = sym (length-drop at s) ∙ (ap length e ∙ length-append l r) in omega arith
-
 pub number-line-taken : (key s : List ℕ) (at : ℕ) {l : List ℕ} {v : ℕ} (ls : List (List ℕ)) → 0 < length key → NumberLine key l v → lines (drop at s) ≡ l ∷ ls
     → (n : ℕ) × (number-at key s at ≡ Number v n) × (lines (drop n s) ≡ ls) × (n ≡ at + length l)
 unfolding number-at
@@ -70,7 +58,8 @@ number-line-taken key s at {l} {v} ls p f h =
     let n = mark-taken s (k .0) r (bytes "\n") (omega arith) (k .2) in
     let i : n .0 ≤ length s = mark-is (bytes "\n") s (k .0) (n .0) (n .1) .inside in
     let w : length l ≡ length (key ++ f .digits) + 1 = ap length (f .written) ∙ length-append (key ++ f .digits) (bytes "\n") in
-    (n .0, rw (k .1, n .1), rw (n .2) (t .2), place-after s at (n .0) l r (t .1) (n .2) (line-inside s at l r (t .1) (omega arith)) i)
+    let o = place-inside s at l r (t .1) (omega arith) in
+    (n .0, rw (k .1, n .1), rw (n .2) (t .2), place-after s at (n .0) l r (t .1) (n .2) (omega arith) i)
 
 pub number-line-fed : {key l : List ℕ} {v : ℕ} → count 10 key ≡ 0 → NumberLine key l v → Fed l
 number-line-fed {key} c f =
@@ -158,26 +147,3 @@ requirement-taken s at w r e c =
     let f : drop (at + 4) s ≡ w ++ (bytes "\n" ++ r) = rw p at (k .2) in
     let n = mark-taken s (at + 4 + length w) r (bytes "\n") (omega arith) (after-bytes s (at + 4) w (bytes "\n" ++ r) f) in
     (n .0, requirement-read s at (at + 4) (n .0) w r (rw p at (k .1)) f c (n .1), n .2, mark-is (bytes "\n") s (at + 4 + length w) (n .0) (n .1) .end)
-
--- what stands before the line feed of a text's line has none
-pub lines-clear : (s w : List ℕ) (ls : List (List ℕ)) → lines s ≡ (w ++ bytes "\n") ∷ ls → count 10 w ≡ 0
-unfolding lines count
-lines-clear [] w ls h = let z : _≡_ {A = ℕ} 0 1 = cc in absurd (omega arith)
-lines-clear (b ∷ s) w ls h = go (eqb b 10) refl (lines s) refl w h (λ v ks. lines-clear s v ks)
-  where
-    go : (t : Bool) → eqb b 10 ≡ t → (x : List (List ℕ)) → lines s ≡ x → (w : List ℕ) → cut b t x ≡ (w ++ bytes "\n") ∷ ls
-        → ((v : List ℕ) (ks : List (List ℕ)) → lines s ≡ (v ++ bytes "\n") ∷ ks → count 10 v ≡ 0) → count 10 w ≡ 0
-    go t e x f [] g more = refl
-    go true e x f (c ∷ w) g more =
-        let h : b ∷ [] ≡ c ∷ (w ++ bytes "\n") = cc in
-        let i : [] ≡ w ++ bytes "\n" = cc in
-        absurd (omega (arith, ap length i, length-append w (bytes "\n")))
-    go false e [] f (c ∷ w) g more =
-        let h : b ∷ [] ≡ c ∷ (w ++ bytes "\n") = cc in
-        let i : [] ≡ w ++ bytes "\n" = cc in
-        absurd (omega (arith, ap length i, length-append w (bytes "\n")))
-    go false e (k ∷ ks) f (c ∷ w) g more =
-        let h : b ∷ k ≡ c ∷ (w ++ bytes "\n") = cc in
-        let i : k ≡ w ++ bytes "\n" = cc in
-        let j : b ≡ c = cc in
-        rw (← j, e, more w ks (f ∙ ap (λ (y : List ℕ). y ∷ ks) i))

@@ -5,14 +5,15 @@ use mathlib.Core.List.{List, [], _∷_, _++_}
 use mathlib.Core.Bool.{Bool, true, false, cond}
 use Prim.Native.Nat.{ℕ, zero, suc, _+_, _-_, _≤_, _<_}
 use native.Mathlib.Omega.{arith}
-use lib.ListN.{length, getD, set, drop, length-set, length-drop, length-append}
+use lib.ListN.{length, getD, set, drop, length-set}
 use lib.Dec.{leb}
 use borrow.Author.Tests.{le-leb}
 use Rattle.text.specs.Bytes.{bytes}
 use Rattle.text.specs.Mark.{prefix-of, key-at}
 use Rattle.text.proofs.Tests.{false-true, never, test-case}
+use Rattle.text.proofs.Places.{place-inside}
 use Rattle.row_lines.specs.Form.{lines, size}
-use Rattle.row_lines.proofs.Lines.{lines-fed, lines-split}
+use Rattle.row_lines.proofs.Lines.{fed-some, lines-fed, lines-split}
 use Rattle.recordings.specs.declared.Predicate.{Predicate}
 use Rattle.predicate_lines.specs.declared.Bound.{Bound}
 use Rattle.predicate_lines.specs.declared.Bound.the-variants.{Missing, At}
@@ -131,8 +132,7 @@ lines-taken {ps} {qs} (more {l} {ls} {number = k} {predicate = p} line free line
     let c : unsets ps ≡ suc (unsets (set ps k p)) = unsets-set ps k p (omega (arith, line .known)) free (ap is-unset (line .range) ∙ range-set (line .low) (line .high)) in
     let d = lines-taken lines′ (f - 1) s (b .0) rest (length-set ps k p ∙ w) (omega arith) (ap lines (b .2) ∙ a .2) stop in
     let g : f ≡ suc (f - 1) = omega arith in
-    let y : length l ≡ length (line-fed line .body) + 1 = ap length (line-fed line .ends) ∙ length-append (line-fed line .body) (bytes "\n") in
-    let z : length s - at ≡ length l + length (a .0) = sym (length-drop at s) ∙ (ap length (a .1) ∙ length-append l (a .0)) in (
+    let z : at < length s = place-inside s at l (a .0) (a .1) (fed-some (line-fed line)) in (
       d .0,
       ap (λ (j : ℕ). lines-from j s (record { ok = true; next = at; all = ps })) g
           ∙ (due-more (f - 1) s at k p (b .0) ps (omega arith) (ap (prefix-of (bytes "p=")) (a .1) ∙ line-due (a .0) line) (b .1) free ∙ d .1),

@@ -11,14 +11,14 @@ use lib.Dec.{leb}
 use borrow.Author.Tests.{leb-true, le-leb, lt-leb}
 use Rattle.text.specs.Bytes.{bytes}
 use Rattle.text.proofs.Tests.{test-case}
-use Rattle.text.proofs.Places.{Between}
+use Rattle.text.proofs.Places.{Between, place-inside}
 use Rattle.row_lines.specs.declared.Row.{Row}
 use Rattle.row_lines.specs.declared.Row.the-variants.{Measured, Filled, Bad}
 use Rattle.row_lines.specs.Form.{lines, Sample, Rows, none, measured, filled}
 use Rattle.row_lines.specs.Rows.{row-at, after-row, Listing, listed, broken, also-measured, also-filled, sample-at, rows-from, rows-of}
 use Rattle.row_lines.specs.Same.{Alike, none as Alike·none, same, filled as Alike·filled, SameButFilled}
 use Rattle.row_lines.proofs.Written.{RowHere, row-here, row-taken}
-use Rattle.row_lines.proofs.Lines.{Fed, row-fed, lines-fed, lines-split, lines-none, one-width, one-source}
+use Rattle.row_lines.proofs.Lines.{Fed, fed-some, row-fed, lines-fed, lines-split, lines-none, one-width, one-source}
 
 -- ---- a row has a byte at least
 
@@ -101,10 +101,7 @@ rows-here (suc f) ch s at =
 -- ---- complete: lines that are rows are read as such
 
 starts : (s : List ℕ) (at : ℕ) (l r : List ℕ) → drop at s ≡ l ++ r → Fed l → at < length s
-starts s at l r e f =
-    let g : length l ≡ length (f .body) + 1 = ap length (f .ends) ∙ length-append (f .body) (bytes "\n") in
-    let h : length s - at ≡ length l + length r = sym (length-drop at s) ∙ (ap length e ∙ length-append l r) in
-    omega arith
+starts s at l r e f = place-inside s at l r e (fed-some f)
 
 rows-taken : {ch k : ℕ} {ls : List (List ℕ)} {xs : List Sample} → Rows ch ls xs k
     → (f : ℕ) (s : List ℕ) (at : ℕ) → length s ≤ at + f → lines (drop at s) ≡ ls → rows-from f ch s at ≡ listed xs k

@@ -4,9 +4,10 @@
 use mathlib.Core.Path.{_≡_, refl, sym, ap, _∙_}
 use mathlib.Core.List.{List, [], _∷_, _++_, append-assoc}
 use mathlib.Core.Bool.{Bool, true, false, cond}
-use Prim.Native.Nat.{ℕ, _+_, _*_, _≤_}
+use Prim.Native.Nat.{ℕ, _+_, _*_, _≤_, _<_}
 use native.Mathlib.Nat.{suc-mul, zero-mul, zero-add}
 use native.Mathlib.Omega.{arith}
+use lib.ListN.{length, length-append}
 use lib.IntN.{ℤ}
 use lib.Dec.{eqb}
 use borrow.Author.Tests.{ne-eqb}
@@ -76,6 +77,9 @@ pub record Fed (l : List ℕ) : Type 0 where
   pub ends : l ≡ body ++ bytes "\n"
   pub clear : count 10 body ≡ 0
 
+pub fed-some : {l : List ℕ} → Fed l → 0 < length l
+fed-some f = omega (arith, ap length (f .ends), length-append (f .body) (bytes "\n"))
+
 lines-body : (w r : List ℕ) → count 10 w ≡ 0 → lines (w ++ (10 ∷ r)) ≡ (w ++ (10 ∷ [])) ∷ lines r
 unfolding lines count
 lines-body [] r h = refl
@@ -106,6 +110,29 @@ lines-split (b ∷ s) l ls h = go (eqb b 10) (lines s) refl h (λ k ks. lines-sp
         let d : ks ≡ ls = cc in
         let m = more k ks e in
         (m .0, rw f (ap (λ (y : List ℕ). b ∷ y) (m .1)), m .2 ∙ d)
+
+-- what stands before the line feed of a text's line has none
+pub lines-clear : (s w : List ℕ) (ls : List (List ℕ)) → lines s ≡ (w ++ bytes "\n") ∷ ls → count 10 w ≡ 0
+unfolding lines count
+lines-clear [] w ls h = let z : _≡_ {A = ℕ} 0 1 = cc in absurd (omega arith)
+lines-clear (b ∷ s) w ls h = go (eqb b 10) refl (lines s) refl w h (λ v ks. lines-clear s v ks)
+  where
+    go : (t : Bool) → eqb b 10 ≡ t → (x : List (List ℕ)) → lines s ≡ x → (w : List ℕ) → cut b t x ≡ (w ++ bytes "\n") ∷ ls
+        → ((v : List ℕ) (ks : List (List ℕ)) → lines s ≡ (v ++ bytes "\n") ∷ ks → count 10 v ≡ 0) → count 10 w ≡ 0
+    go t e x f [] g more = refl
+    go true e x f (c ∷ w) g more =
+        let h : b ∷ [] ≡ c ∷ (w ++ bytes "\n") = cc in
+        let i : [] ≡ w ++ bytes "\n" = cc in
+        absurd (omega (arith, ap length i, length-append w (bytes "\n")))
+    go false e [] f (c ∷ w) g more =
+        let h : b ∷ [] ≡ c ∷ (w ++ bytes "\n") = cc in
+        let i : [] ≡ w ++ bytes "\n" = cc in
+        absurd (omega (arith, ap length i, length-append w (bytes "\n")))
+    go false e (k ∷ ks) f (c ∷ w) g more =
+        let h : b ∷ k ≡ c ∷ (w ++ bytes "\n") = cc in
+        let i : k ≡ w ++ bytes "\n" = cc in
+        let j : b ≡ c = cc in
+        rw (← j, e, more w ks (f ∙ ap (λ (y : List ℕ). y ∷ ks) i))
 
 pub lines-none : (s : List ℕ) → lines s ≡ [] → s ≡ []
 unfolding lines

@@ -20,7 +20,7 @@ use Rattle.text.proofs.Fields.{number-case}
 use Rattle.row_lines.specs.Form.{lines, size, Sample, Rows, Row as Form·Row}
 use Rattle.row_lines.specs.Rows.{limit, channels-in-range, Listing, listed, broken, is-broken, rows-of}
 use Rattle.row_lines.specs.Same.{Alike, none, same, filled, SameButFilled}
-use Rattle.row_lines.proofs.Lines.{count, Fed, lines-split}
+use Rattle.row_lines.proofs.Lines.{count, Fed, lines-split, lines-clear}
 use Rattle.row_lines.proofs.Exact.{fed-lines, rows-exact, alike-sym, alike-rows}
 use Rattle.head_lines.specs.Form.{NumberLine}
 use Rattle.head_lines.specs.Lines.{number-at, requirement-at, after-requirement}
@@ -34,7 +34,7 @@ use Rattle.head_lines.specs.declared.Requirement.{Requirement}
 use Rattle.head_lines.specs.declared.Requirement.the-variants.{At, Bad}
 use Rattle.sheets.specs.Form.{Form, blank}
 use Rattle.sheets.specs.Sheets.{rows-kept, behind-predicates, sheet-of}
-use Rattle.head_lines.proofs.Written.{number-line-is, number-line-taken, number-line-fed, requirement-is, requirement-taken, lines-clear}
+use Rattle.head_lines.proofs.Written.{number-line-is, number-line-taken, number-line-fed, requirement-is, requirement-taken}
 use Rattle.sheets.proofs.Chain.{chain-read, chain-behind}
 
 -- ---- the rows behind the head

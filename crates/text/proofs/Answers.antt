@@ -1,11 +1,11 @@
 -- What an answer tells a caller: the place after it is past its start and inside the text, and which bytes stand between; and the converse for a mark.
 -- Assumes nothing.
-use mathlib.Core.Path.{_≡_, refl, sym, ap, _∙_}
+use mathlib.Core.Path.{_≡_, refl, sym}
 use mathlib.Core.List.{List, [], _∷_, _++_}
 use mathlib.Core.Bool.{Bool, true, false, cond}
 use Prim.Native.Nat.{ℕ, _+_, _-_, _^_, _≤_, _<_}
 use native.Mathlib.Omega.{arith}
-use lib.ListN.{length, getD, drop, length-append, length-drop}
+use lib.ListN.{length, getD, drop}
 use lib.Seq.{drop-drop}
 use lib.Dec.{leb, eqb}
 use borrow.Author.Tests.{le-leb}
@@ -17,7 +17,7 @@ use Rattle.text.specs.declared.Field.{Field}
 use Rattle.text.specs.declared.Field.the-variants.{Number, Bad}
 use Rattle.text.proofs.Tests.{both, never}
 use Rattle.text.specs.Numeral.{Numeral}
-use Rattle.text.proofs.Places.{Between, after-bytes}
+use Rattle.text.proofs.Places.{Between, after-bytes, place-inside}
 use Rattle.text.proofs.Marks.{key-inside, prefix-split, prefix-append}
 use Rattle.text.proofs.Numerals.{Numbered, number-is, number-made}
 
@@ -41,7 +41,7 @@ mark-is key s at n h = go (key-at key s at) refl h
 pub mark-made : (key s r : List ℕ) (at : ℕ) → 0 < length key → drop at s ≡ key ++ r → mark-at key s at ≡ Next (at + length key)
 unfolding mark-at
 mark-made key s r at p e =
-    let l : length s - at ≡ length key + length r = sym (length-drop at s) ∙ (ap length e ∙ length-append key r) in
+    let l = place-inside s at key r e p in
     rw (le-leb at (length s) (omega arith), e, prefix-append key r)
 
 -- where other bytes stand it is not

@@ -2,9 +2,9 @@
 -- Assumes nothing.
 use mathlib.Core.Path.{_≡_, sym, ap, _∙_}
 use mathlib.Core.List.{List, _++_, append-assoc}
-use Prim.Native.Nat.{ℕ, _+_, _≤_}
+use Prim.Native.Nat.{ℕ, _+_, _-_, _≤_, _<_}
 use native.Mathlib.Omega.{arith}
-use lib.ListN.{length, getD, drop, length-append}
+use lib.ListN.{length, drop, length-append, length-drop}
 use lib.Seq.{drop-drop, drop-append-seam}
 
 -- the bytes of s from a place `at` up to the place `n` are w
@@ -25,3 +25,18 @@ between-both {s} {a} {b} {c} {v} {w} p q =
 -- what stands after the bytes w of a place
 pub after-bytes : (s : List ℕ) (at : ℕ) (w r : List ℕ) → drop at s ≡ w ++ r → drop (at + length w) s ≡ r
 after-bytes s at w r e = sym (drop-drop (length w) at s) ∙ (ap (drop (length w)) e ∙ drop-append-seam w r)
+
+-- how far the text reaches behind a place where w stands
+pub length-behind : (s : List ℕ) (at : ℕ) (w r : List ℕ) → drop at s ≡ w ++ r → length s - at ≡ length w + length r
+length-behind s at w r e = sym (length-drop at s) ∙ (ap length e ∙ length-append w r)
+
+-- where bytes stand, the place is inside
+pub place-inside : (s : List ℕ) (at : ℕ) (w r : List ℕ) → drop at s ≡ w ++ r → 0 < length w → at < length s
+place-inside s at w r e p = let l = length-behind s at w r e in omega arith
+
+-- and the place behind them is as many further as they are
+pub place-after : (s : List ℕ) (at n : ℕ) (w r : List ℕ) → drop at s ≡ w ++ r → drop n s ≡ r → at ≤ length s → n ≤ length s → n ≡ at + length w
+place-after s at n w r e f p q =
+    let a = length-behind s at w r e in
+    let b : length s - n ≡ length r = sym (length-drop n s) ∙ ap length f in
+    omega arith
