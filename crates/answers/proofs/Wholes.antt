@@ -6,7 +6,6 @@ use mathlib.Core.List.{List, _++_}
 use Prim.Native.Nat.{ℕ, zero, suc, _+_, _-_, _≤_}
 use native.Mathlib.Omega.{arith}
 use lib.ListN.{length, take, drop, length-drop}
-use lib.Seq.{take-all}
 use borrow.Author.Tests.{eq-eqb, ne-eqb}
 use Rattle.tables.specs.declared.Table.{Table}
 use Rattle.rules.specs.First.{first, unless-refused}
@@ -55,9 +54,6 @@ unfolding answer-of-text
 sheet-read s h = rw h refl
 
 -- ---- its places and rows
-
-pub whole-part : (s : List ℕ) (at : ℕ) → take (length s - at) (drop at s) ≡ drop at s
-whole-part s at = take-all (length s - at) (drop at s) (rw length-drop (omega arith))
 
 checked : (s : List ℕ) (x : Sheet) → Form s x → Checked (rows-part s x) (x .channels)
 checked s x f = record {

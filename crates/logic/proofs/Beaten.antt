@@ -2,15 +2,14 @@
 -- an extremum over nothing is beaten by every extremum: so until and release may leave out what is outside the window, and all that is beaten.
 -- Assumes nothing.
 use mathlib.Core.Path.{_≡_, refl, subst}
-use mathlib.Core.Bool.{Bool, true, false, not, cond}
+use mathlib.Core.Bool.{Bool, true, false, cond}
 use Prim.Native.Nat.{ℕ, zero, suc, _+_, _≤_, _<_}
 use native.Mathlib.Omega.{arith}
 use native.Mathlib.Decide.{decLe}
-use lib.Dec.{T}
 use lib.IntN.{ℤ, pos, negℤ}
 use lib.Signed.{ltZ}
 use Rattle.numbers.specs.Order.{Within}
-use Rattle.numbers.proofs.Parts.{plus, minus, parts-nlt, plus-neg, minus-neg, abs-parts, Smaller, Larger, smaller-parts, larger-parts}
+use Rattle.numbers.proofs.Parts.{plus, minus, parts-nlt, not-taken, plus-neg, minus-neg, abs-parts, Smaller, Larger, smaller-parts, larger-parts}
 use Rattle.logic.specs.Window.{Window, inside}
 use Rattle.logic.specs.Formula.{Extremum, largest, smallest, dual}
 use Rattle.logic.specs.Reading.{extremum, along, margins, margin-extreme, margin-nothing}
@@ -22,10 +21,6 @@ AtMost a b = plus a + minus b ≤ plus b + minus a
 abbrev pub Beaten : Extremum → ℤ → ℤ → Type 0
 Beaten largest b a = AtMost a b
 Beaten smallest b a = AtMost b a
-
-not-taken : (t : Bool) (a b : ℤ) → T (not t) → cond t b a ≡ a
-not-taken true a b h = absurd h
-not-taken false a b h = refl
 
 pub beaten-stays : (e : Extremum) (b a : ℤ) → Beaten e b a → margin-extreme e b a ≡ b
 beaten-stays largest b a h = not-taken (ltZ b a) b a (parts-nlt b a h)

@@ -79,6 +79,15 @@ holds e = subst T (sym e) tt
 pub fails : {b : Bool} → b ≡ false → T (not b)
 fails e = subst (λ (x : Bool). T (not x)) (sym e) tt
 
+-- what a choice takes
+pub taken : {X : Type 0} (t : Bool) (a b : X) → T t → cond t b a ≡ b
+taken true a b h = refl
+taken false a b h = absurd h
+
+pub not-taken : {X : Type 0} (t : Bool) (a b : X) → T (not t) → cond t b a ≡ a
+not-taken true a b h = absurd h
+not-taken false a b h = refl
+
 -- ---- the operations
 pub parts-apart : (a : ℤ) → min (plus a) (minus a) ≡ 0
 parts-apart (pos n) = omega arith

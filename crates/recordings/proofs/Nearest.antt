@@ -11,7 +11,7 @@ use mir.Facts.{and-yes, yes-and, and-no}
 use lib.IntN.{ℤ, pos, negsuc, negℤ, sucℤ, _-ℤ_, natAbs, negℤ-negℤ}
 use lib.Signed.{leZ, ltZ}
 use Rattle.numbers.specs.Order.{smaller-of}
-use Rattle.numbers.proofs.Parts.{plus, minus, lt-parts, parts-lt, parts-nlt, nlt-parts, le-parts, parts-le, nle-parts, parts-nle, parts-eq, plus-neg, minus-neg, abs-parts, parts-apart, suc-parts, sub-parts}
+use Rattle.numbers.proofs.Parts.{plus, minus, lt-parts, parts-lt, parts-nlt, nlt-parts, le-parts, parts-le, nle-parts, parts-nle, parts-eq, taken, not-taken, plus-neg, minus-neg, abs-parts, parts-apart, suc-parts, sub-parts}
 use Rattle.lists.proofs.Below.{same-test}
 use Rattle.recordings.specs.declared.Range.{Range}
 use Rattle.recordings.specs.declared.Range.the-variants.{Unset, Free, AtLeast, AtMost, Between}
@@ -177,20 +177,12 @@ module _ (lo hi x : ℤ) where
   outside-between : T (leZ lo hi) → T (not (in-between x)) → (n : ℕ) × (d ≡ negℤ (pos n)) × Nearest in-between x n
   outside-between o t = elim (and-no (leZ lo x) (leZ x hi) t) [ inl s ↦ low s | inr s ↦ high s ]
     where
-      taken : (c : Bool) (a b : ℤ) → T c → cond c b a ≡ b
-      taken true a b u = refl
-      taken false a b u = absurd u
-
-      left : (c : Bool) (a b : ℤ) → T (not c) → cond c b a ≡ a
-      left true a b u = absurd u
-      left false a b u = refl
-
       low : T (not (leZ lo x)) → (n : ℕ) × (d ≡ negℤ (pos n)) × Nearest in-between x n
       low s =
           let m = missed lo x s in
           let k = kept-high hi x (parts-le x hi (omega (arith, nle-parts lo x s, le-parts lo hi o))) in (
             m .by,
-            left (ltZ (clearance x hi) (clearance lo x)) (clearance lo x) (clearance x hi) (rw (k .1, m .is) (parts-nlt (pos (k .0)) (negℤ (pos (m .by))) (omega (arith, plus-neg (pos (m .by)), minus-neg (pos (m .by)))))) ∙ m .is,
+            not-taken (ltZ (clearance x hi) (clearance lo x)) (clearance lo x) (clearance x hi) (rw (k .1, m .is) (parts-nlt (pos (k .0)) (negℤ (pos (m .by))) (omega (arith, plus-neg (pos (m .by)), minus-neg (pos (m .by)))))) ∙ m .is,
             record { nearest = lo; passes = yes-and (leZ lo lo) (leZ lo hi) (le-self lo) o; away = m .away; least = λ y u. m .least y (and-yes (leZ lo y) (leZ y hi) u .0) },
           )
 

@@ -5,14 +5,11 @@ use mathlib.Core.List.{List}
 use mathlib.Core.Bool.{true, false}
 use Prim.Native.Nat.{ℕ, _-_}
 use native.Mathlib.Omega.{arith}
-use lib.ListN.{length, take, drop, length-drop}
-use lib.Seq.{take-all}
+use lib.ListN.{length, take, drop}
+use Rattle.text.proofs.Places.{whole-behind}
 use Rattle.row_lines.specs.declared.Counts.the-variants.{Rows as Counts·Rows, Bad as Counts·Bad}
 use Rattle.row_lines.specs.Rows.{channels-in-range, Listing, listed, broken, is-broken, rows-of, counts}
 use Rattle.sheets.specs.Sheets.{rows-kept}
-
-whole : (s : List ℕ) (at : ℕ) → take (length s - at) (drop at s) ≡ drop at s
-whole s at = take-all (length s - at) (drop at s) (rw length-drop (omega arith))
 
 some-counted : (x : Listing) (m k : ℕ) → counts x ≡ Counts·Rows m k → is-broken x ≡ false
 some-counted (listed xs j) m k h = refl
@@ -28,7 +25,7 @@ module _ (s : List ℕ) (at ch : ℕ) where
 
   module _ (w : channels-in-range ch ≡ true) where
     pub kept-rows : (m k : ℕ) → counts (rows-of ch (take (length s - at) (drop at s))) ≡ Counts·Rows m k → true ≡ rows-kept s at ch
-    kept-rows m k h = rw (w, some-counted (rows-of ch (drop at s)) m k (rw whole at h))
+    kept-rows m k h = rw (w, some-counted (rows-of ch (drop at s)) m k (rw whole-behind at h))
 
     pub kept-broken : counts (rows-of ch (take (length s - at) (drop at s))) ≡ Counts·Bad → false ≡ rows-kept s at ch
-    kept-broken h = rw (w, none-counted (rows-of ch (drop at s)) (rw whole at h))
+    kept-broken h = rw (w, none-counted (rows-of ch (drop at s)) (rw whole-behind at h))

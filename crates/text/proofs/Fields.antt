@@ -19,7 +19,7 @@ use Rattle.text.specs.declared.Field.{Field}
 use Rattle.text.specs.declared.Field.the-variants.{Number, Bad}
 use Rattle.text.specs.declared.signed.Field.{Field as SignedField}
 use Rattle.text.specs.declared.signed.Field.the-variants.{Number as Signed·Number, Bad as Signed·Bad}
-use Rattle.text.proofs.Tests.{false-true, test-case}
+use Rattle.text.proofs.Tests.{false-true, test-case, above-zero}
 use Rattle.text.proofs.Places.{Between, between-both, after-bytes}
 use Rattle.text.proofs.Numerals.{number-is, number-made, numeral-begins}
 use Rattle.text.proofs.Answers.{mark-is, mark-made, mark-first, field-made}
@@ -50,14 +50,11 @@ signed-here s at =
     (λ d e. number-case (SignedHere s at) (number-at s d largest-signed) _ _
     (λ v n f. test-case (SignedHere s at) (eqb v 0) _ _ (λ z. tt)
     (λ z. let a = number-is s d largest-signed v n f in
-    (bytes "-" ++ a .written, between-both (mark-is (bytes "-") s at d e) (a .between), minus (a .numeral) (above v (eqb-false v 0 z)) (a .bound))))
+    (bytes "-" ++ a .written, between-both (mark-is (bytes "-") s at d e) (a .between), minus (a .numeral) (above-zero v (eqb-false v 0 z)) (a .bound))))
     (λ f. tt))
     (λ e. number-case (SignedHere s at) (number-at s at largest-signed) _ _
     (λ v n f. let a = number-is s at largest-signed v n f in (a .written, a .between, plain (a .numeral) (a .bound)))
     (λ f. tt))
-  where
-    above : (v : ℕ) → (v ≡ 0 → ⊥) → 0 < v
-    above v g = omega arith
 
 pub signed-bytes : (s : List ℕ) (at : ℕ) (v : ℤ) (n : ℕ) → signed-at s at ≡ Signed·Number v n → (w : List ℕ) × Between s at n w × Signed w v
 signed-bytes s at v n h = rw h at (signed-here s at)

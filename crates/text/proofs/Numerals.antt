@@ -14,7 +14,7 @@ use borrow.Author.Tests.{leb-true, leb-false, le-leb, ltb-false, le-ltb, eqb-tru
 use Rattle.text.specs.Number.{is-digit, digits, value, in-form, judged, number-at}
 use Rattle.text.specs.Numeral.{Numeral, digit, longer}
 use Rattle.text.specs.declared.Field.the-variants.{Number, Bad}
-use Rattle.text.proofs.Tests.{both, never, by-test, false-true}
+use Rattle.text.proofs.Tests.{both, never, by-test, false-true, above-zero}
 use Rattle.text.proofs.Places.{Between}
 use Rattle.text.proofs.Digits.{digit-range, run-over}
 
@@ -120,11 +120,8 @@ numeral-zero (longer n p h) e = absurd (omega arith)
 
 -- a number of ten digits' range is written with at most ten digits
 numeral-short : {w : List ℕ} {v : ℕ} → Numeral w v → v < 10 ^ 10 → length w ≤ 10
-numeral-short {w} {v} n l = by-test (eqb v 0) (λ z. zeros (eqb-true v 0 z)) (λ z. size (above (eqb-false v 0 z)))
+numeral-short {w} {v} n l = by-test (eqb v 0) (λ z. zeros (eqb-true v 0 z)) (λ z. size (above-zero v (eqb-false v 0 z)))
   where
-    above : (v ≡ 0 → ⊥) → 0 < v
-    above f = omega arith
-
     zeros : v ≡ 0 → length w ≤ 10
     zeros e = let k : length w ≡ 1 = numeral-zero n e in omega arith
 
@@ -203,14 +200,11 @@ number-made s at max v w r e n l m f =
     rw (← head-at s at w r e (b .0), le-leb 1 (length w) (b .0), le-leb (length w) 10 (numeral-short n (omega arith)), unpadded, le-leb v max l) in
     rw (d, numeral-value n, k)
   where
-    above : (v ≡ 0 → ⊥) → 0 < v
-    above g = omega arith
-
     unpadded : eqb (getD w 0 0) 48 && ltb 1 (length w) ≡ false
     unpadded =
         by-test (eqb v 0)
         (λ z. rw (le-ltb 1 (length w) (let k : length w ≡ 1 = numeral-zero n (eqb-true v 0 z) in omega arith)) (never (eqb (getD w 0 0) 48)))
-        (λ z. rw (ne-eqb (getD w 0 0) 48 (numeral-leads n (above (eqb-false v 0 z)))))
+        (λ z. rw (ne-eqb (getD w 0 0) 48 (numeral-leads n (above-zero v (eqb-false v 0 z)))))
 
 -- a numeral has one value
 pub numeral-one : {w : List ℕ} {v u : ℕ} → Numeral w v → Numeral w u → v ≡ u

@@ -4,8 +4,8 @@ use mathlib.Core.Path.{_≡_, sym, ap, _∙_}
 use mathlib.Core.List.{List, _++_, append-assoc}
 use Prim.Native.Nat.{ℕ, _+_, _-_, _≤_, _<_}
 use native.Mathlib.Omega.{arith}
-use lib.ListN.{length, drop, length-append, length-drop}
-use lib.Seq.{drop-drop, drop-append-seam}
+use lib.ListN.{length, take, drop, length-append, length-drop}
+use lib.Seq.{take-all, drop-drop, drop-append-seam}
 
 -- the bytes of s from a place `at` up to the place `n` are w
 pub record Between (s : List ℕ) (at n : ℕ) (w : List ℕ) : Type 0 where
@@ -25,6 +25,10 @@ between-both {s} {a} {b} {c} {v} {w} p q =
 -- what stands after the bytes w of a place
 pub after-bytes : (s : List ℕ) (at : ℕ) (w r : List ℕ) → drop at s ≡ w ++ r → drop (at + length w) s ≡ r
 after-bytes s at w r e = sym (drop-drop (length w) at s) ∙ (ap (drop (length w)) e ∙ drop-append-seam w r)
+
+-- the part of a text from a place to its end is all that is behind the place
+pub whole-behind : (s : List ℕ) (at : ℕ) → take (length s - at) (drop at s) ≡ drop at s
+whole-behind s at = take-all (length s - at) (drop at s) (rw length-drop (omega arith))
 
 -- how far the text reaches behind a place where w stands
 pub length-behind : (s : List ℕ) (at : ℕ) (w r : List ℕ) → drop at s ≡ w ++ r → length s - at ≡ length w + length r

@@ -1,8 +1,8 @@
--- What a test that joins two others tells. Everything is by cases on the first.
+-- What a test tells, alone, joined to another, or in a choice. Everything is by cases on it.
 -- Assumes nothing.
 use mathlib.Core.Path.{_≡_, refl}
 use mathlib.Core.Bool.{Bool, true, false, cond, _&&_}
-use Prim.Native.Nat.{ℕ}
+use Prim.Native.Nat.{ℕ, _<_}
 use native.Mathlib.Omega.{arith}
 
 pub false-true : _≡_ {A = Bool} false true → ⊥
@@ -28,3 +28,6 @@ by-test {A} t f g = go t refl
 pub test-case : {A : Type 0} (P : A → Type 0) (t : Bool) (x y : A) → (t ≡ true → P x) → (t ≡ false → P y) → P (cond t x y)
 test-case P true x y h k = h refl
 test-case P false x y h k = k refl
+
+pub above-zero : (v : ℕ) → (v ≡ 0 → ⊥) → 0 < v
+above-zero v f = omega arith

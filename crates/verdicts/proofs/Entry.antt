@@ -75,20 +75,17 @@ module _ (c : Card) (t : Table) (step drift : ℕ) (w : List ℤ) where
 pub few-cells : (n r : ℕ) → n ≤ 64 → r ≤ 4_096 → 2 * n * r ≤ 524_288
 few-cells n r h k = let l : 2 * n ≤ 128 = omega arith in omega (arith, mul-le-mul-right r l)
 
+-- the root's rows are the last two
+root-row : (c : Card) (t : Table) (step size : ℕ) → Ready c t step size → (b : Bool) → row-of b (t .count - 1) < 2 * t .count
+root-row c t step size ok true = omega (arith, ok .sound .ruled .some-node)
+root-row c t step size ok false = omega (arith, ok .sound .ruled .some-node)
+
 -- the root's cells, of the requirement and of its negation
 pub root-cell : (c : Card) (t : Table) (step : ℕ) (w : List ℤ) {work : List ℤ} → Ready c t step (length w) → work ≡ cells c step (t .nodes) (t .count) w → (b : Bool) → cell work (rows c) (row-of b (t .count - 1)) 0 ≡ strong c step (t .nodes) b (t .count - 1) 0
 root-cell c t step w ok e b =
-    rw e (rows-in (rows c) (row-value c step (t .nodes)) (2 * t .count) w (row-of b (t .count - 1)) 0 _ (inside b) (omega (arith, ok .sound .recorded .lengths .some-row)) (ok .room))
+    rw e (rows-in (rows c) (row-value c step (t .nodes)) (2 * t .count) w (row-of b (t .count - 1)) 0 _ (root-row c t step (length w) ok b) (omega (arith, ok .sound .recorded .lengths .some-row)) (ok .room))
     ∙ row-value-of c step (t .nodes) b (t .count - 1) 0
-  where
-    inside : (b : Bool) → row-of b (t .count - 1) < 2 * t .count
-    inside true = omega (arith, ok .sound .ruled .some-node)
-    inside false = omega (arith, ok .sound .ruled .some-node)
 
 pub root-inside : (c : Card) (t : Table) (step : ℕ) (w : List ℤ) {work : List ℤ} → Ready c t step (length w) → work ≡ cells c step (t .nodes) (t .count) w → (b : Bool) → row-of b (t .count - 1) * rows c + 0 < length work
 root-inside c t step w ok e b =
-    omega (arith, ap length e ∙ length-rows (rows c) (row-value c step (t .nodes)) (2 * t .count) w, earlier-row (row-of b (t .count - 1)) (2 * t .count) (rows c) (inside b), ok .room, ok .sound .recorded .lengths .some-row)
-  where
-    inside : (b : Bool) → row-of b (t .count - 1) < 2 * t .count
-    inside true = omega (arith, ok .sound .ruled .some-node)
-    inside false = omega (arith, ok .sound .ruled .some-node)
+    omega (arith, ap length e ∙ length-rows (rows c) (row-value c step (t .nodes)) (2 * t .count) w, earlier-row (row-of b (t .count - 1)) (2 * t .count) (rows c) (root-row c t step (length w) ok b), ok .room, ok .sound .recorded .lengths .some-row)

@@ -3,10 +3,11 @@
 use mathlib.Core.Path.{_≡_, sym, ap, subst, _∙_}
 use mathlib.Core.List.{List}
 use Prim.Native.Nat.{ℕ}
+use Rattle.text.proofs.Places.{whole-behind}
 use Rattle.requirements.specs.declared.Requirement.{Requirement}
 use Rattle.requirements.specs.Requirement.{requirement-of}
 use Rattle.answers.specs.Answers.{listing, rows-part, requirement-part, table-answer, Checked}
-use Rattle.answers.proofs.Wholes.{requirement-refused, requirement-read, whole-part}
+use Rattle.answers.proofs.Wholes.{requirement-refused, requirement-read}
 use borrow.Author.Needs.{needs}
 use Rattle.answers.proofs.answer_for.Statement.{statement}
 use Rattle.answers.proofs.answer_for.Tie as tie
@@ -49,14 +50,14 @@ part-judge-rows-end c = search needs
 judge-rows-requires : tie.Need-judge-rows-requires
 judge-rows-requires c κs =
     let s = c .before .before .before .before .before .before in
-    subst (λ (t : List ℕ). Checked t (s .args .sheet .channels)) (sym (whole-part (s .args .text .now) (s .args .sheet .rows))) (s .pre .checked)
+    subst (λ (t : List ℕ). Checked t (s .args .sheet .channels)) (sym (whole-behind (s .args .text .now) (s .args .sheet .rows))) (s .pre .checked)
 
 returns-2 : tie.Need-returns-2
 returns-2 c =
     let s = c .before .before .before .before .before .before .before in
     let e : c .before .before .before .before .read-requirement .result ≡ requirement-of (requirement-part (s .args .text .now) (s .args .from) (s .args .to)) = c .before .before .before .before .read-requirement .ensures in
     c .judge-rows .ensures
-    ∙ (ap (λ (t : List ℕ). table-answer (s .args .sheet) (listing (s .args .sheet) t) (c .before .before .before .before .read-requirement .result .table)) (whole-part (s .args .text .now) (s .args .sheet .rows))
+    ∙ (ap (λ (t : List ℕ). table-answer (s .args .sheet) (listing (s .args .sheet) t) (c .before .before .before .before .read-requirement .result .table)) (whole-behind (s .args .text .now) (s .args .sheet .rows))
     ∙ (ap (λ (q : Requirement). table-answer (s .args .sheet) (listing (s .args .sheet) (rows-part (s .args .text .now) (s .args .sheet))) (q .table)) e
     ∙ requirement-read _ _ _ (ap (λ (q : Requirement). q .refusal) (sym e) ∙ c .before .before .if1 .left)))
 

@@ -1,14 +1,11 @@
 -- `text::key_at` meets its contract: each branch of the code is a case of the definition.
 -- Assumes nothing.
 use mathlib.Core.Path.{_∙_, ap}
-use Prim.Native.Nat.{_-_}
-use native.Mathlib.Omega.{arith}
-use lib.ListN.{length, drop, length-drop}
-use lib.Seq.{take-all}
 use denote.Ref.{now}
 use Rattle.text.specs.Mark.{prefix-of}
 use borrow.Author.Tests.{le-leb, lt-leb}
 use borrow.Author.Needs.{needs}
+use Rattle.text.proofs.Places.{whole-behind}
 use Rattle.text.proofs.key_at.Statement.{statement}
 use Rattle.text.proofs.key_at.Tie as tie
 use Rattle.text.proofs.key_at.Reads as reads
@@ -31,7 +28,7 @@ returns : tie.Need-returns
 returns c =
     let a = c .before .before .before .before .before .args in
     rw (le-leb _ _ (c .before .before .if1 .taken))
-    (c .starts-with .ensures ∙ ap (prefix-of (now (a .key))) (take-all (length (now (a .s)) - a .at) (drop (a .at) (now (a .s))) (rw length-drop (omega arith))))
+    (c .starts-with .ensures ∙ ap (prefix-of (now (a .key))) (whole-behind (now (a .s)) (a .at)))
 
 returns-2 : tie.Need-returns-2
 returns-2 c = simp (lt-leb _ _ (c .if1 .left))
