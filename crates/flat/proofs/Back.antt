@@ -15,7 +15,8 @@ use Rattle.recordings.specs.declared.Predicate.{Predicate}
 use Rattle.recordings.specs.declared.Range.{Range}
 use Rattle.recordings.specs.declared.Range.the-variants.{Unset, Free, AtLeast, AtMost, Between}
 use Rattle.tables.specs.declared.Node.{Node}
-use Rattle.predicate_lines.specs.Form.{none, unset}
+use Rattle.recordings.specs.Card.{unset-predicate as none}
+use Rattle.predicate_lines.specs.Form.{unset}
 use Rattle.building.specs.Nodes.{empty-node}
 use Rattle.building.specs.Storing.{cells-of, nodes-from}
 use Rattle.building.proofs.Cells.{zeros, length-cells, cells-append, table-back}

@@ -20,7 +20,9 @@ use Rattle.predicate_lines.specs.declared.Bound.the-variants.{Missing, A
 use Rattle.predicate_lines.specs.declared.Line.{Line}
 use Rattle.predicate_lines.specs.declared.Line.the-variants.{Set, Bad}
 use Rattle.predicate_lines.specs.declared.Predicates.{Predicates}
-use Rattle.predicate_lines.specs.Form.{range-of, Line as Form·Line, none, unset, is-unset, Lines, over, more}
+use Rattle.predicate_lines.specs.Form.{range-of, Line as Form·Line, unset, Lines, over, more}
+use Rattle.recordings.specs.Card.{unset-predicate as none}
+use Rattle.recordings.specs.Distance.{is-unset}
 use Rattle.predicate_lines.specs.Lines.{line-at, after-line, broken-set, stored-in, with-line, lines-from, lines-at}
 use Rattle.predicate_lines.proofs.Written.{line-is, line-taken, line-fed}
 

@@ -2,7 +2,7 @@
 -- Assumes nothing.
 use Prim.Native.Nat.{ℕ, _≤_}
 use mathlib.Core.Path.{_≡_}
-use mathlib.Core.Bool.{Bool, true, false}
+use mathlib.Core.Bool.{true}
 use mathlib.Core.List.{List, [], _∷_, _++_}
 use lib.ListN.{getD, set, replicate}
 use lib.IntN.{ℤ}
@@ -12,6 +12,8 @@ use Rattle.text.specs.Numeral.{Numeral, Signed}
 use Rattle.recordings.specs.declared.Predicate.{Predicate}
 use Rattle.recordings.specs.declared.Range.{Range}
 use Rattle.recordings.specs.declared.Range.the-variants.{Unset, Free, AtLeast, AtMost, Between}
+use Rattle.recordings.specs.Card.{unset-predicate as none}
+use Rattle.recordings.specs.Distance.{is-unset}
 use Rattle.predicate_lines.specs.declared.Bound.{Bound}
 use Rattle.predicate_lines.specs.declared.Bound.the-variants.{Missing, At}
 
@@ -44,19 +46,9 @@ pub record Line (line : List ℕ) (number : ℕ) (predicate : Predicate) : Type 
   pub range : predicate .range ≡ range-of low high
   pub written : line ≡ bytes "p=" ++ p ++ bytes " ch=" ++ ch ++ bytes " lo=" ++ lo ++ bytes " hi=" ++ hi ++ bytes "\n"
 
-abbrev pub none : Predicate
-none = record { channel = 0; range = Unset }
-
 -- sixteen predicates, none of them set
 abbrev pub unset : List Predicate
 unset = replicate 16 none
-
-abbrev pub is-unset : Range → Bool
-is-unset Unset = true
-is-unset Free = false
-is-unset (AtLeast lo) = false
-is-unset (AtMost hi) = false
-is-unset (Between lo hi) = false
 
 -- lines that set predicates, one after the other: each number once
 pub data Lines : List Predicate → List (List ℕ) → List Predicate → Type 0 where

@@ -15,7 +15,9 @@ use Rattle.predicate_lines.specs.declared.End.the-variants.{Read, Bad as
 use Rattle.predicate_lines.specs.declared.Line.{Line}
 use Rattle.predicate_lines.specs.declared.Line.the-variants.{Set, Bad}
 use Rattle.predicate_lines.specs.declared.Predicates.{Predicates}
-use Rattle.predicate_lines.specs.Form.{range-of, none, unset, is-unset}
+use Rattle.predicate_lines.specs.Form.{range-of, unset}
+use Rattle.recordings.specs.Card.{unset-predicate as none}
+use Rattle.recordings.specs.Distance.{is-unset}
 
 -- an end behind its key
 unfoldable pub end-at : List ℕ → List ℕ → ℕ → End

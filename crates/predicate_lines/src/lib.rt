@@ -8,7 +8,7 @@ ghost use mathlib.Core.Path.{_≡_};
 ghost use Prim.Native.Nat.{_<_};
 ghost use Rattle.text.specs.Bytes.{bytes};
 ghost use Rattle.text.specs.Mark.{key-at};
-ghost use Rattle.predicate_lines.specs.Form.{range-of, is-unset, unset};
+ghost use Rattle.predicate_lines.specs.Form.{range-of, unset};
 ghost use Rattle.predicate_lines.specs.Lines.{end-at, line-at, broken-set, stored-in, with-line, lines-from, lines-at};
 
 // An end of a range; a missing one is written `*`.
@@ -93,18 +93,6 @@ fn read_line(s: &[u8], at: usize) -> Line
     Line::Set(number as usize, predicate, next)
 }
 
-fn is_unset(range: Range) -> bool
-    ensures { λ r. ⌜ r ≡ is-unset range ⌝ }
-{
-    match range {
-        Range::Unset => true,
-        Range::Free => false,
-        Range::AtLeast(_) => false,
-        Range::AtMost(_) => false,
-        Range::Between(_, _) => false,
-    }
-}
-
 // No predicate set.
 pub fn unset_predicates() -> [Predicate; 16]
     ensures { λ r. ⌜ r ≡ unset ⌝ }
@@ -134,7 +122,7 @@ fn store(ps: Predicates, number: usize, predicate: Predicate, next: usize) -> Pr
 {
     let old = ps.all[number];
     let range = old.range;
-    if !is_unset(range) {
+    if !recordings::is_unset(range) {
         return broken();
     }
     let mut all = ps.all;

@@ -18,12 +18,12 @@ use Rattle.lists.proofs.Below.{yes-or, all-at, at-all}
 use Rattle.recordings.specs.declared.Predicate.{Predicate}
 use Rattle.recordings.specs.declared.Range.{Range}
 use Rattle.recordings.specs.declared.Range.the-variants.{Unset, Free, AtLeast, AtMost, Between}
-use Rattle.recordings.specs.Card.{Card, predicate}
+use Rattle.recordings.specs.Card.{predicate-at, Card, predicate}
 use Rattle.recordings.specs.Accepted.{InRange, Ends, Proper, Channels}
 use Rattle.tables.specs.declared.Node.{Node}
 use Rattle.tables.specs.declared.Table.{Table}
 use Rattle.tables.specs.Tree.{node-at}
-use Rattle.predicates.specs.Predicates.{predicate-at, is-set, names-set, all-named, Named, value-obeys, range-obeys, predicate-obeys, predicates-obey, channels-obey}
+use Rattle.predicates.specs.Predicates.{is-set, names-set, all-named, Named, value-obeys, range-obeys, predicate-obeys, predicates-obey, channels-obey}
 
 unset-is : (r : Range) → T (not (is-set r)) → r ≡ Unset
 unset-is Unset t = refl
@@ -32,8 +32,8 @@ unset-is (AtLeast lo) t = absurd t
 unset-is (AtMost hi) t = absurd t
 unset-is (Between lo hi) t = absurd t
 
-is-unset : {r : Range} → r ≡ Unset → T (not (is-set r))
-is-unset e = rw e tt
+unset-not : {r : Range} → r ≡ Unset → T (not (is-set r))
+unset-not e = rw e tt
 
 set-is : (r : Range) → (r ≡ Unset → ⊥) → T (is-set r)
 set-is Unset h = absurd (h refl)
@@ -51,7 +51,7 @@ named c t h = record {
       let s = all-at (λ j. names-set (c .predicates) (node-at (t .nodes) j)) (t .count) h k i in
       elim (or-yes (not (eqb (n .kind) 1)) (is-set (predicate c (n .left) .range)) s) [
         | inl x ↦ T-not (eqb (n .kind) 1) x (yes-eqb e)
-        | inr x ↦ T-not (is-set (predicate c (n .left) .range)) (is-unset u) x
+        | inr x ↦ T-not (is-set (predicate c (n .left) .range)) (unset-not u) x
       ];
 }
 
@@ -115,7 +115,7 @@ pub proper-passes : (channels : ℕ) (p : Predicate) → Proper channels p → T
 unfolding predicate-obeys
 proper-passes channels p r =
     yes-and (not (is-set (p .range)) || ltb (p .channel) channels) (range-obeys (p .range))
-    (yes-or (not (is-set (p .range))) (ltb (p .channel) channels) (elim (r .known) [ inl h ↦ inl (is-unset h) | inr h ↦ inr (lt→ltb (p .channel) channels h) ]))
+    (yes-or (not (is-set (p .range))) (ltb (p .channel) channels) (elim (r .known) [ inl h ↦ inl (unset-not h) | inr h ↦ inr (lt→ltb (p .channel) channels h) ]))
     (ends-pass (p .range) (r .ends))
 
 pub channels-are : (c : Card) → length (c .predicates) ≤ 16 → T (channels-obey (c .channels) (c .predicates)) → Channels c

@@ -12,22 +12,15 @@ use Rattle.lists.specs.Fold.{all-below}
 use Rattle.recordings.specs.declared.Predicate.{Predicate}
 use Rattle.recordings.specs.declared.Range.{Range}
 use Rattle.recordings.specs.declared.Range.the-variants.{Unset, Free, AtLeast, AtMost, Between}
-use Rattle.recordings.specs.Card.{Card, predicate}
+use Rattle.recordings.specs.Card.{Card, predicate, predicate-at}
+use Rattle.recordings.specs.Distance.{is-unset}
 use Rattle.tables.specs.declared.Node.{Node}
 use Rattle.tables.specs.declared.Table.{Table}
 use Rattle.tables.specs.Tree.{node-at}
 use Rattle.tables.specs.Rules.{table-obeys}
 
--- a number that no predicate has is unset
-abbrev pub predicate-at : List Predicate → ℕ → Predicate
-predicate-at ps p = getD ps p (record { channel = 0; range = Unset })
-
 abbrev pub is-set : Range → Bool
-is-set Unset = false
-is-set Free = true
-is-set (AtLeast lo) = true
-is-set (AtMost hi) = true
-is-set (Between lo hi) = true
+is-set r = not (is-unset r)
 
 -- ---- 3: a node names a predicate that is unset
 unfoldable pub names-set : List Predicate → Node → Bool

@@ -16,13 +16,7 @@ pub const HIGHEST: i64 = 1_000_000_000;
 pub fn is_set(range: Range) -> bool
     ensures { λ r. ⌜ r ≡ is-set range ⌝ }
 {
-    match range {
-        Range::Unset => false,
-        Range::Free => true,
-        Range::AtLeast(_) => true,
-        Range::AtMost(_) => true,
-        Range::Between(_, _) => true,
-    }
+    !recordings::is_unset(range)
 }
 
 // Whether the predicate that a node names, if it names one, is set.

@@ -25,8 +25,14 @@ abbrev pub value : Card → ℕ → ℕ → ℤ
 value c ch i = getD (c .values) (i * c .channels + ch) (pos 0)
 
 -- a number that no predicate has is unset
+abbrev pub unset-predicate : Predicate
+unset-predicate = record { channel = 0; range = Unset }
+
+abbrev pub predicate-at : List Predicate → ℕ → Predicate
+predicate-at ps p = getD ps p unset-predicate
+
 abbrev pub predicate : Card → ℕ → Predicate
-predicate c p = getD (c .predicates) p (record { channel = 0; range = Unset })
+predicate c p = predicate-at (c .predicates) p
 
 abbrev pub first-time : Card → ℕ
 first-time c = time c 0

@@ -1,6 +1,6 @@
 -- The distance of a value from a predicate's range, over the whole numbers: signed and never zero.
 -- Assumes nothing.
-use mathlib.Core.Bool.{Bool, true, not, cond, _&&_}
+use mathlib.Core.Bool.{Bool, true, false, not, cond, _&&_}
 use mathlib.Core.Path.{_≡_}
 use Prim.Native.Nat.{ℕ, _≤_}
 use lib.Dec.{T}
@@ -13,6 +13,14 @@ use Rattle.recordings.specs.declared.Range.the-variants.{Unset, Free, At
 -- no margin is further from zero
 abbrev pub TOP : ℕ
 TOP = 4_000_000_000
+
+-- the one range that sets no predicate
+abbrev pub is-unset : Range → Bool
+is-unset Unset = true
+is-unset Free = false
+is-unset (AtLeast lo) = false
+is-unset (AtMost hi) = false
+is-unset (Between lo hi) = false
 
 -- a predicate is true inside its range; free takes every number, and so does unset, which no accepted table names
 abbrev pub contains : Range → ℤ → Bool
