@@ -3,9 +3,11 @@
 #[path = "../rust/src/names.rs"]
 #[allow(dead_code)]
 mod names;
+mod flat;
 mod plain;
 mod timing;
 
+use flat::{flat_nodes, flat_predicates};
 use names::Call;
 use plain::{Card, Node, Predicate, Range, NO_END};
 use timing::{seconds, Random};
@@ -18,22 +20,8 @@ struct Flat {
 }
 
 fn flat(nodes: &[Node], predicates: &[Predicate; 16]) -> Flat {
-    let mut f = Flat { nodes: [0; 320], ranges: [0; 32], ends: [0; 32] };
-    for (place, n) in f.nodes.chunks_mut(5).zip(nodes) {
-        place.copy_from_slice(&[n.kind, n.left as u64, n.right as u64, n.lo, n.hi]);
-    }
-    for (k, p) in predicates.iter().enumerate() {
-        let (range, lo, hi) = match p.range {
-            Range::Unset => (0, 0, 0),
-            Range::Free => (1, 0, 0),
-            Range::AtLeast(lo) => (2, lo, 0),
-            Range::AtMost(hi) => (3, 0, hi),
-            Range::Between(lo, hi) => (4, lo, hi),
-        };
-        f.ranges[2 * k..2 * k + 2].copy_from_slice(&[range, p.channel as u64]);
-        f.ends[2 * k..2 * k + 2].copy_from_slice(&[lo, hi]);
-    }
-    f
+    let (ranges, ends) = flat_predicates(predicates);
+    Flat { nodes: flat_nodes(nodes), ranges, ends }
 }
 
 fn call<'a>(f: &'a Flat, count: usize, card: &Card<'a>) -> Call<'a> {

@@ -18,14 +18,13 @@ fn has_failed(got: isize) -> bool {
     os::errno() != libc::EINTR
 }
 
-// One read, to behind the bytes that were read before.
-fn read_more(fd: i32, text: &mut [u8], done: usize) -> Step
-    requires { ⌜ done ≤ length (now text) ⌝ }
-    ensures { λ r. ⌜ r .done ≤ length (now (text .exit)) ⌝ }
+// What a read or a write that answered `got` moved, behind the bytes that were moved before.
+fn step_after(got: isize, bytes: &[u8], done: usize) -> Step
+    requires { ⌜ done ≤ length (now bytes) ⌝ }
+    ensures { λ r. ⌜ r .done ≤ length (now (bytes .entry)) ⌝ }
 {
-    let got = libc::read(fd, &mut text[done..]);
     let failed = has_failed(got);
-    let more = io::count(got, &text[done..]);
+    let more = io::count(got, &bytes[done..]);
     Step {
         done: done + more,
         over: got == 0,
@@ -33,19 +32,20 @@ fn read_more(fd: i32, text: &mut [u8], done: usize) -> Step
     }
 }
 
-// One write, of what was not written before.
+fn read_more(fd: i32, text: &mut [u8], done: usize) -> Step
+    requires { ⌜ done ≤ length (now text) ⌝ }
+    ensures { λ r. ⌜ r .done ≤ length (now (text .exit)) ⌝ }
+{
+    let got = libc::read(fd, &mut text[done..]);
+    step_after(got, text, done)
+}
+
 fn write_more(fd: i32, line: &[u8], done: usize) -> Step
     requires { ⌜ done ≤ length (now line) ⌝ }
     ensures { λ r. ⌜ r .done ≤ length (now (line .entry)) ⌝ }
 {
     let got = libc::write(fd, &line[done..]);
-    let failed = has_failed(got);
-    let more = io::count(got, &line[done..]);
-    Step {
-        done: done + more,
-        over: got == 0,
-        failed: failed,
-    }
+    step_after(got, line, done)
 }
 
 // All of a text's bytes, as many as there is room for, or that it could not be read.

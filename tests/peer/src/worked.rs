@@ -194,7 +194,6 @@ fn reading_of_requirement_text() {
     same("p0|p1|p2", "(p0|p1)|p2");
     same("p0&p1&p2", "(p0&p1)&p2");
     same("p0U[0,1]!p1", "p0U[0,1](!p1)");
-    let node = |kind, left, right, lo, hi| Node { kind, left, right, lo, hi };
     let table = read_requirement(b"p2U[1,*](T|!p15)&F[0,1000000000]p0").unwrap();
     assert_eq!(
         table.nodes,
@@ -212,6 +211,51 @@ fn reading_of_requirement_text() {
     );
 }
 
+/// What of the example is replaced by what, so that a line breaks the text form.
+const BREAKS: &[(&str, &str)] = &[
+    ("chan=1", "chan=01"),
+    ("chan=1", "chan=-1"),
+    ("chan=1", "chan=4294967296"),
+    ("chan=1", "chan= 1"),
+    ("chan=1", "Chan=1"),
+    ("chan=1\n", ""),
+    ("p=0 ", "p=16 "),
+    ("p=0 ", "p=00 "),
+    ("p=0 ", "p=0  "),
+    ("ch=0", "ch=-0"),
+    ("lo=5", "lo=2147483648"),
+    ("lo=5", "lo=-2147483648"),
+    ("lo=5", "lo=-0"),
+    ("lo=5", "lo=05"),
+    ("lo=5", "lo=00000000005"),
+    ("hi=*", "hi="),
+    ("hi=*", "hi=* "),
+    ("p=0 ch=0 lo=5 hi=*\n", "p=0 ch=0 lo=5 hi=*\np=0 ch=0 lo=5 hi=*\n"),
+    ("step=1\n", ""),
+    ("step=1\n", "step=-1\n"),
+    ("step=1\n", "step=*\n"),
+    ("drift=2\n", ""),
+    ("drift=2\n", "drift=2\ndrift=2\n"),
+    ("req=", "rec="),
+    ("req=G[0,2]p0\n", "req=G[0,2]p0\nreq=G[0,2]p0\n"),
+    ("t=0 ", "t=4294967296 "),
+    ("t=0 ", "t=-0 "),
+    ("t=0 ", "t=+0 "),
+    ("t=2 src=m", "t=2 src=g"),
+    ("t=2 src=m", "t=2 src=mm"),
+    ("t=2 src=m", "t=2 src="),
+    ("t=2 src=m", "src=m t=2"),
+    ("v0=11", "v1=11"),
+    ("v0=11", "v0=11 v1=3"),
+    ("v0=11", "v0=-0"),
+    ("v0=11", "v0=-"),
+    ("v0=11", "v0=2147483648"),
+    (" v0=11", ""),
+    ("v0=11", "v0=11 "),
+    // The text of a filled row is judged too.
+    ("t=2 src=m", "t=4294967296 src=f"),
+];
+
 #[test]
 fn refusal_1() {
     for text in ["", "\n", "chan=1", "chan=1\n", "chan=1\r\n"] {
@@ -221,49 +265,7 @@ fn refusal_1() {
     refuses(EXAMPLE.strip_suffix('\n').unwrap(), 1);
     refuses(&format!("{EXAMPLE}\n"), 1);
     refuses(&format!("\n{EXAMPLE}"), 1);
-    for (old, new) in [
-        ("chan=1", "chan=01"),
-        ("chan=1", "chan=-1"),
-        ("chan=1", "chan=4294967296"),
-        ("chan=1", "chan= 1"),
-        ("chan=1", "Chan=1"),
-        ("chan=1\n", ""),
-        ("p=0 ", "p=16 "),
-        ("p=0 ", "p=00 "),
-        ("p=0 ", "p=0  "),
-        ("ch=0", "ch=-0"),
-        ("lo=5", "lo=2147483648"),
-        ("lo=5", "lo=-2147483648"),
-        ("lo=5", "lo=-0"),
-        ("lo=5", "lo=05"),
-        ("lo=5", "lo=00000000005"),
-        ("hi=*", "hi="),
-        ("hi=*", "hi=* "),
-        ("p=0 ch=0 lo=5 hi=*\n", "p=0 ch=0 lo=5 hi=*\np=0 ch=0 lo=5 hi=*\n"),
-        ("step=1\n", ""),
-        ("step=1\n", "step=-1\n"),
-        ("step=1\n", "step=*\n"),
-        ("drift=2\n", ""),
-        ("drift=2\n", "drift=2\ndrift=2\n"),
-        ("req=", "rec="),
-        ("req=G[0,2]p0\n", "req=G[0,2]p0\nreq=G[0,2]p0\n"),
-        ("t=0 ", "t=4294967296 "),
-        ("t=0 ", "t=-0 "),
-        ("t=0 ", "t=+0 "),
-        ("t=2 src=m", "t=2 src=g"),
-        ("t=2 src=m", "t=2 src=mm"),
-        ("t=2 src=m", "t=2 src="),
-        ("t=2 src=m", "src=m t=2"),
-        ("v0=11", "v1=11"),
-        ("v0=11", "v0=11 v1=3"),
-        ("v0=11", "v0=-0"),
-        ("v0=11", "v0=-"),
-        ("v0=11", "v0=2147483648"),
-        (" v0=11", ""),
-        ("v0=11", "v0=11 "),
-        // The text of a filled row is judged too.
-        ("t=2 src=m", "t=4294967296 src=f"),
-    ] {
+    for &(old, new) in BREAKS {
         refuses(&with(old, new), 1);
     }
 }
@@ -409,36 +411,42 @@ fn the_row_reader() {
     assert_eq!(read_rows(fits, 1, &mut times, &mut values).unwrap().measured, 4096);
 }
 
+const fn node(kind: u64, left: u64, right: u64, lo: u64, hi: u64) -> Node {
+    Node { kind, left, right, lo, hi }
+}
+
+/// Nodes that break a table rule, wherever in a table they stand.
+const BROKEN: &[Node] = &[
+    node(0, 1, 0, 0, 0),
+    node(0, 0, 0, 0, 1),
+    node(1, 2, 0, 0, 0),
+    node(1, 16, 0, 0, 0),
+    node(1, 0, 1, 0, 0),
+    node(1, u64::MAX, 0, 0, 0),
+    node(2, 1, 0, 0, 0),
+    node(2, 0, 0, 1, 1),
+    node(3, 0, 1, 0, 0),
+    node(4, 0, 0, 0, 5),
+    node(5, 0, 0, 2, 1),
+    node(5, 0, 0, 0, 1_000_000_001),
+    node(6, 0, 0, 1_000_000_001, NO_END),
+    node(6, 0, 0, 0, NO_END - 1),
+    node(6, 0, 0, 0, NO_END + 1),
+    node(7, 0, 1, 0, 0),
+    node(8, 1, 0, 0, 0),
+    node(9, 0, 0, 0, 0),
+    node(u64::MAX, 0, 0, 0, 0),
+];
+
 #[test]
 fn table_rules() {
     let (predicates, _) = bench();
     let broken = |nodes: &[Node]| Table { nodes: nodes.to_vec() }.broken(&predicates);
-    let node = |kind, left, right, lo, hi| Node { kind, left, right, lo, hi };
     let leaf = node(0, 0, 0, 0, 0);
     assert!(broken(&[]));
     assert!(!broken(&[leaf; 64]));
     assert!(broken(&[leaf; 65]));
-    for bad in [
-        node(0, 1, 0, 0, 0),
-        node(0, 0, 0, 0, 1),
-        node(1, 2, 0, 0, 0),
-        node(1, 16, 0, 0, 0),
-        node(1, 0, 1, 0, 0),
-        node(1, u64::MAX, 0, 0, 0),
-        node(2, 1, 0, 0, 0),
-        node(2, 0, 0, 1, 1),
-        node(3, 0, 1, 0, 0),
-        node(4, 0, 0, 0, 5),
-        node(5, 0, 0, 2, 1),
-        node(5, 0, 0, 0, 1_000_000_001),
-        node(6, 0, 0, 1_000_000_001, NO_END),
-        node(6, 0, 0, 0, NO_END - 1),
-        node(6, 0, 0, 0, NO_END + 1),
-        node(7, 0, 1, 0, 0),
-        node(8, 1, 0, 0, 0),
-        node(9, 0, 0, 0, 0),
-        node(u64::MAX, 0, 0, 0, 0),
-    ] {
+    for &bad in BROKEN {
         assert!(broken(&[leaf, bad]), "{bad:?}");
         // Also where the root doesn't reach it.
         assert!(broken(&[leaf, bad, leaf]), "{bad:?}");
