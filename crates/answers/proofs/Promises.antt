@@ -1,7 +1,7 @@
 -- What the answer to a whole text promises, in the customer's words: the order of refusals over the whole run, demand 3 from text to verdict, and that filled rows reach nothing.
 -- Assumes nothing.
 use mathlib.Core.Path.{_≡_, refl, sym, ap, subst, _∙_}
-use mathlib.Core.Bool.{Bool, true, false, cond}
+use mathlib.Core.Bool.{true, false}
 use mathlib.Core.Logic.{⊎-elim}
 use mathlib.Core.List.{List, [], _∷_, _++_}
 use Prim.Native.Nat.{ℕ, zero, suc, _≤_}
@@ -11,27 +11,25 @@ use lib.Dec.{leb→le, le→leb, eqb→eq}
 use lib.ListN.{length}
 use borrow.Author.Tests.{eq-eqb, ne-eqb}
 use Rattle.numbers.proofs.Parts.{holds as yes}
-use Rattle.recordings.specs.declared.Verdict.{Verdict}
 use Rattle.recordings.specs.declared.Verdict.the-variants.{Holds, Fails}
 use Rattle.recordings.specs.Card.{Card, rows}
 use Rattle.recordings.specs.Shown.{Shown}
 use Rattle.recordings.specs.Verdict.{verdict}
 use Rattle.tables.specs.declared.Table.{Table}
 use Rattle.tables.specs.Tree.{root}
-use Rattle.rules.specs.First.{Check, first, Exact, AllExact, Refused, Passed, unless-refused}
+use Rattle.refusals.specs.First.{Check, first, Exact, AllExact, Refused, Passed, unless-refused}
 use Rattle.rules.specs.Refusals.{table-checks, sample-checks}
-use Rattle.rules.proofs.First.{first-passes, first-fails, passed, none-fails, refused, first-is, first-append, first-of-whole, exact-append, exact-parts}
+use Rattle.refusals.proofs.First.{first-passes, first-fails, passed, none-fails, refused, first-is, first-append, first-of-whole, exact-append, exact-parts}
 use Rattle.sampling.specs.Sampling.{checks as sampling-checks}
 use Rattle.verdicts.specs.Answer.{room-check, refusal, judged}
 use Rattle.verdicts.proofs.Promises.{exact-checks, verdict-is, holds as verdict-holds, fails as verdict-fails}
 use Rattle.requirements.specs.declared.Requirement.{Requirement}
 use Rattle.requirements.specs.Requirement.{requirement-of}
 use Rattle.requirements.proofs.Answers.{answer-sound, answer-complete}
-use Rattle.row_lines.specs.Rows.{limit, Listing, rows-of}
+use Rattle.row_lines.specs.Rows.{limit, Listing}
 use Rattle.sheet_rows.specs.Answer.{filled-of}
 use Rattle.row_lines.specs.Same.{SameButFilled}
 use Rattle.row_lines.proofs.Exact.{rows-alike}
-use Rattle.predicate_lines.specs.Form.{unset}
 use Rattle.predicate_lines.proofs.Exact.{lines-keep}
 use Rattle.sheets.specs.declared.Sheet.{Sheet}
 use Rattle.sheets.specs.Form.{Form, blank}

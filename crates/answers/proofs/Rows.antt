@@ -1,10 +1,10 @@
 -- The row reader on the part behind a sheet's head: it refuses only channels out of range and more rows than there is room for, since the sheet has checked the lines.
 -- Assumes nothing.
 use mathlib.Core.Path.{_≡_, refl, sym, ap, subst, _∙_}
-use mathlib.Core.Bool.{Bool, true, false, not, cond, _&&_, _||_}
+use mathlib.Core.Bool.{Bool, true, false, _&&_, _||_}
 use mathlib.Core.Logic.{_⊎_, inl, inr, ⊎-elim}
-use mathlib.Core.List.{List, [], _∷_}
-use Prim.Native.Nat.{ℕ, zero, suc, _+_, _-_, _*_, _≤_}
+use mathlib.Core.List.{List, []}
+use Prim.Native.Nat.{ℕ, suc, _-_, _*_, _≤_}
 use native.Mathlib.Nat.{zero-mul, mul-le-mul}
 use native.Mathlib.Omega.{arith}
 use lib.Dec.{leb, ltb}
@@ -12,15 +12,15 @@ use lib.IntN.{ℤ}
 use lib.ListN.{length, take, drop}
 use lib.Seq.{take-append-seam}
 use borrow.Author.Tests.{leb-true, leb-false, lt-ltb, le-ltb}
-use Rattle.text.proofs.Tests.{both, false-true, by-test, never}
+use Rattle.text.proofs.Tests.{false-true, by-test}
 use Rattle.recordings.specs.declared.Predicate.{Predicate}
 use Rattle.recordings.specs.Card.{Card, rows}
 use Rattle.tables.specs.declared.Table.{Table}
 use Rattle.predicates.specs.Predicates.{channels-obey, predicates-obey}
-use Rattle.rules.specs.First.{first}
+use Rattle.refusals.specs.First.{first}
 use Rattle.rules.specs.Refusals.{card, checks}
 use Rattle.verdicts.specs.Answer.{refusal}
-use Rattle.row_lines.specs.Rows.{limit, channels-in-range, Listing, listed, broken, is-broken, rows-of}
+use Rattle.row_lines.specs.Rows.{limit, channels-in-range, Listing, listed, broken, rows-of}
 use Rattle.row_lines.proofs.Exact.{rows-exact}
 use Rattle.sheet_rows.specs.declared.Answer.{Answer}
 use Rattle.sheet_rows.specs.Answer.{measured-of, filled-of, too-many, answer-of, times-of, values-of, in-front, after}

@@ -1,21 +1,18 @@
 -- The order of refusals over a run is the order of its parts: a test that passes may be left out, and what stands behind a test that fails doesn't count.
 -- Assumes nothing.
-use mathlib.Core.Path.{_≡_, refl, sym, _∙_}
-use mathlib.Core.Bool.{Bool, true, false, cond, _&&_}
+use mathlib.Core.Path.{_≡_, refl}
+use mathlib.Core.Bool.{Bool, true, false, cond}
 use mathlib.Core.List.{List, [], _∷_, _++_}
-use Prim.Native.Nat.{ℕ, zero, suc, _+_, _*_, _≤_}
+use Prim.Native.Nat.{ℕ, suc, _+_, _≤_}
 use native.Mathlib.Omega.{arith}
-use lib.Dec.{leb, eqb}
-use lib.ListN.{length}
 use borrow.Author.Tests.{le-leb, lt-leb}
-use Rattle.recordings.specs.declared.Predicate.{Predicate}
 use Rattle.recordings.specs.Card.{Card, rows}
 use Rattle.tables.specs.declared.Table.{Table}
 use Rattle.predicates.specs.Predicates.{requirement-obeys, channels-obey}
-use Rattle.rules.specs.First.{Check, first}
+use Rattle.refusals.specs.First.{Check, first}
 use Rattle.rules.specs.Recording.{lengths-obey}
 use Rattle.rules.specs.Refusals.{card, table-checks, sample-checks, checks}
-use Rattle.rules.proofs.First.{first-passes, first-fails}
+use Rattle.refusals.proofs.First.{first-passes}
 use Rattle.sampling.specs.Sampling.{checks as sampling-checks}
 use Rattle.verdicts.specs.Answer.{room-check, refusal}
 use Rattle.answers.specs.Answers.{ROWS, CELLS, rows-check, table-run}

@@ -1,29 +1,26 @@
 -- The parts of a text in their order: the sheet, its requirement, its rows. What the sheet reader accepts has its places inside the text and its rows checked.
 -- Assumes nothing.
 use mathlib.Core.Path.{_≡_, refl, sym, ap}
-use mathlib.Core.Bool.{Bool, true, false}
 use mathlib.Core.List.{List, _++_}
-use Prim.Native.Nat.{ℕ, zero, suc, _+_, _-_, _≤_}
+use Prim.Native.Nat.{ℕ, zero, suc, _+_, _-_}
 use native.Mathlib.Omega.{arith}
-use lib.ListN.{length, take, drop, length-drop}
+use lib.ListN.{length, drop, length-drop}
 use borrow.Author.Tests.{eq-eqb, ne-eqb}
 use Rattle.tables.specs.declared.Table.{Table}
-use Rattle.rules.specs.First.{first, unless-refused}
-use Rattle.rules.proofs.First.{first-passes}
-use Rattle.requirements.specs.declared.Requirement.{Requirement}
+use Rattle.refusals.specs.First.{first, unless-refused}
+use Rattle.refusals.proofs.First.{first-passes}
 use Rattle.requirements.specs.Requirement.{requirement-of}
 use Rattle.text.specs.Bytes.{bytes}
 use Rattle.text.proofs.Places.{length-behind}
-use Rattle.row_lines.specs.Rows.{limit, channels-in-range, Listing, is-broken, rows-of}
+use Rattle.row_lines.specs.Rows.{Listing}
 use Rattle.row_lines.proofs.Exact.{rows-exact}
 use Rattle.sheets.specs.declared.Sheet.{Sheet}
 use Rattle.sheets.specs.Form.{Form}
 use Rattle.sheets.specs.Sheets.{sheet-of}
 use Rattle.sheets.proofs.Exact.{sheet-sound}
-use Rattle.sheets.proofs.Behind.{Behind, behind, rows-behind}
+use Rattle.sheets.proofs.Behind.{behind, rows-behind}
 use Rattle.sheet_rows.specs.Answer.{filled-of}
-use Rattle.answers.specs.declared.Outcome.{Outcome}
-use Rattle.answers.specs.Answers.{rows-part, listing, measured, requirement-check, table-run, answered, refused-by, table-answer, answer-for, requirement-in, listing-in, answer-of-text, Checked, Placed}
+use Rattle.answers.specs.Answers.{rows-part, measured, requirement-check, table-run, answered, refused-by, table-answer, answer-for, requirement-in, listing-in, answer-of-text, Checked, Placed}
 
 -- ---- the requirement
 

@@ -13,7 +13,7 @@ use Rattle.recordings.specs.Margin.{margin as margin-at}
 use Rattle.recordings.specs.Verdict.{hold as hold-of, fail as fail-of, verdict as verdict-of}
 use Rattle.tables.specs.declared.Table.{Table}
 use Rattle.tables.specs.Tree.{root}
-use Rattle.rules.specs.First.{Check, first, unless-refused}
+use Rattle.refusals.specs.First.{Check, first, unless-refused}
 use Rattle.rules.specs.Refusals.{card, table-checks, sample-checks}
 use Rattle.sampling.specs.Sampling.{checks as sampling-checks}
 use Rattle.verdicts.specs.Answer.{room-check}

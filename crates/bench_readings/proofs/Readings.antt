@@ -1,7 +1,7 @@
 -- K1 to K13 as one fact, from the requirement's text to the functions' answers: the whole table computes to its answers, and one lemma turns that into each entry.
 -- Assumes nothing.
 use mathlib.Core.Path.{_≡_, refl, sym, ap, _∙_}
-use mathlib.Core.List.{List, [], _∷_, map}
+use mathlib.Core.List.{List, [], map}
 use Prim.Native.Nat.{ℕ}
 use lib.ListN.{getD}
 use Rattle.lists.proofs.Maps.{map-at}
@@ -9,7 +9,7 @@ use Rattle.recordings.specs.Margin.{robustness}
 use Rattle.tables.specs.Tree.{trees, tree}
 use Rattle.tables.specs.Rules.{node-obeys, nodes-obey, table-obeys}
 use Rattle.predicates.specs.Predicates.{names-set, all-named, requirement-obeys, value-obeys, predicate-obeys, predicates-obey, channels-obey}
-use Rattle.rules.specs.First.{first}
+use Rattle.refusals.specs.First.{first}
 use Rattle.rules.specs.Recording.{lengths-obey, all-rising, all-early, times-obey, all-in-range, values-obey}
 use Rattle.sampling.specs.Sampling.{step-obeys, all-close, times-close, near, all-near, values-near}
 use Rattle.margins.specs.Answers.{judged as margin-judged}
@@ -19,7 +19,7 @@ use Rattle.text.specs.Number.{digits, value, number-at, field-at}
 use Rattle.grammar.specs.Tree.{size}
 use Rattle.building.specs.Nodes.{nodes-of}
 use Rattle.grammar.specs.Reading.{window-at, timed-at, timed-among, leaf-at, more-turns, bind-by, unary-by, unary-at, requirement-tree}
-use Rattle.bench_readings.specs.Readings.{Question, Answer, answer, Reading, readings}
+use Rattle.bench_readings.specs.Readings.{Answer, answer, Reading, readings}
 
 table : map (λ (r : Reading). map answer (r .asked)) readings ≡ map (λ (r : Reading). r .answered) readings
 unfolding robustness margin-judged judged refusal first tree trees requirement-obeys table-obeys nodes-obey node-obeys all-named names-set channels-obey predicates-obey predicate-obeys value-obeys times-obey all-rising all-early lengths-obey values-obey all-in-range step-obeys times-close all-close values-near all-near near prefix-of mark-at digits value number-at field-at size window-at timed-at timed-among leaf-at more-turns bind-by unary-by unary-at requirement-tree nodes-of

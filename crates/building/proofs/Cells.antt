@@ -1,16 +1,16 @@
 -- Nodes as cells: five numbers to a node, written in one run, and read back as the table of the nodes.
 -- Assumes nothing.
-use mathlib.Core.Path.{_≡_, refl, sym, ap, _∙_}
-use mathlib.Core.List.{List, [], _∷_, _++_, append-assoc, append-nil}
+use mathlib.Core.Path.{_≡_, refl, sym}
+use mathlib.Core.List.{List, [], _∷_, _++_, append-assoc}
 use Prim.Native.Nat.{ℕ, zero, suc, _+_, _-_, _*_, _≤_, _<_}
 use native.Mathlib.Nat.{add-zero}
-use native.Mathlib.Numerals.{add-one, towards-suc}
+use native.Mathlib.Numerals.{towards-suc}
 use native.Mathlib.Omega.{arith}
-use lib.ListN.{length, getD, take, set, replicate, length-append, length-take, List·getD-append}
+use lib.ListN.{length, getD, take, set, replicate, length-append, length-take}
 use lib.Seq.{sets, sets-eq, set-at, take-suc, take-all}
 use Rattle.tables.specs.declared.Node.{Node}
 use Rattle.grammar.specs.Tree.{Tree, truth, predicate, one, two, size}
-use Rattle.building.specs.Nodes.{node, empty-node, nodes-of}
+use Rattle.building.specs.Nodes.{empty-node, nodes-of}
 use Rattle.building.specs.Storing.{cells-of, node-from, nodes-from}
 
 -- ---- counts

@@ -2,8 +2,8 @@
 -- Assumes nothing.
 use mathlib.Core.Path.{_≡_, refl, sym, ap, _∙_}
 use mathlib.Core.List.{List, [], _∷_, _++_, append-assoc}
-use mathlib.Core.Bool.{Bool, true, false, cond}
-use Prim.Native.Nat.{ℕ, zero, suc, _+_, _-_, _*_, _≤_, _<_}
+use mathlib.Core.Bool.{true, false}
+use Prim.Native.Nat.{ℕ, _+_, _-_, _*_, _≤_, _<_}
 use native.Mathlib.Nat.{add-zero}
 use native.Mathlib.Omega.{arith}
 use lib.ListN.{length, length-append}
@@ -25,7 +25,7 @@ use Rattle.grammar.specs.Reading.{Reading, got, none, on-got, closing, leaf-at}
 use Rattle.building.specs.declared.Step.{Step}
 use Rattle.building.specs.declared.Step.the-variants.{Read, Refused}
 use Rattle.building.specs.Nodes.{node, nodes-of}
-use Rattle.building.specs.Storing.{cells-of, step-of, Wrote, Done, after-step, pushed-step, pushed-cells, parent-step, wrap-cells, join-cells, closed-step}
+use Rattle.building.specs.Storing.{cells-of, step-of, Wrote, Done, pushed-step, pushed-cells, parent-step, wrap-cells, join-cells, closed-step}
 use Rattle.building.proofs.Cells.{length-nodes, sets-nodes}
 
 by-le : {A : Type 0} (m n : ℕ) → (m ≤ n → A) → (n < m → A) → A

@@ -1,25 +1,22 @@
 -- What is derived is read: by induction on the derivation, provided that what follows cannot belong to the part. A left-grouped part is read up to the turns that may follow it.
 -- Assumes nothing.
-use mathlib.Core.Path.{_≡_, refl, sym, ap, _∙_}
-use mathlib.Core.List.{List, [], _∷_, _++_, append-assoc}
-use mathlib.Core.Bool.{Bool, true, false, not, _&&_}
-use Prim.Native.Nat.{ℕ, zero, suc, _+_, _<_}
+use mathlib.Core.Path.{_≡_, refl, ap, _∙_}
+use mathlib.Core.List.{List, [], _++_, append-assoc}
+use mathlib.Core.Bool.{Bool, true, not, _&&_}
+use Prim.Native.Nat.{ℕ, zero, suc, _+_}
 use native.Mathlib.Omega.{arith}
 use lib.ListN.{length, getD, drop, length-append}
 use lib.Dec.{eqb}
 use borrow.Author.Tests.{not-true}
 use Rattle.text.specs.Bytes.{bytes}
-use Rattle.text.specs.Mark.{mark-at}
 use Rattle.text.specs.Number.{is-digit}
-use Rattle.text.specs.declared.Mark.the-variants.{Next, Bad as Mark·Bad}
-use Rattle.text.proofs.Tests.{both, false-true}
+use Rattle.text.proofs.Tests.{both}
 use Rattle.text.proofs.Places.{after-bytes}
 use Rattle.text.proofs.Answers.{mark-made, mark-first, field-made}
-use Rattle.grammar.specs.declared.Operator.the-variants.{Absent, Over}
-use Rattle.grammar.specs.Operators.{letters, letter, true-kind, predicate-kind, not-kind, and-kind, or-kind, binders, prefixes, _∈_}
-use Rattle.grammar.specs.Tree.{Tree, truth, predicate, one, two, no-span}
+use Rattle.grammar.specs.Operators.{letters, letter, true-kind, predicate-kind, not-kind, and-kind, or-kind, binders, prefixes}
+use Rattle.grammar.specs.Tree.{Tree, two, no-span}
 use Rattle.grammar.specs.Grammar.{Part, alternative, conjunction, bind, unary, Derives, alternative-one, alternative-more, conjunction-one, conjunction-more, bind-one, bind-two, unary-not, unary-timed, unary-true, unary-predicate, unary-group}
-use Rattle.grammar.specs.Reading.{Reading, got, none, on-got, Reads, leaf-at, prefix-at, timed-among, more, bind-by, unary-by, unary-at, bind-at, conjunction-at, alternative-at}
+use Rattle.grammar.specs.Reading.{Reading, got, Reads, leaf-at, more, bind-by, unary-by, unary-at, bind-at, conjunction-at, alternative-at}
 use Rattle.grammar.proofs.Letters.{all-in, none-of}
 use Rattle.grammar.proofs.Windows.{timed-made, timed-none}
 use Rattle.grammar.proofs.Turns.{Onward, more-over, more-turn}

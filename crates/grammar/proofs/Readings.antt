@@ -1,18 +1,17 @@
 -- The reading of a whole text is the grammar's: what is read is derived, what is derived is read, and so a text has at most one reading.
 -- Assumes nothing.
 use mathlib.Core.Path.{_≡_, refl, sym, subst, _∙_}
-use mathlib.Core.List.{List, [], _++_, append-nil}
+use mathlib.Core.List.{List, [], append-nil}
 use mathlib.Core.Bool.{Bool, true, false, cond}
-use Prim.Native.Nat.{ℕ, _≤_}
+use Prim.Native.Nat.{ℕ}
 use native.Mathlib.Nat.{zero-add}
-use native.Mathlib.Omega.{arith}
-use lib.ListN.{length, drop}
+use lib.ListN.{length}
 use lib.Seq.{drop-length}
 use lib.Dec.{leb, eqb}
 use borrow.Author.Tests.{eqb-true, eq-eqb, leb-true, le-leb}
 use Rattle.grammar.specs.Tree.{Tree, size}
 use Rattle.grammar.specs.Grammar.{alternative, Derives, Requires}
-use Rattle.grammar.specs.Reading.{Reading, got, none, on-got, alternative-at, whole, requirement-tree}
+use Rattle.grammar.specs.Reading.{Reading, got, none, alternative-at, requirement-tree}
 use Rattle.grammar.proofs.Sound.{Stands, none-got, got-taken, alternative-at-sound}
 use Rattle.grammar.proofs.Complete.{complete, alternative-done}
 

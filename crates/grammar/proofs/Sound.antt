@@ -1,9 +1,8 @@
 -- What is read is derived: each reader's answer comes with the production that it followed, from the bytes between the two places.
 -- Assumes nothing.
-use mathlib.Core.Path.{_≡_, refl, sym, ap, _∙_}
-use mathlib.Core.List.{List, [], _∷_, _++_, append-assoc}
-use mathlib.Core.Bool.{Bool, true, false}
-use Prim.Native.Nat.{ℕ, zero, suc, _+_, _≤_}
+use mathlib.Core.Path.{_≡_, refl}
+use mathlib.Core.List.{List, _++_, append-assoc}
+use Prim.Native.Nat.{ℕ, zero, suc, _+_}
 use native.Mathlib.Omega.{arith}
 use lib.ListN.{length}
 use Rattle.text.specs.Bytes.{bytes}
@@ -19,7 +18,7 @@ use Rattle.grammar.specs.declared.Operator.the-variants.{Absent, Over, B
 use Rattle.grammar.specs.Operators.{letter, true-kind, predicate-kind, not-kind, and-kind, or-kind, binders, prefixes}
 use Rattle.grammar.specs.Tree.{Tree, truth, predicate, one, two, no-span}
 use Rattle.grammar.specs.Grammar.{Part, alternative, conjunction, bind, unary, Derives, alternative-one, alternative-more, conjunction-one, conjunction-more, bind-one, bind-two, unary-not, unary-timed, unary-true, unary-predicate, unary-group}
-use Rattle.grammar.specs.Reading.{Reading, got, none, on-got, Reads, leaf-at, binder-at, prefix-at, timed-among, more-turns, more, bind-by, bind-of, conjunction-of, alternative-of, closing, unary-by, enclosing, unary-at, bind-at, conjunction-at, alternative-at}
+use Rattle.grammar.specs.Reading.{Reading, got, none, on-got, Reads, leaf-at, binder-at, prefix-at, timed-among, more-turns, bind-by, bind-of, conjunction-of, alternative-of, closing, unary-by, enclosing, unary-at, bind-at, conjunction-at, alternative-at}
 use Rattle.grammar.proofs.Windows.{OperatorIs, timed-is}
 use Rattle.grammar.proofs.Turns.{Onward}
 

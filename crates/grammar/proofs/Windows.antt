@@ -4,7 +4,7 @@ use mathlib.Core.Path.{_≡_, refl, sym, ap, _∙_}
 use mathlib.Core.List.{List, [], _∷_, _++_, append-assoc, List·Memᴰ·head, List·Memᴰ·tail, List·Memᴰ·not-nil, List·Memᴰ·cases-cons}
 use mathlib.Core.Logic.{_⊎_, inl, inr}
 use mathlib.Core.Bool.{Bool, true, false, not, cond}
-use Prim.Native.Nat.{ℕ, _+_, _≤_, _<_}
+use Prim.Native.Nat.{ℕ, _+_, _<_}
 use native.Mathlib.Omega.{arith}
 use lib.ListN.{length, getD, drop, length-append, List·getD-append}
 use lib.Dec.{ltb, eqb}
@@ -12,10 +12,9 @@ use borrow.Author.Tests.{ltb-true, ltb-false, le-ltb, ne-eqb, eqb-true, eq-eqb, 
 use Rattle.text.specs.Bytes.{bytes}
 use Rattle.text.specs.Numeral.{Numeral}
 use Rattle.text.specs.Mark.{mark-at, after-mark}
-use Rattle.text.specs.Number.{is-digit, number-at, field-at, after-number}
+use Rattle.text.specs.Number.{number-at, field-at, after-number}
 use Rattle.text.specs.declared.Mark.{Mark}
 use Rattle.text.specs.declared.Mark.the-variants.{Next, Bad as Mark·Bad}
-use Rattle.text.specs.declared.Field.the-variants.{Number}
 use Rattle.text.proofs.Tests.{both, by-test, false-true}
 use Rattle.text.proofs.Places.{Between, between-both, after-bytes}
 use Rattle.text.proofs.Digits.{digit-range}
@@ -24,8 +23,7 @@ use Rattle.text.proofs.Answers.{mark-is, mark-made, mark-first, field-is, field
 use Rattle.grammar.specs.declared.Span.{Span}
 use Rattle.grammar.specs.declared.Window.{Window}
 use Rattle.grammar.specs.declared.Window.the-variants.{Ends, Bad as Window·Bad}
-use Rattle.grammar.specs.declared.Operator.{Operator}
-use Rattle.grammar.specs.declared.Operator.the-variants.{Absent, Over, Bad as Operator·Bad}
+use Rattle.grammar.specs.declared.Operator.the-variants.{Absent, Over}
 use Rattle.grammar.specs.Operators.{letters, letter, _∈_}
 use Rattle.grammar.specs.Tree.{span, no-end, furthest}
 use Rattle.grammar.specs.Grammar.{WindowText, closed, endless}

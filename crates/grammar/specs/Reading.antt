@@ -1,13 +1,12 @@
 -- How the readers read the grammar: each part from a place of a text on, to its tree and the place after it.
 use Prim.Native.Nat.{ℕ, zero, suc}
 use mathlib.Core.List.{List, [], _∷_}
-use mathlib.Core.Bool.{Bool, true, false, cond}
+use mathlib.Core.Bool.{cond}
 use lib.ListN.{length}
 use lib.Dec.{leb, ltb, eqb}
 use Rattle.text.specs.Bytes.{bytes}
 use Rattle.text.specs.Mark.{mark-at, after-mark}
 use Rattle.text.specs.Number.{number-at, field-at, after-number}
-use Rattle.grammar.specs.declared.Span.{Span}
 use Rattle.grammar.specs.declared.Window.{Window}
 use Rattle.grammar.specs.declared.Window.the-variants.{Ends, Bad as Window·Bad}
 use Rattle.grammar.specs.declared.Operator.{Operator}

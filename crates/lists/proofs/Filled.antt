@@ -1,13 +1,13 @@
 -- What `fill` leaves at each place: inside the run the new value, elsewhere the old one. A part of a slice that was lent, filled and put back is a run in the whole.
 -- Assumes nothing.
-use mathlib.Core.Path.{_≡_, refl, sym, ap, _∙_}
+use mathlib.Core.Path.{_≡_, refl, ap, _∙_}
 use Prim.Native.Nat.{ℕ, zero, suc, _+_, _*_, _-_, _≤_, _<_}
 use native.Mathlib.Omega.{arith}
 use native.Mathlib.Nat.{zero-add, suc-add, mul-le-mul-right}
 use native.Mathlib.Numerals.{add-one}
 use native.Mathlib.Decide.{decLt}
 use mathlib.Core.List.{List, [], _∷_, _++_}
-use lib.ListN.{length, getD, set, take, drop, length-set, length-take, length-drop}
+use lib.ListN.{length, getD, set, take, length-set, length-take, length-drop}
 use borrow.Rule.Slice.PartMut.{midOf, postOf, putMid, put-same}
 use lib.Seq.{set-append-left, getD-set-same, getD-set-other, length-take-le}
 use Rattle.lists.specs.Fill.{fill, fill-rows}

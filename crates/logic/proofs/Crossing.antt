@@ -5,7 +5,6 @@ use mathlib.Core.Path.{_≡_, refl, sym, subst}
 use Prim.Native.Nat.{ℕ, suc, _+_, _-_, _≤_, _<_}
 use native.Mathlib.Nat.{add-suc, add-zero}
 use native.Mathlib.Omega.{arith}
-use lib.Dec.{T}
 use Rattle.logic.specs.Window.{Window}
 use Rattle.logic.specs.Formula.{Extremum, largest, smallest, Direction, future}
 use Rattle.logic.specs.Reading.{Places, place, count, offset}

@@ -1,7 +1,7 @@
 -- The sampling argument. Two rising lines of times with no gap above s end together and start at most s apart: then each place of one that its window
 -- holds is met on the other, rounding down where the other line starts no later and up where it starts later, so that both offsets differ by at most s.
 -- Assumes nothing.
-use mathlib.Core.Path.{_≡_, refl}
+use mathlib.Core.Path.{_≡_}
 use Prim.Native.Nat.{ℕ, zero, suc, _+_, _-_, _≤_, _<_}
 use native.Mathlib.Nat.{le-refl}
 use native.Mathlib.Omega.{arith}

@@ -1,7 +1,6 @@
 -- A window and its strengthening, over any bounds: whatever is at most a step from the contraction lies in the window, and whatever is at most a step
 -- from the window lies in its expansion.
 -- Assumes nothing.
-use mathlib.Core.Bool.{Bool}
 use Prim.Native.Nat.{ℕ, _+_, _-_, _≤_}
 use native.Mathlib.Omega.{arith}
 use lib.Dec.{T, leb, leb→le, le→leb, ltb→lt, lt→ltb}

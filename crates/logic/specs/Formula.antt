@@ -1,6 +1,5 @@
 -- Requirements as trees: Metric Temporal Logic over atoms P.
 -- Assumes nothing.
-use Prim.Native.Nat.{ℕ}
 use Rattle.logic.specs.Window.{Window}
 
 -- Which of two values an operator takes. "Or", until and eventually take the largest; "and", release and always, their duals, the smallest.

@@ -16,9 +16,9 @@ use Rattle.recordings.specs.Card.{Card, rows}
 use Rattle.recordings.specs.Margin.{margin}
 use Rattle.tables.specs.declared.Table.{Table}
 use Rattle.tables.specs.Tree.{tree, root}
-use Rattle.rules.specs.First.{first}
+use Rattle.refusals.specs.First.{first}
 use Rattle.rules.specs.Refusals.{checks, Sound}
-use Rattle.rules.proofs.First.{first-append, first-stays, first-passes, first-fails}
+use Rattle.refusals.proofs.First.{first-append, first-stays, first-passes, first-fails}
 use Rattle.rules.proofs.Refusals.{sound}
 use Rattle.margins.specs.declared.Answer.the-variants.{Margin, Refused}
 use Rattle.margins.specs.Answers.{outcome, room-check, refusal, judged, cells-after}

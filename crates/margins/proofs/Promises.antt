@@ -15,9 +15,9 @@ use Rattle.recordings.specs.Margin.{margin}
 use Rattle.recordings.proofs.Margins.{margin-bounded, margin-not-zero}
 use Rattle.tables.specs.declared.Table.{Table}
 use Rattle.tables.specs.Tree.{tree, root}
-use Rattle.rules.specs.First.{AllExact, Refused, unless-refused}
+use Rattle.refusals.specs.First.{AllExact, Refused, unless-refused}
 use Rattle.rules.specs.Refusals.{checks, Sound}
-use Rattle.rules.proofs.First.{refused, first-is, exact-append}
+use Rattle.refusals.proofs.First.{refused, first-is, exact-append}
 use Rattle.rules.proofs.Refusals.{exact, sound-passes}
 use Rattle.margins.specs.Answers.{room-check, margin-checks, refusal, judged, cells-after}
 use Rattle.margins.proofs.Answers.{accepted, refusal-none}

@@ -6,12 +6,11 @@ use lib.Dec.{leb}
 use lib.IntN.{ℤ, pos}
 use lib.ListN.{length}
 use Rattle.lists.specs.Fill.{fill-rows}
-use Rattle.logic.specs.Formula.{Formula}
 use Rattle.recordings.specs.Card.{Card, rows}
 use Rattle.recordings.specs.Margin.{margin}
 use Rattle.tables.specs.declared.Table.{Table}
 use Rattle.tables.specs.Tree.{tree, root}
-use Rattle.rules.specs.First.{Check, first, unless-refused}
+use Rattle.refusals.specs.First.{Check, first, unless-refused}
 use Rattle.rules.specs.Refusals.{checks}
 use Rattle.margins.specs.declared.Answer.{Answer}
 use Rattle.margins.specs.declared.Answer.the-variants.{Margin, Refused}

@@ -1,26 +1,23 @@
 -- What a node's kind makes of what its row asks for: the rows of its operands stand before it, and a predicate reads a channel that is there.
 -- Assumes nothing.
-use mathlib.Core.Path.{_≡_, refl, sym, subst}
+use mathlib.Core.Path.{_≡_, refl, subst}
 use mathlib.Core.Bool.{Bool, true, false, not}
 use mathlib.Core.List.{List}
-use mathlib.Core.Logic.{_⊎_, inl, inr}
-use Prim.Native.Nat.{ℕ, _+_, _*_, _≤_, _<_}
+use mathlib.Core.Logic.{inl, inr}
+use Prim.Native.Nat.{ℕ, _≤_, _<_}
 use native.Mathlib.Omega.{arith}
-use lib.ListN.{length}
 use lib.IntN.{ℤ}
 use Rattle.lists.specs.Fill.{fill}
 use Rattle.logic.specs.Window.{Window}
 use Rattle.logic.specs.Formula.{Extremum, largest, smallest, dual, future}
 use Rattle.logic.specs.Reading.{margin-extreme, margin-nothing}
 use Rattle.logic.specs.Negation.{turn}
-use Rattle.recordings.specs.declared.Predicate.{Predicate}
-use Rattle.recordings.specs.declared.Range.the-variants.{Unset}
 use Rattle.recordings.specs.Card.{Card, rows, predicate, samples}
 use Rattle.recordings.specs.Distance.{TOP}
 use Rattle.recordings.specs.Margin.{distance-at}
 use Rattle.rows.specs.Cells.{extremum-of, signed, Above, Leaf}
 use Rattle.temporal.specs.declared.Left.{Left}
-use Rattle.temporal.specs.Reading.{temporal-at, Rising, LeftEarlier}
+use Rattle.temporal.specs.Reading.{temporal-at, LeftEarlier}
 use Rattle.temporal.specs.Asks.{RowAsks}
 use Rattle.tables.specs.declared.Node.{Node}
 use Rattle.tables.specs.Kind.{operator, joined, binary, unary}

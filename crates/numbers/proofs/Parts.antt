@@ -3,11 +3,11 @@
 -- Assumes nothing.
 use mathlib.Core.Path.{_≡_, refl, sym, ap, subst}
 use mathlib.Core.Bool.{Bool, true, false, not, cond}
-use Prim.Native.Nat.{ℕ, zero, suc, _+_, _-_, _*_, _^_, _≤_, _<_, min, max}
+use Prim.Native.Nat.{ℕ, zero, suc, _+_, _-_, _^_, _≤_, _<_, min, max}
 use native.Mathlib.Omega.{arith}
 use lib.Dec.{T, not-T, ltb, leb, ltb→lt, lt→ltb, leb→le, le→leb, nltb→le, nleb→lt}
-use lib.IntN.{ℤ, pos, negsuc, negℤ, sucℤ, _-ℤ_, _+ℤ_, _*ℤ_, subℕ, natAbs}
-use lib.Signed.{ltZ, leZ, _≤ℤ_, mag}
+use lib.IntN.{ℤ, pos, negsuc, negℤ, sucℤ, _-ℤ_, _+ℤ_, subℕ, natAbs}
+use lib.Signed.{ltZ, leZ, mag}
 use mir.Syntax.{w64}
 use mir.Val.{SFits}
 use Rattle.numbers.specs.Order.{smaller-of, larger-of, Within}

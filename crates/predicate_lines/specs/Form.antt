@@ -11,7 +11,7 @@ use Rattle.text.specs.Number.{largest}
 use Rattle.text.specs.Numeral.{Numeral, Signed}
 use Rattle.recordings.specs.declared.Predicate.{Predicate}
 use Rattle.recordings.specs.declared.Range.{Range}
-use Rattle.recordings.specs.declared.Range.the-variants.{Unset, Free, AtLeast, AtMost, Between}
+use Rattle.recordings.specs.declared.Range.the-variants.{Free, AtLeast, AtMost, Between}
 use Rattle.recordings.specs.Card.{unset-predicate as none}
 use Rattle.recordings.specs.Distance.{is-unset}
 use Rattle.predicate_lines.specs.declared.Bound.{Bound}

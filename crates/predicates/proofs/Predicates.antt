@@ -2,18 +2,18 @@
 -- Assumes nothing.
 use mathlib.Core.Path.{_≡_, refl}
 use mathlib.Core.Bool.{Bool, true, false, not, _&&_, _||_}
-use mathlib.Core.Logic.{_⊎_, inl, inr}
+use mathlib.Core.Logic.{inl, inr}
 use mathlib.Core.List.{List}
 use Prim.Native.Nat.{ℕ, _≤_, _<_}
 use native.Mathlib.Omega.{arith}
 use native.Mathlib.Decide.{decLt}
 use borrow.Author.Tests.{eqb-true}
 use lib.Dec.{T, T-not, leb, ltb, eqb, leb→le, le→leb, ltb→lt, lt→ltb}
-use lib.ListN.{length, getD, List·getD-eq-default}
+use lib.ListN.{length, List·getD-eq-default}
 use lib.IntN.{ℤ, pos, negℤ}
 use lib.Signed.{leZ}
 use mir.Facts.{and-yes, yes-and, or-yes, yes-eqb}
-use Rattle.numbers.proofs.Parts.{plus, minus, holds, le-parts, parts-le, parts-apart, abs-parts}
+use Rattle.numbers.proofs.Parts.{holds, le-parts, parts-le, parts-apart, abs-parts}
 use Rattle.lists.proofs.Below.{yes-or, all-at, at-all}
 use Rattle.recordings.specs.declared.Predicate.{Predicate}
 use Rattle.recordings.specs.declared.Range.{Range}

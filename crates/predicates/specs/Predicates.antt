@@ -1,11 +1,10 @@
 -- The tests of refusal 4 and of what refusal 3 asks of the predicates. `proofs/Predicates` shows each equal to its sentence: `Channels` of `recordings/specs/Accepted`, and `Named` below.
 -- Assumes nothing.
 use mathlib.Core.Path.{_≡_}
-use mathlib.Core.Bool.{Bool, true, false, not, _&&_, _||_}
+use mathlib.Core.Bool.{Bool, true, not, _&&_, _||_}
 use mathlib.Core.List.{List}
 use Prim.Native.Nat.{ℕ, _<_}
 use lib.Dec.{leb, ltb, eqb}
-use lib.ListN.{getD}
 use lib.IntN.{ℤ, pos, negℤ}
 use lib.Signed.{leZ}
 use Rattle.lists.specs.Fold.{all-below}

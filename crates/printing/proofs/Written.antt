@@ -1,14 +1,12 @@
 -- Bytes written one after the other are the bytes written together, and a line with room for them says them.
 -- Assumes nothing.
 use mathlib.Core.Path.{_≡_, refl, sym, ap, subst, _∙_}
-use mathlib.Core.Bool.{Bool, true, false, cond}
 use mathlib.Core.List.{List, [], _∷_, _++_, append-assoc, append-nil}
-use Prim.Native.Nat.{ℕ, zero, suc, _+_, _≤_, _<_}
+use Prim.Native.Nat.{ℕ, _+_, _≤_, _<_}
 use native.Mathlib.Omega.{arith}
 use native.Mathlib.Decide.{decLt}
 use native.Mathlib.Numerals.{add-one}
 use lib.Seq.{take-suc, take-suc-set}
-use lib.Dec.{ltb}
 use lib.ListN.{length, set, take, getD, length-set}
 use borrow.Author.Tests.{lt-ltb, le-ltb}
 use Rattle.printing.specs.declared.Line.{Line}

@@ -17,7 +17,6 @@ use Rattle.logic.proofs.Margins.{above, above-tests, margins-dual, Decides, dec
 use Rattle.logic.proofs.Carry.{carried, itself}
 use Rattle.logic.proofs.Line.{climbs}
 use Rattle.logic.proofs.Crossing.{Dense, Close, bridge}
-use Rattle.recordings.specs.declared.Predicate.{Predicate}
 use Rattle.recordings.specs.declared.Range.the-variants.{Unset}
 use Rattle.recordings.specs.Card.{Card, rows, time, predicate, first-time, last-time, samples, span}
 use Rattle.recordings.specs.Margin.{distance-at, robustness}

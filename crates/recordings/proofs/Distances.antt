@@ -1,22 +1,21 @@
 -- One clearance, taken from either end, makes every distance: what is shown of it over its two arguments serves at least, at most and between alike.
 -- Assumes nothing.
 use mathlib.Core.Path.{_≡_, refl}
-use mathlib.Core.Bool.{Bool, true, false, not, cond, _&&_}
+use mathlib.Core.Bool.{Bool, true, false, not, cond}
 use mathlib.Core.Logic.{_⊎_, inl, inr}
 use Prim.Native.Nat.{ℕ, suc, _+_, _≤_, _<_}
 use native.Mathlib.Omega.{arith}
-use lib.Dec.{T, not-T, T-not}
-use mir.Facts.{and-yes, yes-and, and-no}
-use lib.IntN.{ℤ, pos, negℤ, sucℤ, _+ℤ_, _-ℤ_, natAbs}
+use lib.Dec.{T}
+use lib.IntN.{ℤ, pos, negℤ, sucℤ, _-ℤ_, natAbs}
 use lib.Signed.{leZ, ltZ}
 use Rattle.numbers.specs.Order.{Within}
-use Rattle.numbers.proofs.Parts.{plus, minus, lt-parts, parts-lt, nlt-parts, le-parts, parts-le, nle-parts, parts-nle, parts-eq, plus-neg, minus-neg, abs-parts, parts-apart, suc-parts, add-parts, sub-parts, within-diff, within-suc, within-more, within-either}
+use Rattle.numbers.proofs.Parts.{plus, minus, lt-parts, parts-lt, le-parts, parts-le, nle-parts, parts-nle, plus-neg, minus-neg, abs-parts, suc-parts, sub-parts, within-diff, within-suc, within-more, within-either}
 use Rattle.lists.proofs.Below.{same-test}
 use Rattle.logic.specs.Formula.{smallest}
-use Rattle.logic.proofs.Margins.{above, Sign, sign-step, Decides, decides-step, bounded-step}
+use Rattle.logic.proofs.Margins.{Sign, sign-step, Decides, decides-step}
 use Rattle.recordings.specs.declared.Range.{Range}
 use Rattle.recordings.specs.declared.Range.the-variants.{Unset, Free, AtLeast, AtMost, Between}
-use Rattle.recordings.specs.Distance.{contains, clearance, distance, Nearest, Measures}
+use Rattle.recordings.specs.Distance.{contains, clearance, distance}
 use Rattle.recordings.specs.Accepted.{InRange, Ends}
 
 -- ---- the clearance

@@ -1,24 +1,20 @@
 -- Demand 3 is not empty, and acceptance gives no history: the program's example has one, the ramp has none. Both are accepted; each sentence of acceptance is
 -- one test that computes over the recording.
 -- Assumes nothing.
-use mathlib.Core.Path.{_≡_, refl, subst}
+use mathlib.Core.Path.{_≡_, refl}
 use mathlib.Core.Bool.{Bool}
-use mathlib.Core.Logic.{_⊎_, inl, inr}
-use mathlib.Core.List.{List, [], _∷_}
+use mathlib.Core.Logic.{inl, inr}
 use Prim.Native.Nat.{ℕ, zero, suc, _+_, _-_, _*_, _≤_, _<_}
 use native.Mathlib.Omega.{arith}
-use lib.Dec.{T, leb, ltb, eqb, leb→le, ltb→lt, lit≤, lit<}
+use lib.Dec.{T, leb, ltb, leb→le, ltb→lt, lit≤, lit<}
 use lib.ListN.{length, getD}
 use lib.IntN.{ℤ, pos, _-ℤ_, natAbs}
-use Rattle.numbers.specs.Order.{Within}
-use Rattle.numbers.proofs.Parts.{plus, minus, abs-parts, sub-parts}
+use Rattle.numbers.proofs.Parts.{abs-parts, sub-parts}
 use Rattle.lists.specs.Fold.{all-below}
 use Rattle.lists.proofs.Below.{all-at}
-use Rattle.recordings.specs.declared.Predicate.{Predicate}
-use Rattle.recordings.specs.declared.Range.the-variants.{Unset, AtLeast}
 use Rattle.recordings.specs.Card.{Card, rows, time, value, predicate}
-use Rattle.recordings.specs.History.{Second, OneStep, History}
-use Rattle.recordings.specs.Accepted.{Accepted, Recorded, Proper}
+use Rattle.recordings.specs.History.{OneStep, History}
+use Rattle.recordings.specs.Accepted.{Accepted, Proper}
 use Rattle.recordings.specs.Examples.{example, ramp}
 
 -- the sentences of acceptance for a recording of one channel, as tests that compute

@@ -1,7 +1,7 @@
 -- The margin's sign is the truth over the samples, no margin is zero or beyond the top, and pushing "not" down changes neither margin nor truth. Each is one
 -- relation that the reading's operations keep.
 -- Assumes nothing.
-use mathlib.Core.Path.{_≡_, refl, sym, ap, _∙_, subst}
+use mathlib.Core.Path.{_≡_, sym, subst}
 use mathlib.Core.Bool.{Bool, true, false, not}
 use mathlib.Core.Logic.{_⊎_, inl, inr}
 use Prim.Native.Nat.{ℕ, _+_, _*_, _≤_, _<_}
@@ -9,7 +9,7 @@ use native.Mathlib.Omega.{arith}
 use native.Mathlib.Decide.{decLt}
 use lib.Dec.{T, lit<, lit≤}
 use lib.ListN.{length, getD, List·getD-eq-default}
-use lib.IntN.{ℤ, pos, negℤ}
+use lib.IntN.{ℤ, pos}
 use lib.Signed.{ltZ}
 use Rattle.numbers.specs.Order.{Within}
 use Rattle.numbers.proofs.Parts.{within-neg, within-more}
@@ -19,8 +19,8 @@ use Rattle.logic.specs.Negation.{push}
 use Rattle.logic.proofs.Steps.{read-step}
 use Rattle.logic.proofs.Duality.{signed, pushed, booleans-dual}
 use Rattle.logic.proofs.Margins.{Sign, sign-step, sign-negated, bounded-step, margins-dual}
-use Rattle.recordings.specs.Card.{Card, rows, value, predicate, samples, span}
-use Rattle.recordings.specs.Distance.{TOP, distance}
+use Rattle.recordings.specs.Card.{Card, value, predicate, samples, span}
+use Rattle.recordings.specs.Distance.{TOP}
 use Rattle.recordings.specs.Margin.{distance-at, true-at, robustness, margin, true-of}
 use Rattle.recordings.specs.History.{true-when, true-over}
 use Rattle.recordings.specs.Accepted.{InRange, Recorded}

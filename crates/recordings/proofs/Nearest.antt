@@ -4,7 +4,7 @@
 use mathlib.Core.Path.{_≡_, refl, sym, ap, _∙_, subst}
 use mathlib.Core.Bool.{Bool, true, false, not, cond, _&&_}
 use mathlib.Core.Logic.{_⊎_, inl, inr}
-use Prim.Native.Nat.{ℕ, suc, _+_, _≤_, _<_}
+use Prim.Native.Nat.{ℕ, _+_, _≤_, _<_}
 use native.Mathlib.Omega.{arith}
 use lib.Dec.{T}
 use mir.Facts.{and-yes, yes-and, and-no}
@@ -15,7 +15,7 @@ use Rattle.numbers.proofs.Parts.{plus, minus, lt-parts, parts-lt, parts-nlt, nl
 use Rattle.lists.proofs.Below.{same-test}
 use Rattle.recordings.specs.declared.Range.{Range}
 use Rattle.recordings.specs.declared.Range.the-variants.{Unset, Free, AtLeast, AtMost, Between}
-use Rattle.recordings.specs.Distance.{contains, clearance, distance, Nearest, Measures}
+use Rattle.recordings.specs.Distance.{clearance, distance, Nearest, Measures}
 use Rattle.recordings.specs.Accepted.{Ends}
 use Rattle.recordings.proofs.Distances.{Open}
 

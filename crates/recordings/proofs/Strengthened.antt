@@ -2,13 +2,13 @@
 -- the window does not, and an expanded one leaves none out; so the strengthened margin cannot be the larger.
 -- Assumes nothing.
 use mathlib.Core.Path.{_≡_, refl, sym, subst}
-use mathlib.Core.Bool.{Bool, true, false, not}
+use mathlib.Core.Bool.{Bool, true, false}
 use Prim.Native.Nat.{ℕ, _+_, _≤_, _<_}
 use native.Mathlib.Omega.{arith}
 use native.Mathlib.Decide.{decLe}
 use lib.Dec.{T}
-use lib.IntN.{ℤ, pos, negℤ}
-use lib.Signed.{ltZ, _≤ℤ_}
+use lib.IntN.{ℤ, negℤ}
+use lib.Signed.{_≤ℤ_}
 use Rattle.numbers.specs.Order.{Within}
 use Rattle.numbers.proofs.Parts.{plus, minus, lt-parts, parts-lt, parts-le, abs-parts, parts-apart, within-neg}
 use Rattle.logic.specs.Formula.{Formula, atom}

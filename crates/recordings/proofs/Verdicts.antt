@@ -1,27 +1,25 @@
 -- Demand 3 on the definitions. "Holds" and "fails" are one statement, with true and with false: a strengthened margin above the drift fixes the truth of the
 -- samples, because strengthening only lowers, and of every history, because the margin carries past the samples.
 -- Assumes nothing.
-use mathlib.Core.Path.{_≡_, refl, sym, subst}
-use mathlib.Core.Bool.{Bool, true, false, not, cond}
-use Prim.Native.Nat.{ℕ, _+_, _≤_, _<_}
+use mathlib.Core.Path.{_≡_, refl, subst}
+use mathlib.Core.Bool.{Bool, true, false, cond}
+use Prim.Native.Nat.{ℕ, _≤_, _<_}
 use native.Mathlib.Omega.{arith}
-use lib.Dec.{T, lit≤}
-use lib.IntN.{ℤ, pos, negℤ}
-use lib.Signed.{ltZ, _≤ℤ_}
-use Rattle.numbers.proofs.Parts.{plus, minus, lt-parts, parts-lt, le-parts}
-use Rattle.lists.proofs.Below.{same-test}
+use lib.Dec.{T}
+use lib.IntN.{ℤ, pos}
+use lib.Signed.{_≤ℤ_}
+use Rattle.numbers.proofs.Parts.{lt-parts, parts-lt, le-parts}
 use Rattle.logic.specs.Formula.{Formula}
 use Rattle.logic.specs.Reading.{booleans, margins}
 use Rattle.logic.specs.Strengthening.{strengthened}
 use Rattle.logic.proofs.Duality.{signed}
 use Rattle.logic.proofs.Margins.{Sign, above}
-use Rattle.recordings.specs.declared.Verdict.{Verdict}
 use Rattle.recordings.specs.declared.Verdict.the-variants.{Holds, Fails, NotShown}
 use Rattle.recordings.specs.Card.{Card}
 use Rattle.recordings.specs.Distance.{TOP}
 use Rattle.recordings.specs.Margin.{margin, true-of}
-use Rattle.recordings.specs.Verdict.{hold, fail, decide, verdict}
-use Rattle.recordings.specs.Accepted.{Accepted, Recorded}
+use Rattle.recordings.specs.Verdict.{hold, fail, verdict}
+use Rattle.recordings.specs.Accepted.{Accepted}
 use Rattle.recordings.specs.Shown.{Shown}
 use Rattle.recordings.proofs.Margins.{robustness-sign, top-positive, recorded-bounded}
 use Rattle.recordings.proofs.Strengthened.{strengthening-lowers}

@@ -1,10 +1,9 @@
 -- Two recordings: the program's example of document 01, and one that is accepted although no history follows it.
 -- Assumes nothing.
-use mathlib.Core.List.{List, [], _∷_}
-use Prim.Native.Nat.{ℕ}
-use lib.IntN.{ℤ, pos}
+use mathlib.Core.List.{[], _∷_}
+use lib.IntN.{pos}
 use Rattle.recordings.specs.declared.Range.the-variants.{AtLeast}
-use Rattle.recordings.specs.Card.{Card, value}
+use Rattle.recordings.specs.Card.{Card}
 
 -- p0 is "at least 5"; step 1, drift 2
 abbrev pub example : Card

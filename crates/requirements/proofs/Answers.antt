@@ -4,12 +4,10 @@ use mathlib.Core.Path.{_≡_, refl, sym, ap, _∙_}
 use mathlib.Core.List.{List}
 use Prim.Native.Nat.{ℕ}
 use native.Mathlib.Omega.{arith}
-use lib.ListN.{length}
 use Rattle.grammar.specs.Tree.{Tree}
 use Rattle.grammar.specs.Grammar.{Requires}
 use Rattle.grammar.specs.Reading.{Reading, got, none, requirement-tree}
-use Rattle.grammar.proofs.Readings.{reading-sound, reading-complete, reading-none, reading-refused}
-use Rattle.building.specs.Nodes.{table-of}
+use Rattle.grammar.proofs.Readings.{reading-sound, reading-complete, reading-refused}
 use Rattle.requirements.specs.declared.Requirement.{Requirement}
 use Rattle.requirements.specs.Requirement.{accepted, refused, answer-of, requirement-of}
 

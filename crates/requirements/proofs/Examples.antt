@@ -1,7 +1,7 @@
 -- The worked texts as one fact: the whole table computes to its answers, and one lemma turns that into each entry.
 -- Assumes nothing.
 use mathlib.Core.Path.{_≡_, refl, sym, ap, _∙_}
-use mathlib.Core.List.{List, [], _∷_, map}
+use mathlib.Core.List.{List, [], map}
 use Prim.Native.Nat.{ℕ}
 use lib.ListN.{getD}
 use Rattle.lists.proofs.Maps.{map-at}

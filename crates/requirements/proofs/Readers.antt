@@ -1,13 +1,10 @@
 -- The readers of the four parts: each branch of the code is a case of the grammar's reading, and a loop holds a reading whose further turns give the whole.
 -- Assumes nothing.
 use mathlib.Core.Path.{_≡_, refl, sym, ap, _∙_}
-use mathlib.Core.List.{List, [], _∷_}
-use mathlib.Core.Bool.{Bool, true, false, cond}
-use Prim.Native.Nat.{ℕ, zero, suc, _+_, _-_, _*_, _≤_, _<_}
+use mathlib.Core.List.{List}
+use Prim.Native.Nat.{ℕ, zero, suc, _+_, _-_, _≤_, _<_}
 use native.Mathlib.Omega.{arith}
 use lib.ListN.{length}
-use lib.Dec.{eqb, leb}
-use borrow.Author.Tests.{eq-eqb, ne-eqb, le-leb}
 use Rattle.text.specs.Bytes.{bytes}
 use Rattle.text.specs.Mark.{mark-at, after-mark}
 use Rattle.text.specs.declared.Mark.{Mark}
@@ -17,15 +14,15 @@ use Rattle.grammar.specs.declared.Span.{Span}
 use Rattle.grammar.specs.declared.Operator.{Operator}
 use Rattle.grammar.specs.declared.Operator.the-variants.{Absent, Over, Bad as Operator·Bad}
 use Rattle.grammar.specs.Operators.{letter, not-kind, binders, prefixes}
-use Rattle.grammar.specs.Tree.{Tree, one, two, size, no-span}
-use Rattle.grammar.specs.Reading.{Reading, got, none, on-got, Reads, leaf-at, prefix-at, binder-at, timed-among, more-turns, more, bind-by, bind-of, closing, unary-by, unary-at, bind-at, conjunction-at, alternative-at}
+use Rattle.grammar.specs.Tree.{Tree, two, size, no-span}
+use Rattle.grammar.specs.Reading.{Reading, got, none, on-got, Reads, leaf-at, prefix-at, binder-at, timed-among, more-turns, more, bind-by, closing, unary-by, unary-at, bind-at, conjunction-at, alternative-at}
 use Rattle.grammar.proofs.Windows.{timed-is}
 use Rattle.grammar.proofs.Turns.{Onward, more-none, more-over, more-turn}
 use Rattle.grammar.proofs.Sound.{sound-onward, unary-sound, bind-at-sound, conjunction-at-sound, got-taken}
 use Rattle.building.specs.declared.Step.{Step}
 use Rattle.building.specs.declared.Step.the-variants.{Read, Refused}
-use Rattle.building.specs.Storing.{step-of, Done, after-step, parent-step, wrap-cells, join-cells, closed-step}
-use Rattle.building.proofs.Stores.{step-big, step-none, refused-big, ReadIs, read-is, refused-done, done-as, one-done, two-done, close-done, cells-small}
+use Rattle.building.specs.Storing.{step-of, Done, after-step, parent-step, join-cells}
+use Rattle.building.proofs.Stores.{step-big, step-none, refused-big, ReadIs, read-is, refused-done, done-as, two-done, cells-small}
 
 -- ---- unary, by what it begins with
 

@@ -12,18 +12,16 @@ use lib.Dec.{leb, T}
 use borrow.Author.Tests.{leb-true, leb-false}
 use Rattle.text.proofs.Tests.{by-test}
 use Rattle.tables.specs.declared.Node.{Node}
-use Rattle.tables.specs.declared.Table.{Table}
 use Rattle.tables.specs.Kind.{kinds, operator}
-use Rattle.tables.specs.Tree.{NO-END}
-use Rattle.tables.specs.Rules.{Use, child, number, unused, left-use, right-use, timed, Used, WindowRules, EndsRules, NodeRules, TableRules, table-obeys}
+use Rattle.tables.specs.Rules.{Use, child, unused, left-use, right-use, timed, Used, WindowRules, EndsRules, NodeRules, TableRules, table-obeys}
 use Rattle.tables.proofs.Rules.{table-passes}
 use Rattle.grammar.specs.declared.Span.{Span}
 use Rattle.grammar.specs.Operators.{binders, prefixes, _∈_}
-use Rattle.grammar.specs.Tree.{Tree, truth, predicate, one, two, size, no-span}
+use Rattle.grammar.specs.Tree.{Tree, truth, predicate, one, two, size}
 use Rattle.grammar.specs.Grammar.{WindowText, closed, endless, Part, Derives, alternative-one, alternative-more, conjunction-one, conjunction-more, bind-one, bind-two, unary-not, unary-timed, unary-true, unary-predicate, unary-group, Requires}
 use Rattle.building.specs.Nodes.{node, empty-node, nodes-of, table-of}
 use Rattle.building.proofs.Cells.{size-some, length-nodes}
-use Rattle.requirements.specs.Requirement.{accepted, requirement-of}
+use Rattle.requirements.specs.Requirement.{requirement-of}
 use Rattle.requirements.proofs.Answers.{answer-sound}
 
 -- ---- what a kind asks for over one or two children

@@ -1,25 +1,24 @@
 -- The answer to a whole text: a refused reading, bytes that are left and a table of more than 64 nodes are refusal 2, and any other reading is its tree's table.
 -- Assumes nothing.
 use mathlib.Core.Path.{_≡_, refl, sym, ap, _∙_}
-use mathlib.Core.List.{List, [], _∷_, _++_}
-use mathlib.Core.Bool.{Bool, true, false, cond}
-use Prim.Native.Nat.{ℕ, _+_, _-_, _*_, _≤_, _<_}
+use mathlib.Core.List.{List, _++_}
+use Prim.Native.Nat.{ℕ, _+_, _-_, _≤_, _<_}
 use native.Mathlib.Nat.{zero-add}
 use native.Mathlib.Omega.{arith}
 use lib.ListN.{length, replicate}
 use lib.Seq.{sets}
-use lib.Dec.{leb, eqb}
+use lib.Dec.{eqb}
 use borrow.Author.Tests.{eq-eqb, ne-eqb, le-leb, lt-leb}
 use Rattle.tables.specs.declared.Node.{Node}
 use Rattle.tables.specs.declared.Table.{Table}
 use Rattle.text.proofs.Tests.{by-test}
-use Rattle.grammar.specs.Tree.{Tree, size}
-use Rattle.grammar.specs.Reading.{Reading, got, none, on-got, alternative-at, whole, requirement-tree}
+use Rattle.grammar.specs.Tree.{size}
+use Rattle.grammar.specs.Reading.{Reading, got, none, alternative-at, whole, requirement-tree}
 use Rattle.building.specs.declared.Step.{Step}
 use Rattle.building.specs.declared.Step.the-variants.{Read, Refused}
 use Rattle.requirements.specs.declared.Requirement.{Requirement}
 use Rattle.building.specs.Nodes.{empty-node, nodes-of, table-of}
-use Rattle.requirements.specs.Requirement.{refused, accepted, answer-of, requirement-of}
+use Rattle.requirements.specs.Requirement.{refused, answer-of, requirement-of}
 use Rattle.building.specs.Storing.{cells-of, step-of, Done, nodes-from, table-from}
 use Rattle.building.proofs.Cells.{zeros, length-nodes, table-back}
 use Rattle.building.proofs.Stores.{refused-big, ReadIs, read-is, done-as, cells-small}

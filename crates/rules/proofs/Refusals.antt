@@ -1,22 +1,19 @@
 -- Number 0 of refusals 3 to 7 says that every table rule and every sentence of `Recorded` holds, and the other way round: each entry of the list by its own law.
 -- Assumes nothing.
 use mathlib.Core.Path.{_≡_}
-use mathlib.Core.Bool.{Bool, _&&_}
-use mathlib.Core.List.{List}
 use Prim.Native.Nat.{ℕ, zero, suc, _≤_, _<_}
 use native.Mathlib.Omega.{arith}
-use lib.Dec.{T}
 use lib.ListN.{length}
 use mir.Facts.{and-yes, yes-and}
-use Rattle.recordings.specs.Card.{Card, rows}
+use Rattle.recordings.specs.Card.{Card}
 use Rattle.tables.specs.declared.Table.{Table}
 use Rattle.tables.specs.Rules.{table-obeys}
 use Rattle.tables.proofs.Rules.{table-rules, table-passes}
-use Rattle.rules.specs.First.{first, Exact, AllExact, check-at, Refused, Passed}
+use Rattle.refusals.specs.First.{first, Exact, AllExact, check-at, Refused, Passed}
 use Rattle.predicates.specs.Predicates.{requirement-obeys, all-named}
 use Rattle.predicates.proofs.Predicates.{named, named-passes, channels-are, channels-pass}
 use Rattle.rules.specs.Refusals.{checks, Sound}
-use Rattle.rules.proofs.First.{passed, none-fails, refused, first-is}
+use Rattle.refusals.proofs.First.{passed, none-fails, refused, first-is}
 use Rattle.rules.proofs.Recording.{lengths-are, lengths-pass, times-are, times-pass, values-are, values-pass}
 
 -- sixteen predicates are all there are

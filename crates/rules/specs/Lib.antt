@@ -1,4 +1,3 @@
--- How a refusal is found; the tests of a recording and its predicates; the refusals that come before a margin.
-pub mod First
+-- The tests of a recording, and the refusals that come before a margin.
 pub mod Recording
 pub mod Refusals

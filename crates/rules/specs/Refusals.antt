@@ -9,7 +9,7 @@ use Rattle.recordings.specs.Card.{Card, rows}
 use Rattle.recordings.specs.Accepted.{Channels, Lengths, Times, Values, Recorded}
 use Rattle.tables.specs.declared.Table.{Table}
 use Rattle.tables.specs.Rules.{TableRules}
-use Rattle.rules.specs.First.{Check}
+use Rattle.refusals.specs.First.{Check}
 use Rattle.predicates.specs.Predicates.{requirement-obeys, Named, channels-obey}
 use Rattle.rules.specs.Recording.{lengths-obey, times-obey, values-obey}
 

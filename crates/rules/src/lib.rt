@@ -3,7 +3,7 @@
 ghost use mathlib.Core.Path.{_≡_};
 ghost use Prim.Native.Nat.{_≤_, _<_};
 ghost use lib.ListN.{length};
-ghost use Rattle.rules.specs.First.{first};
+ghost use Rattle.refusals.specs.First.{first};
 ghost use Rattle.rules.specs.Recording.{lengths-obey, all-rising, all-early, times-obey, values-obey};
 ghost use Rattle.rules.specs.Refusals.{card, checks};
 use recordings::Predicate;

@@ -1,8 +1,7 @@
 -- Each test of refusals 9 to 11 holds exactly where its sentence does. Neighbouring values of a channel are those `channels` places apart: place m is channel m % channels of sample m / channels.
 -- Assumes nothing.
-use mathlib.Core.Path.{_≡_, refl, sym, ap}
-use mathlib.Core.Bool.{Bool, true, _&&_}
-use mathlib.Core.List.{List}
+use mathlib.Core.Path.{_≡_, refl, sym}
+use mathlib.Core.Bool.{_&&_}
 use Prim.Native.Nat.{ℕ, zero, suc, _+_, _-_, _*_, _/_, _%_, _≤_, _<_}
 use native.Mathlib.Omega.{arith}
 use native.Mathlib.Nat.{mul-le-mul-right, suc-mul, div-add-mod', mod-lt}
@@ -12,15 +11,15 @@ use lib.ListN.{length, getD}
 use lib.IntN.{ℤ, pos, _-ℤ_, natAbs}
 use lib.Signed.{leZ}
 use mir.Facts.{and-yes, yes-and}
-use Rattle.numbers.proofs.Parts.{plus, minus, holds, le-parts, parts-le, parts-apart, abs-parts, sub-parts}
+use Rattle.numbers.proofs.Parts.{le-parts, parts-le, parts-apart, abs-parts, sub-parts}
 use Rattle.lists.proofs.Below.{same-test, all-at, at-all}
 use Rattle.lists.proofs.Filled.{earlier-row}
 use Rattle.recordings.specs.Card.{Card, rows, time, value}
 use Rattle.recordings.specs.Accepted.{Step, Gapless, Steady, Recorded, Accepted}
 use Rattle.tables.specs.declared.Table.{Table}
-use Rattle.rules.specs.First.{first, Exact, AllExact, check-at}
+use Rattle.refusals.specs.First.{first, Exact, AllExact, check-at}
 use Rattle.rules.specs.Refusals.{checks as recording-checks}
-use Rattle.rules.proofs.First.{passed, none-fails}
+use Rattle.refusals.proofs.First.{passed, none-fails}
 use Rattle.rules.proofs.Refusals.{sound}
 use Rattle.sampling.specs.Sampling.{step-obeys, all-close, times-close, near, all-near, values-near, checks, samples-alone, Measured}
 

@@ -9,7 +9,7 @@ use lib.IntN.{ℤ, pos, _-ℤ_, natAbs}
 use Rattle.lists.specs.Fold.{all-below}
 use Rattle.recordings.specs.Card.{Card}
 use Rattle.recordings.specs.Accepted.{InRange, Step, Gapless, Steady}
-use Rattle.rules.specs.First.{Check}
+use Rattle.refusals.specs.First.{Check}
 use Rattle.rules.specs.Refusals.{card}
 
 -- ---- 9: step or drift out of range

@@ -5,7 +5,7 @@ ghost use Prim.Native.Nat.{_-_, _≤_, _<_};
 ghost use lib.Dec.{leb};
 ghost use lib.ListN.{length};
 ghost use Rattle.recordings.specs.Accepted.{InRange};
-ghost use Rattle.rules.specs.First.{first};
+ghost use Rattle.refusals.specs.First.{first};
 ghost use Rattle.sampling.specs.Sampling.{step-obeys, all-close, times-close, near, Comparable, all-near, values-near, checks, samples-alone, Measured, Comparables};
 
 // The step and the drift go up to this.

@@ -1,17 +1,15 @@
 -- Each test of the table's rules holds exactly where its sentence does. A test is taken apart into its parts and put together from them.
 -- Assumes nothing.
-use mathlib.Core.Path.{_≡_, refl, sym, subst}
 use mathlib.Core.Bool.{Bool, true, false, _&&_, _||_}
-use mathlib.Core.Logic.{_⊎_, inl, inr}
-use Prim.Native.Nat.{ℕ, _≤_, _<_}
+use mathlib.Core.Logic.{inl, inr}
+use Prim.Native.Nat.{ℕ}
 use lib.Dec.{T, leb, ltb, eqb, leb→le, le→leb, ltb→lt, lt→ltb, eqb→eq}
 use lib.ListN.{length}
 use mir.Facts.{and-yes, yes-and, or-yes, yes-eqb}
-use Rattle.lists.specs.Fold.{all-below}
 use Rattle.lists.proofs.Below.{yes-or, all-at, at-all}
 use Rattle.tables.specs.declared.Node.{Node}
 use Rattle.tables.specs.declared.Table.{Table}
-use Rattle.tables.specs.Kind.{Operator, kinds, operator}
+use Rattle.tables.specs.Kind.{kinds, operator}
 use Rattle.tables.specs.Tree.{NO-END, node-at}
 use Rattle.tables.specs.Rules.{Use, child, number, unused, left-use, right-use, timed, use-obeys, Used, window-obeys, WindowRules, ends-obey, EndsRules, node-obeys, NodeRules, nodes-obey, table-obeys, TableRules}
 

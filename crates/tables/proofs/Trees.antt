@@ -1,19 +1,18 @@
 -- The requirement of node k is its kind over the requirements of its children, because they are earlier nodes; so it depends on no later node.
 -- The list of the first k requirements is only ever added to, so looking a child up in it finds that child's own requirement.
 -- Assumes nothing.
-use mathlib.Core.Path.{_≡_, refl, sym, ap, _∙_}
-use mathlib.Core.List.{List, [], _∷_, _++_}
-use Prim.Native.Nat.{ℕ, zero, suc, _+_, _≤_, _<_}
+use mathlib.Core.Path.{_≡_, refl, ap, _∙_}
+use mathlib.Core.List.{List, []}
+use Prim.Native.Nat.{ℕ, zero, suc, _≤_, _<_}
 use native.Mathlib.Omega.{arith}
 use native.Mathlib.Decide.{ℕ-discrete}
 use lib.ListN.{length, getD, length-append, List·getD-append}
 use lib.Seq.{getD-at}
-use Rattle.logic.specs.Formula.{Formula, truth, atom, negation, junction, temporal}
+use Rattle.logic.specs.Formula.{Formula, truth, negation}
 use Rattle.tables.specs.declared.Node.{Node}
-use Rattle.tables.specs.declared.Table.{Table}
 use Rattle.tables.specs.Kind.{Operator, constant, named, negated, unknown, joined, binary, unary, operator}
-use Rattle.tables.specs.Tree.{formula, node-at, trees, tree, window, unary-left}
-use Rattle.tables.specs.Rules.{Used, left-use, right-use, NodeRules, TableRules}
+use Rattle.tables.specs.Tree.{formula, node-at, trees, tree}
+use Rattle.tables.specs.Rules.{Used, left-use, right-use, NodeRules}
 
 pub length-trees : (ns : List Node) (k : ℕ) → length (trees ns k) ≡ k
 unfolding trees

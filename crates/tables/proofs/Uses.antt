@@ -7,8 +7,8 @@ use Prim.Native.Nat.{ℕ, zero, suc, _≤_, _<_}
 use native.Mathlib.Omega.{arith}
 use lib.Dec.{leb, ltb, eqb}
 use borrow.Author.Tests.{le-leb, lt-leb, lt-ltb, le-ltb, ne-eqb}
-use Rattle.tables.specs.Kind.{Operator, kinds, operator}
-use Rattle.tables.specs.Rules.{Use, child, number, unused, left-use, right-use, timed}
+use Rattle.tables.specs.Kind.{Operator, operator}
+use Rattle.tables.specs.Rules.{child, number, unused, left-use, right-use, timed}
 
 -- a kind from a up to, not including, b
 abbrev pub between : ℕ → ℕ → ℕ → Bool

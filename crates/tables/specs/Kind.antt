@@ -28,3 +28,31 @@ kinds =
 
 abbrev pub operator : ℕ → Operator
 operator kind = getD kinds kind unknown
+
+-- the kinds by their names
+abbrev pub true-kind : ℕ
+true-kind = 0
+
+abbrev pub predicate-kind : ℕ
+predicate-kind = 1
+
+abbrev pub not-kind : ℕ
+not-kind = 2
+
+abbrev pub and-kind : ℕ
+and-kind = 3
+
+abbrev pub or-kind : ℕ
+or-kind = 4
+
+abbrev pub until-kind : ℕ
+until-kind = 5
+
+abbrev pub release-kind : ℕ
+release-kind = 6
+
+abbrev pub eventually-kind : ℕ
+eventually-kind = 7
+
+abbrev pub always-kind : ℕ
+always-kind = 8

@@ -5,6 +5,31 @@ ghost use Prim.Native.Nat.{_≤_};
 ghost use Rattle.tables.specs.Kind.{operator};
 ghost use Rattle.tables.specs.Rules.{left-use, right-use, timed, use-obeys, window-obeys, ends-obey, node-obeys, nodes-obey, table-obeys};
 
+// The kinds of nodes; the definitions have them in specs/Kind.antt.
+pub const TRUE: u64 = 0;
+
+pub const PREDICATE: u64 = 1;
+
+pub const NOT: u64 = 2;
+
+pub const AND: u64 = 3;
+
+pub const OR: u64 = 4;
+
+pub const UNTIL: u64 = 5;
+
+pub const RELEASE: u64 = 6;
+
+pub const EVENTUALLY: u64 = 7;
+
+pub const ALWAYS: u64 = 8;
+
+// How many kinds there are.
+pub const KINDS: u64 = 9;
+
+// A table has up to so many nodes.
+pub const NODES: usize = 64;
+
 // A window's ends go up to this.
 pub const LONGEST: u64 = 1_000_000_000;
 

@@ -1,7 +1,7 @@
 -- Number fields: up to ten digits, no leading zero, and no `-0` where a sign may stand.
 use Prim.Native.Nat.{ℕ, _+_, _-_, _*_}
 use mathlib.Core.List.{List, [], _∷_}
-use mathlib.Core.Bool.{Bool, true, false, not, cond, _&&_}
+use mathlib.Core.Bool.{Bool, not, cond, _&&_}
 use lib.ListN.{length, getD, drop}
 use lib.IntN.{ℤ, pos, negℤ}
 use lib.Dec.{ltb, leb, eqb}

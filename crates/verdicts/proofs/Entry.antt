@@ -17,11 +17,10 @@ use Rattle.recordings.specs.Verdict.{hold, fail, verdict}
 use Rattle.tables.specs.declared.Table.{Table}
 use Rattle.tables.specs.Tree.{root}
 use Rattle.rows.specs.Cells.{cell}
-use Rattle.rules.specs.First.{first}
-use Rattle.rules.specs.Refusals.{checks, Sound}
-use Rattle.rules.proofs.First.{first-append, first-stays, first-passes, first-fails}
+use Rattle.refusals.specs.First.{first}
+use Rattle.rules.specs.Refusals.{checks}
+use Rattle.refusals.proofs.First.{first-append, first-stays, first-passes, first-fails}
 use Rattle.sampling.specs.Sampling.{checks as sampling-checks}
-use Rattle.verdicts.specs.declared.Answer.{Answer}
 use Rattle.verdicts.specs.declared.Answer.the-variants.{Judged, Refused}
 use Rattle.verdicts.specs.Cells.{strong, row-value, cells}
 use Rattle.verdicts.specs.Rows.{row-of, Ready}

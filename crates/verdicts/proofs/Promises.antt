@@ -1,6 +1,6 @@
 -- What the verdict function promises, in the customer's words: each is read off its contract, `outcome r ≡ judged ..` and `cells-after ..`, whose number 0 is acceptance.
 -- Assumes nothing.
-use mathlib.Core.Path.{_≡_, refl, sym, ap, _∙_}
+use mathlib.Core.Path.{_≡_, refl, sym, _∙_}
 use mathlib.Core.Bool.{Bool, true, false}
 use mathlib.Core.List.{List, _∷_}
 use Prim.Native.Nat.{ℕ, zero, suc, _+_, _*_, _≤_, _<_}
@@ -10,7 +10,6 @@ use lib.IntN.{ℤ, pos}
 use lib.ListN.{length, getD}
 use Rattle.lists.proofs.Filled.{rows-in, rows-out}
 use Rattle.logic.specs.Strengthening.{strengthened}
-use Rattle.recordings.specs.declared.Verdict.{Verdict}
 use Rattle.recordings.specs.declared.Verdict.the-variants.{Holds, Fails, NotShown}
 use Rattle.recordings.specs.Card.{Card, rows}
 use Rattle.recordings.specs.Margin.{margin}
@@ -20,15 +19,15 @@ use Rattle.recordings.specs.Shown.{Shown}
 use Rattle.recordings.proofs.Verdicts.{holds-shown, fails-shown}
 use Rattle.tables.specs.declared.Table.{Table}
 use Rattle.tables.specs.Tree.{tree, root}
-use Rattle.rules.specs.First.{Check, first, AllExact, Refused, unless-refused}
+use Rattle.refusals.specs.First.{first, AllExact, Refused, unless-refused}
 use Rattle.rules.specs.Refusals.{checks, Sound}
-use Rattle.rules.proofs.First.{refused, first-is, first-of-whole, exact-append}
+use Rattle.refusals.proofs.First.{refused, first-is, first-of-whole, exact-append}
 use Rattle.rules.proofs.Refusals.{exact, passed-sound, sound}
 use Rattle.sampling.specs.Sampling.{checks as sampling-checks}
 use Rattle.sampling.proofs.Sampling.{accepted, exact as sampling-exact}
 use Rattle.verdicts.specs.Cells.{strong, row-value, cells}
 use Rattle.verdicts.specs.Rows.{row-of}
-use Rattle.verdicts.specs.Answer.{Outcome, room-check, verdict-checks, refusal, judged, cells-after}
+use Rattle.verdicts.specs.Answer.{room-check, verdict-checks, refusal, judged, cells-after}
 use Rattle.verdicts.proofs.Rows.{row-value-of}
 use Rattle.verdicts.proofs.Entry.{after-room}
 

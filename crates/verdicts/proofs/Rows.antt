@@ -2,16 +2,16 @@
 -- Assumes nothing.
 use mathlib.Core.Path.{_≡_, refl, sym, ap, subst, _∙_}
 use mathlib.Core.Bool.{Bool, true, false, not, cond}
-use mathlib.Core.Logic.{_⊎_, inl, inr}
+use mathlib.Core.Logic.{inl, inr}
 use mathlib.Core.List.{List}
 use Prim.Native.Nat.{ℕ, zero, suc, _+_, _*_, _/_, _%_, _≤_, _<_}
 use native.Mathlib.Omega.{arith}
-use lib.Dec.{T, eqb}
+use lib.Dec.{eqb}
 use borrow.Author.Tests.{eq-eqb, ne-eqb}
 use lib.IntN.{ℤ}
 use lib.ListN.{length}
 use Rattle.logic.specs.Window.{Window, endless, before}
-use Rattle.logic.specs.Formula.{Extremum, largest, smallest}
+use Rattle.logic.specs.Formula.{Extremum, smallest}
 use Rattle.logic.specs.Negation.{turn}
 use Rattle.recordings.specs.Card.{Card, rows}
 use Rattle.lists.specs.Fill.{fill, fill-rows}
@@ -20,7 +20,7 @@ use Rattle.logic.specs.Strengthening.{strengthen-window}
 use Rattle.rows.specs.Cells.{extremum-of, cell, Bounded}
 use Rattle.tables.specs.declared.Node.{Node}
 use Rattle.tables.specs.declared.Table.{Table}
-use Rattle.tables.specs.Kind.{Operator, constant, named, negated, unknown, joined, binary, unary, operator}
+use Rattle.tables.specs.Kind.{Operator, named, operator}
 use Rattle.tables.specs.Tree.{NO-END, window, node-at}
 use Rattle.tables.specs.Rules.{Use, child, number, unused, Used, left-use, right-use, NodeRules, EndsRules, timed}
 use Rattle.windows.specs.Bounds.{Short, ShortStop}

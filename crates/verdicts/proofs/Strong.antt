@@ -1,10 +1,9 @@
 -- The strengthened margin of a node comes from its children's, sign by sign: pushing "not" down and strengthening both go through a node one operator at a time.
 -- Assumes nothing.
 use mathlib.Core.Path.{_≡_, refl, ap, _∙_}
-use mathlib.Core.Bool.{Bool, true, false, not}
+use mathlib.Core.Bool.{Bool, true, false}
 use mathlib.Core.List.{List}
-use Prim.Native.Nat.{ℕ, _≤_}
-use lib.IntN.{ℤ}
+use Prim.Native.Nat.{ℕ}
 use Rattle.numbers.specs.Order.{Within}
 use Rattle.logic.specs.Formula.{Formula, largest, smallest}
 use Rattle.logic.specs.Strengthening.{strengthened}

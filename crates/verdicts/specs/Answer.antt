@@ -1,6 +1,6 @@
 -- The verdict's answer in document 01's numbers and values, and what the cells hold afterwards.
 -- Assumes nothing.
-use mathlib.Core.List.{List, [], _∷_, _++_}
+use mathlib.Core.List.{List, _∷_, _++_}
 use Prim.Native.Nat.{ℕ, _*_, _≤_}
 use lib.Dec.{leb}
 use lib.IntN.{ℤ, pos}
@@ -11,7 +11,7 @@ use Rattle.recordings.specs.Card.{Card, rows}
 use Rattle.recordings.specs.Verdict.{hold, fail, verdict}
 use Rattle.tables.specs.declared.Table.{Table}
 use Rattle.tables.specs.Tree.{root}
-use Rattle.rules.specs.First.{Check, first, unless-refused}
+use Rattle.refusals.specs.First.{Check, first, unless-refused}
 use Rattle.rules.specs.Refusals.{checks}
 use Rattle.sampling.specs.Sampling.{checks as sampling-checks}
 use Rattle.verdicts.specs.declared.Answer.{Answer}

@@ -1,6 +1,6 @@
 -- How far a table's windows reach, so that a step can be added to their ends.
 -- Assumes nothing.
-use Prim.Native.Nat.{ℕ, suc, _≤_}
+use Prim.Native.Nat.{suc, _≤_}
 use Rattle.logic.specs.Window.{Window, Stop, endless, before}
 use Rattle.tables.specs.Tree.{NO-END}
 

@@ -1,6 +1,6 @@
 -- The verdict's number decides; where it is 0 the margin is taken too.
 -- Assumes nothing.
-use mathlib.Core.Path.{_≡_, refl, sym, ap, _∙_}
+use mathlib.Core.Path.{_≡_, sym, ap, _∙_}
 use Prim.Native.Nat.{_≤_}
 use native.Mathlib.Nat.{le-of-eq}
 use lib.ListN.{length}

@@ -1,14 +1,13 @@
 -- The row reader's number decides whether no rows are judged or those that it stored.
 -- Assumes nothing.
 use mathlib.Core.Path.{_≡_, sym, ap, _∙_}
-use Prim.Native.Nat.{ℕ, _≤_, _*_}
+use Prim.Native.Nat.{_≤_, _*_}
 use native.Mathlib.Omega.{arith}
-use lib.ListN.{length, take}
+use lib.ListN.{length}
 use lib.Seq.{length-take-le}
-use lib.IntN.{ℤ}
 use Rattle.sheet_rows.specs.declared.Answer.{Answer}
-use Rattle.sheet_rows.specs.Answer.{answer-of, times-of, values-of, after}
-use Rattle.answers.specs.Answers.{ROWS, VALUES, listing, refused-by}
+use Rattle.sheet_rows.specs.Answer.{answer-of}
+use Rattle.answers.specs.Answers.{ROWS, VALUES, refused-by}
 use Rattle.answers.proofs.Rows.{none-judged, rows-few, values-few, rows-judged}
 use borrow.Author.Needs.{needs}
 use Rattle.answers.proofs.judge_rows.Statement.{statement}

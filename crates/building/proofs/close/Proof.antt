@@ -1,6 +1,6 @@
 -- `building::close` meets its contract: each branch of the code is a case of the definition.
 -- Assumes nothing.
-use mathlib.Core.Path.{sym, refl, _∙_}
+use mathlib.Core.Path.{sym, _∙_}
 use borrow.Author.Needs.{needs}
 use Rattle.building.proofs.close.Statement.{statement}
 use Rattle.building.proofs.close.Tie as tie

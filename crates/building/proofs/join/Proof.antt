@@ -1,6 +1,5 @@
 -- `building::join` meets its contract: each branch of the code is a case of the definition.
 -- Assumes nothing.
-use mathlib.Core.Path.{sym, refl, _∙_}
 use borrow.Author.Needs.{needs}
 use Rattle.building.proofs.join.Statement.{statement}
 use Rattle.building.proofs.join.Tie as tie

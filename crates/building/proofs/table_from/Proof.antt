@@ -10,7 +10,6 @@ use native.Mathlib.Numerals.{add-one}
 use native.Mathlib.Omega.{arith}
 use borrow.Author.Tests.{le-leb, lt-leb}
 use borrow.Author.Needs.{needs}
-use lib.ListN.{length}
 use Rattle.building.specs.Storing.{nodes-from}
 use Rattle.building.proofs.table_from.Statement.{statement}
 use Rattle.building.proofs.table_from.Tie as tie

@@ -1,6 +1,5 @@
 -- `building::wrap` meets its contract: each branch of the code is a case of the definition.
 -- Assumes nothing.
-use mathlib.Core.Path.{sym, refl, _∙_}
 use borrow.Author.Needs.{needs}
 use Rattle.building.proofs.wrap.Statement.{statement}
 use Rattle.building.proofs.wrap.Tie as tie

@@ -9,7 +9,7 @@ use lib.ListN.{length}
 use Rattle.lists.specs.Fill.{fill}
 use Rattle.logic.specs.Window.{Window}
 use Rattle.recordings.specs.Card.{Card}
-use Rattle.tables.specs.Kind.{negated, operator}
+use Rattle.tables.specs.Kind.{operator}
 use Rattle.tables.specs.Rules.{Used, left-use, right-use, timed}
 use Rattle.rules.specs.Refusals.{card}
 use Rattle.rows.specs.Cells.{cell}

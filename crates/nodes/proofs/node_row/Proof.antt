@@ -1,7 +1,6 @@
 -- Each arm asks what its kind's operands give and returns what its row function ensures, once the kind is put for its number.
 -- Assumes nothing.
-use mathlib.Core.Path.{_≡_, refl, sym, ap, _∙_}
-use Prim.Native.Nat.{_≤_, _<_}
+use mathlib.Core.Path.{refl}
 use native.Mathlib.Omega.{arith}
 use borrow.Author.Needs.{needs}
 use Rattle.temporal.specs.declared.Left.the-variants.{Row, Absent}

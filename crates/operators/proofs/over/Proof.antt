@@ -1,6 +1,5 @@
 -- `operators::over` meets its contract: each branch of the code is a case of the definition.
 -- Assumes nothing.
-use mathlib.Core.Path.{sym, refl, _∙_}
 use borrow.Author.Needs.{needs}
 use Rattle.operators.proofs.over.Statement.{statement}
 use Rattle.operators.proofs.over.Tie as tie

@@ -1,7 +1,7 @@
 -- `operators::read_window` meets its contract: each branch of the code is a case of the definition.
 -- Assumes nothing.
 use borrow.Author.Tests.{lt-ltb, le-ltb}
-use mathlib.Core.Path.{sym, refl, _∙_}
+use mathlib.Core.Path.{sym, _∙_}
 use Rattle.grammar.specs.Reading.{window-at}
 use borrow.Author.Needs.{needs}
 use Rattle.operators.proofs.read_window.Statement.{statement}

@@ -1,6 +1,5 @@
 -- Both ends by the test of a value; their order by the signed comparison, whose numbers are read back as they stand.
 -- Assumes nothing.
-use mathlib.Core.Path.{_≡_, refl}
 use borrow.Author.Needs.{needs}
 use Rattle.numbers.proofs.Bits.{back-is}
 use Rattle.predicates.proofs.between_obeys.Statement.{statement}

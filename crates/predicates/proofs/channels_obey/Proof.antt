@@ -1,6 +1,5 @@
 -- The count's two bounds, and the predicates by their own equation.
 -- Assumes nothing.
-use mathlib.Core.Path.{_≡_, refl}
 use borrow.Author.Needs.{needs}
 use Rattle.predicates.specs.Predicates.{channels-obey}
 use Rattle.predicates.proofs.channels_obey.Statement.{statement}

@@ -1,6 +1,5 @@
 -- A node of another kind names nothing; a number past the sixteen is unset, and so is what the list gives there.
 -- Assumes nothing.
-use mathlib.Core.Path.{_≡_, refl}
 use Prim.Native.Nat.{_≤_}
 use native.Mathlib.Omega.{arith}
 use native.Mathlib.Nat.{le-of-eq}

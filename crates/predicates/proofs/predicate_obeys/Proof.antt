@@ -1,6 +1,5 @@
 -- The three tests of a predicate, each by its own equation.
 -- Assumes nothing.
-use mathlib.Core.Path.{_≡_, refl}
 use borrow.Author.Needs.{needs}
 use Rattle.predicates.specs.Predicates.{predicate-obeys}
 use Rattle.predicates.proofs.predicate_obeys.Statement.{statement}

@@ -1,6 +1,6 @@
 -- A table that breaks a rule fails at once; one that does not has at most 64 nodes, so its nodes may be walked again.
 -- Assumes nothing.
-use mathlib.Core.Path.{_≡_, refl, sym, _∙_}
+use mathlib.Core.Path.{_≡_, sym, _∙_}
 use mathlib.Core.Bool.{true}
 use borrow.Author.Needs.{needs}
 use borrow.Author.Tests.{not-true, not-false}

@@ -1,6 +1,5 @@
 -- The code's test is the definition's; a signed parameter is read back as it stands.
 -- Assumes nothing.
-use mathlib.Core.Path.{_≡_, refl}
 use Rattle.numbers.proofs.Bits.{back-is}
 use Rattle.predicates.specs.Predicates.{value-obeys}
 use Rattle.predicates.proofs.value_obeys.Statement.{statement}

@@ -1,10 +1,9 @@
 -- The cycle of the four readers. Each call has less enclosing depth or fewer bytes left, or is of a part below: that is the measure.
 -- Assumes nothing.
 use borrow.Author.Needs.{needs}
-use mathlib.Core.Path.{_≡_, refl, sym, _∙_}
+use mathlib.Core.Path.{sym, _∙_}
 use mathlib.Core.List.{List}
-use Prim.Native.Nat.{_+_, _-_, _*_, _≤_}
-use native.Mathlib.Omega.{arith}
+use Prim.Native.Nat.{_+_, _-_, _*_}
 use lib.ListN.{length}
 use Rattle.grammar.specs.Operators.{and-kind, or-kind}
 use Rattle.grammar.specs.Reading.{bind-at, conjunction-at, unary-by}

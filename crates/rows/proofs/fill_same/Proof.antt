@@ -10,7 +10,6 @@ use Rattle.lists.specs.Fill.{fill}
 use Rattle.lists.proofs.Filled.{fill-none, fill-to, fill-cong}
 use Rattle.numbers.proofs.Bits.{back-is}
 use Rattle.rows.proofs.Kept.{fill-more}
-use Rattle.rows.proofs.Fits.{fit}
 use Rattle.rows.proofs.fill_same.Statement.{statement}
 use Rattle.rows.proofs.fill_same.Tie as tie
 

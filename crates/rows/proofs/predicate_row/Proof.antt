@@ -1,7 +1,6 @@
 -- What the part is filled with stands in the whole from the row's first cell on.
 -- Assumes nothing.
 use borrow.Author.Needs.{needs}
-use Rattle.lists.specs.Fill.{fill}
 use Rattle.lists.proofs.Filled.{fill-part}
 use Rattle.rows.proofs.predicate_row.Statement.{statement}
 use Rattle.rows.proofs.predicate_row.Tie as tie

@@ -2,10 +2,8 @@
 -- Assumes nothing.
 use mathlib.Core.Path.{_∙_}
 use borrow.Author.Needs.{needs}
-use Rattle.lists.specs.Fill.{fill}
 use Rattle.lists.proofs.Filled.{fill-part, fill-cong}
 use Rattle.numbers.proofs.Bits.{back-ok}
-use Rattle.rows.specs.Cells.{signed}
 use Rattle.rows.proofs.true_row.Statement.{statement}
 use Rattle.rows.proofs.true_row.Tie as tie
 

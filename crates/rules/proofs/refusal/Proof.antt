@@ -1,11 +1,11 @@
 -- The tests follow the list: each return says which of them passed and which one failed.
 -- Assumes nothing.
-use mathlib.Core.Path.{_≡_, refl, sym, _∙_}
-use mathlib.Core.Bool.{true, false}
+use mathlib.Core.Path.{_≡_, sym, _∙_}
+use mathlib.Core.Bool.{true}
 use lib.ListN.{length}
 use borrow.Author.Needs.{needs}
 use borrow.Author.Tests.{not-true, not-false}
-use Rattle.rules.specs.First.{first}
+use Rattle.refusals.specs.First.{first}
 use Rattle.predicates.specs.Predicates.{requirement-obeys, channels-obey}
 use Rattle.predicates.proofs.Predicates.{few-channels}
 use Rattle.rules.specs.Recording.{lengths-obey, times-obey, values-obey}

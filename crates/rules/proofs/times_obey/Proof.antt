@@ -1,6 +1,5 @@
 -- The two loops' tests, each by its own equation.
 -- Assumes nothing.
-use mathlib.Core.Path.{_≡_, refl}
 use borrow.Author.Needs.{needs}
 use Rattle.rules.specs.Recording.{times-obey}
 use Rattle.rules.proofs.times_obey.Statement.{statement}

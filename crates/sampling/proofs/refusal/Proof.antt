@@ -1,12 +1,11 @@
 -- The tests follow the list: each return says which of them passed and which one failed.
 -- Assumes nothing.
-use mathlib.Core.Path.{_≡_, refl, sym, _∙_}
-use mathlib.Core.Bool.{true, false}
-use lib.ListN.{length}
+use mathlib.Core.Path.{_≡_, sym, _∙_}
+use mathlib.Core.Bool.{true}
 use borrow.Author.Needs.{needs}
 use borrow.Author.Tests.{not-true, not-false}
 use Rattle.numbers.proofs.Parts.{holds}
-use Rattle.rules.specs.First.{first}
+use Rattle.refusals.specs.First.{first}
 use Rattle.sampling.specs.Sampling.{step-obeys, times-close, values-near}
 use Rattle.sampling.proofs.Sampling.{step-is}
 use Rattle.sampling.proofs.refusal.Statement.{statement}

@@ -1,14 +1,12 @@
 -- The invariant is the definition at m: `ok` says whether the first m values are each near the channel's next.
 -- Assumes nothing.
-use mathlib.Core.Path.{_≡_, refl, _∙_, sym}
-use Prim.Native.Nat.{ℕ, _≤_, _<_, _-_, _+_}
+use mathlib.Core.Path.{_≡_, refl}
+use Prim.Native.Nat.{ℕ, _≤_, _-_, _+_}
 use native.Mathlib.Omega.{arith}
 use native.Mathlib.Numerals.{add-one}
 use lib.ListN.{length, getD}
 use lib.IntN.{pos}
-use borrow.Author.Needs.{needs}
 use Rattle.numbers.proofs.Bits.{back-ok}
-use Rattle.recordings.specs.Accepted.{InRange}
 use Rattle.sampling.specs.Sampling.{all-near, values-near}
 use Rattle.sampling.proofs.values_near.Statement.{statement}
 use Rattle.sampling.proofs.values_near.Tie as tie

@@ -1,8 +1,6 @@
 -- Each arm of the match is a range of kinds, of which `timed-by-kind` says whether they have a window.
 -- Assumes nothing.
-use mathlib.Core.Path.{_≡_, refl}
 use mathlib.Core.Logic.{inl, inr}
-use native.Mathlib.Omega.{arith}
 use borrow.Author.Needs.{needs}
 use Rattle.tables.proofs.Uses.{timed-by-kind, is-between, not-between}
 use Rattle.tables.proofs.ends_obey.Statement.{statement}

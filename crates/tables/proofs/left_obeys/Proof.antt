@@ -1,6 +1,5 @@
 -- Each arm of the match is a range of kinds, whose use of the left number `left-by-kind` gives.
 -- Assumes nothing.
-use mathlib.Core.Path.{_≡_, refl}
 use mathlib.Core.Logic.{inl, inr}
 use native.Mathlib.Omega.{arith}
 use borrow.Author.Tests.{ne-eqb}

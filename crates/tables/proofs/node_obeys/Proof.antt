@@ -1,6 +1,5 @@
 -- The four tests of a node, each by its own equation.
 -- Assumes nothing.
-use mathlib.Core.Path.{_≡_, refl}
 use borrow.Author.Needs.{needs}
 use Rattle.tables.specs.Rules.{node-obeys}
 use Rattle.tables.proofs.node_obeys.Statement.{statement}

@@ -1,8 +1,6 @@
 -- Each arm of the match is a range of kinds, whose use of the right number `right-by-kind` gives.
 -- Assumes nothing.
-use mathlib.Core.Path.{_≡_, refl}
 use mathlib.Core.Logic.{inl, inr}
-use native.Mathlib.Omega.{arith}
 use Rattle.tables.proofs.Uses.{right-by-kind, is-between, not-between}
 use Rattle.tables.proofs.right_obeys.Statement.{statement}
 use Rattle.tables.proofs.right_obeys.Tie as tie

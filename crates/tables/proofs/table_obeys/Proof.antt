@@ -1,6 +1,5 @@
 -- A count above 64 fails the first test; any other is safe to walk.
 -- Assumes nothing.
-use mathlib.Core.Path.{_≡_, refl}
 use borrow.Author.Needs.{needs}
 use borrow.Author.Tests.{le-leb, lt-leb}
 use Rattle.tables.specs.Rules.{table-obeys}

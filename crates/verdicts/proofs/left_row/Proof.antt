@@ -1,6 +1,5 @@
 -- Only "not" turns the sign.
 -- Assumes nothing.
-use mathlib.Core.Path.{_≡_}
 use Rattle.verdicts.proofs.Rows.{same-sign}
 use borrow.Author.Needs.{needs}
 use Rattle.verdicts.proofs.left_row.Statement.{statement}

@@ -1,9 +1,6 @@
 -- The table rules keep the window short, and the flag turns the operator.
 -- Assumes nothing.
-use mathlib.Core.Path.{_≡_, sym}
 use native.Mathlib.Omega.{arith}
-use Rattle.temporal.specs.Reading.{window-of}
-use Rattle.windows.specs.Bounds.{Short}
 use Rattle.verdicts.proofs.Rows.{short, window-affirmed, window-denied}
 use borrow.Author.Needs.{needs}
 use Rattle.verdicts.proofs.row_window.Statement.{statement}

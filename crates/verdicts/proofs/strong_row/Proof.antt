@@ -1,8 +1,6 @@
 -- The rows before this one hold what its node reads, so the node's row function fills what row r is to hold.
 -- Assumes nothing.
-use mathlib.Core.Path.{_≡_}
-use native.Mathlib.Omega.{arith}
-use Rattle.verdicts.proofs.Rows.{node-inside, rules, left-small, right-small, asks-at, row-filled}
+use Rattle.verdicts.proofs.Rows.{rules, left-small, right-small, asks-at, row-filled}
 use borrow.Author.Needs.{needs}
 use Rattle.verdicts.proofs.strong_row.Statement.{statement}
 use Rattle.verdicts.proofs.strong_row.Tie as tie

@@ -1,14 +1,11 @@
 -- After r turns the first r rows are filled.
 -- Assumes nothing.
-use mathlib.Core.Path.{_≡_, refl, sym, ap, _∙_}
-use Prim.Native.Nat.{ℕ, _*_, _-_, _≤_}
+use mathlib.Core.Path.{_≡_, refl, _∙_}
+use Prim.Native.Nat.{_*_, _-_, _≤_}
 use native.Mathlib.Omega.{arith}
-use mathlib.Core.List.{List}
-use borrow.Author.Needs.{needs}
-use lib.IntN.{ℤ}
 use lib.ListN.{length}
 use Rattle.lists.specs.Fill.{fill-rows}
-use Rattle.lists.proofs.Filled.{length-rows, rows-next, rows-none, rows-to}
+use Rattle.lists.proofs.Filled.{rows-next, rows-none, rows-to}
 use Rattle.rules.specs.Refusals.{card}
 use Rattle.verdicts.specs.Cells.{row-value}
 use Rattle.verdicts.proofs.Rows.{same-length as kept-length, so-far}

@@ -1,18 +1,17 @@
 -- The tests follow the list of refusals: each return says which of them passed and which failed. Where none fails, the rows are filled and the root's two cells are
 -- hold and fail.
 -- Assumes nothing.
-use mathlib.Core.Path.{_≡_, refl, sym, ap, ap₂, _∙_}
+use mathlib.Core.Path.{_≡_, sym, ap₂, _∙_}
 use mathlib.Core.Bool.{true, false}
-use Prim.Native.Nat.{ℕ, _*_, _-_, _≤_}
+use Prim.Native.Nat.{ℕ, _-_, _≤_}
 use native.Mathlib.Omega.{arith}
 use native.Mathlib.Nat.{le-of-eq}
 use lib.ListN.{length}
 use borrow.Author.Needs.{needs}
 use Rattle.numbers.proofs.Bits.{back-ok}
-use Rattle.recordings.specs.Card.{Card, rows}
+use Rattle.recordings.specs.Card.{Card}
 use Rattle.recordings.specs.Verdict.{decide}
-use Rattle.tables.specs.declared.Table.{Table}
-use Rattle.rules.specs.First.{first}
+use Rattle.refusals.specs.First.{first}
 use Rattle.rules.specs.Refusals.{card, checks, Sound}
 use Rattle.rules.proofs.Refusals.{sound}
 use Rattle.sampling.specs.Sampling.{checks as sampling-checks}

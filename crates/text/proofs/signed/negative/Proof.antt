@@ -1,7 +1,6 @@
 -- `text::signed::negative` meets its contract: each branch of the code is a case of the definition.
 -- Assumes nothing.
 use native.Mathlib.Omega.{arith}
-use mathlib.Core.Path.{_∙_}
 use mir.Syntax.{w64}
 use mir.ValLaws.{toZ-pos, toZ-ofZ}
 use Rattle.text.proofs.Signs.{minus, neg-small}

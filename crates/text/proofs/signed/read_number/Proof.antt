@@ -5,7 +5,7 @@ use mir.ValLaws.{toZ-ofZ}
 use borrow.Author.Tests.{eq-eqb, ne-eqb}
 use Rattle.text.proofs.Numerals.{number-is}
 use Rattle.text.specs.Number.{signed-at}
-use mathlib.Core.Path.{sym, refl, _∙_}
+use mathlib.Core.Path.{sym, _∙_}
 use borrow.Author.Needs.{needs}
 use Rattle.text.proofs.signed.read_number.Statement.{statement}
 use Rattle.text.proofs.signed.read_number.Tie as tie

@@ -1,17 +1,17 @@
 -- Where each test is exact, the answer is a number exactly when that number's condition does not hold and every earlier one does, and 0 exactly when all hold. By induction over the list.
 -- Assumes nothing.
 use mathlib.Core.Path.{_≡_, refl, sym, subst, _∙_}
-use mathlib.Core.Bool.{Bool, true, false, cond, _&&_}
+use mathlib.Core.Bool.{Bool, true, false}
 use mathlib.Core.Logic.{_⊎_, inl, inr}
 use mathlib.Core.List.{List, [], _∷_, _++_}
 use Prim.Native.Nat.{ℕ, zero, suc, _≤_, _<_}
 use native.Mathlib.Omega.{arith}
 use native.Mathlib.Nat.{le-of-suc-le-suc}
 use lib.Dec.{T, leb, leb→le}
-use lib.ListN.{length, getD}
+use lib.ListN.{length}
 use mir.Facts.{and-yes}
 use Rattle.numbers.proofs.Parts.{holds}
-use Rattle.rules.specs.First.{Check, first, Exact, AllExact, numbered, check-at, Refused, Passed}
+use Rattle.refusals.specs.First.{Check, first, AllExact, numbered, check-at, Refused, Passed}
 
 either : (b : Bool) → (b ≡ true) ⊎ (b ≡ false)
 either true = inl refl
