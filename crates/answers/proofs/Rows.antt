@@ -14,11 +14,11 @@ use lib.Seq.{take-append-seam}
 use borrow.Author.Tests.{leb-true, leb-false, lt-ltb, le-ltb}
 use Rattle.text.proofs.Tests.{false-true, by-test}
 use Rattle.recordings.specs.declared.Predicate.{Predicate}
-use Rattle.recordings.specs.Card.{Card, rows}
+use Rattle.recordings.specs.Card.{Card, rows, card}
 use Rattle.tables.specs.declared.Table.{Table}
 use Rattle.predicates.specs.Predicates.{channels-obey, predicates-obey}
 use Rattle.refusals.specs.First.{first}
-use Rattle.rules.specs.Refusals.{card, checks}
+use Rattle.rules.specs.Refusals.{checks}
 use Rattle.verdicts.specs.Answer.{refusal}
 use Rattle.row_lines.specs.Rows.{limit, channels-in-range, Listing, listed, broken, rows-of}
 use Rattle.row_lines.proofs.Exact.{rows-exact}

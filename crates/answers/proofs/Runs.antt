@@ -6,12 +6,12 @@ use mathlib.Core.List.{List, [], _∷_, _++_}
 use Prim.Native.Nat.{ℕ, suc, _+_, _≤_}
 use native.Mathlib.Omega.{arith}
 use borrow.Author.Tests.{le-leb, lt-leb}
-use Rattle.recordings.specs.Card.{Card, rows}
+use Rattle.recordings.specs.Card.{Card, rows, card}
 use Rattle.tables.specs.declared.Table.{Table}
 use Rattle.predicates.specs.Predicates.{requirement-obeys, channels-obey}
 use Rattle.refusals.specs.First.{Check, first}
 use Rattle.rules.specs.Recording.{lengths-obey}
-use Rattle.rules.specs.Refusals.{card, table-checks, sample-checks, checks}
+use Rattle.rules.specs.Refusals.{table-checks, sample-checks, checks}
 use Rattle.refusals.proofs.First.{first-passes}
 use Rattle.sampling.specs.Sampling.{checks as sampling-checks}
 use Rattle.verdicts.specs.Answer.{room-check, refusal}

@@ -8,13 +8,13 @@ use lib.Dec.{leb, eqb}
 use lib.ListN.{length, take, drop}
 use lib.IntN.{pos}
 use Rattle.recordings.specs.declared.Verdict.the-variants.{NotShown}
-use Rattle.recordings.specs.Card.{Card, rows}
+use Rattle.recordings.specs.Card.{Card, rows, card}
 use Rattle.recordings.specs.Margin.{margin as margin-at}
 use Rattle.recordings.specs.Verdict.{hold as hold-of, fail as fail-of, verdict as verdict-of}
 use Rattle.tables.specs.declared.Table.{Table}
 use Rattle.tables.specs.Tree.{root}
 use Rattle.refusals.specs.First.{Check, first, unless-refused}
-use Rattle.rules.specs.Refusals.{card, table-checks, sample-checks}
+use Rattle.rules.specs.Refusals.{table-checks, sample-checks}
 use Rattle.sampling.specs.Sampling.{checks as sampling-checks}
 use Rattle.verdicts.specs.Answer.{room-check}
 use Rattle.grammar.specs.Tree.{Tree}

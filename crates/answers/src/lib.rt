@@ -2,10 +2,10 @@
 pub mod printed;
 
 ghost use mathlib.Core.Path.{_≡_};
-ghost use Rattle.rules.specs.Refusals.{card};
 ghost use Rattle.margins.specs.Answers.{outcome as margin-outcome};
 ghost use Rattle.verdicts.specs.Answer.{outcome, refusal};
 ghost use Rattle.answers.specs.Answers.{CELLS, listing, rows-part, requirement-part, refused-by, answered, table-answer, answer-for, answer-of-text, Checked, Placed};
+ghost use Rattle.recordings.specs.Card.{lent};
 use recordings::Predicate;
 use recordings::Verdict;
 use sheets::Sheet;
@@ -93,7 +93,7 @@ fn judge(
     drift: u64,
     filled: usize,
 ) -> Outcome
-    ensures { λ r. ⌜ r ≡ answered (refusal (card channels predicates (now (times .entry)) (now (values .entry))) table step drift CELLS) (card channels predicates (now (times .entry)) (now (values .entry))) table step drift filled ⌝ }
+    ensures { λ r. ⌜ r ≡ answered (refusal (lent channels predicates (times .entry) (values .entry)) table step drift CELLS) (lent channels predicates (times .entry) (values .entry)) table step drift filled ⌝ }
 {
     let mut work = [0i64; 8192];
     let judged = verdicts::verdict(

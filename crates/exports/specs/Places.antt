@@ -5,8 +5,7 @@ use Prim.Native.Nat.{ℕ}
 use lib.IntN.{ℤ, pos}
 use Rattle.recordings.specs.declared.Verdict.{Verdict}
 use Rattle.recordings.specs.declared.Verdict.the-variants.{Holds, Fails, NotShown}
-use Rattle.recordings.specs.Card.{Card}
-use Rattle.rules.specs.Refusals.{card}
+use Rattle.recordings.specs.Card.{Card, card}
 use Rattle.margins.specs.Answers.{Outcome as Margin}
 use Rattle.verdicts.specs.Answer.{Outcome as Judgement}
 use Rattle.sheets.specs.declared.Sheet.{Sheet}

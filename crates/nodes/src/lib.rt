@@ -3,12 +3,12 @@ ghost use mathlib.Core.Path.{_≡_};
 ghost use Prim.Native.Nat.{_*_};
 ghost use lib.ListN.{length};
 ghost use Rattle.lists.specs.Fill.{fill};
-ghost use Rattle.rules.specs.Refusals.{card};
 ghost use Rattle.rows.specs.Cells.{cell};
 ghost use Rattle.temporal.specs.Reading.{window-of};
 ghost use Rattle.tables.specs.Kind.{operator};
 ghost use Rattle.nodes.specs.Values.{node-value};
 ghost use Rattle.nodes.specs.Asks.{NodeAsks};
+ghost use Rattle.recordings.specs.Card.{lent};
 use recordings::Predicate;
 use tables::Node;
 use temporal::Left;
@@ -28,8 +28,8 @@ pub fn node_row(
     right: usize,
     row: usize,
 )
-    requires { ⌜ NodeAsks (now work) (card channels predicates (now times) (now values)) node left right row ⌝ }
-    ensures { λ _. ⌜ now (work .exit) ≡ fill (row * length (now (times .entry))) (length (now (times .entry))) (node-value (card channels predicates (now (times .entry)) (now (values .entry))) affirmed (window-of window) (operator (node .kind)) node (cell (now (work .entry)) (length (now (times .entry))) left) (cell (now (work .entry)) (length (now (times .entry))) right)) (now (work .entry)) ⌝ }
+    requires { ⌜ NodeAsks (now work) (lent channels predicates times values) node left right row ⌝ }
+    ensures { λ _. ⌜ now (work .exit) ≡ fill (row * length (now (times .entry))) (length (now (times .entry))) (node-value (lent channels predicates (times .entry) (values .entry)) affirmed (window-of window) (operator (node .kind)) node (cell (now (work .entry)) (length (now (times .entry))) left) (cell (now (work .entry)) (length (now (times .entry))) right)) (now (work .entry)) ⌝ }
 {
     let rows = times.len();
     let kind = node.kind;

@@ -3,6 +3,7 @@
 use mathlib.Core.List.{List}
 use Prim.Native.Nat.{ℕ, suc, _+_, _-_, _*_}
 use lib.ListN.{length, getD}
+use denote.Ref.{RefT, now}
 use lib.IntN.{ℤ, pos}
 use Rattle.logic.specs.Reading.{Places}
 use Rattle.recordings.specs.declared.Predicate.{Predicate}
@@ -47,3 +48,11 @@ samples c = record { first = 0; end = rows c; time = time c }
 -- the recording's span: the seconds from its first time to its last, both counted
 abbrev pub span : Card → Places
 span c = record { first = first-time c; end = suc (last-time c); time = λ t. t }
+
+-- what the library's callers hand over, as a card
+abbrev pub card : ℕ → List Predicate → List ℕ → List ℤ → Card
+card channels predicates times values = record { channels = channels; times = times; values = values; predicates = predicates }
+
+-- the card of two slices, as they are at a call's entry or exit
+abbrev pub lent : ℕ → List Predicate → RefT (List ℕ) → RefT (List ℤ) → Card
+lent channels predicates times values = card channels predicates (now times) (now values)

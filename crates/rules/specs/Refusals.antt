@@ -13,10 +13,6 @@ use Rattle.refusals.specs.First.{Check}
 use Rattle.predicates.specs.Predicates.{requirement-obeys, Named, channels-obey}
 use Rattle.rules.specs.Recording.{lengths-obey, times-obey, values-obey}
 
--- what the library's callers hand over, as a card
-abbrev pub card : ℕ → List Predicate → List ℕ → List ℤ → Card
-card channels predicates times values = record { channels = channels; times = times; values = values; predicates = predicates }
-
 -- 3 and 4: the table, the channels and the predicates
 abbrev pub table-checks : Card → Table → List Check
 table-checks c t =

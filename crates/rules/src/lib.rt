@@ -5,7 +5,8 @@ ghost use Prim.Native.Nat.{_≤_, _<_};
 ghost use lib.ListN.{length};
 ghost use Rattle.refusals.specs.First.{first};
 ghost use Rattle.rules.specs.Recording.{lengths-obey, all-rising, all-early, times-obey, values-obey};
-ghost use Rattle.rules.specs.Refusals.{card, checks};
+ghost use Rattle.rules.specs.Refusals.{checks};
+ghost use Rattle.recordings.specs.Card.{lent};
 use recordings::Predicate;
 use tables::Table;
 
@@ -80,7 +81,7 @@ pub fn refusal(
     times: &[u64],
     values: &[i64],
 ) -> u64
-    ensures { λ r. ⌜ r ≡ first (checks (card channels predicates (now (times .entry)) (now (values .entry))) table) ⌝ }
+    ensures { λ r. ⌜ r ≡ first (checks (lent channels predicates (times .entry) (values .entry)) table) ⌝ }
 {
     let three = predicates::requirement_obeys(table, predicates);
     if !three {

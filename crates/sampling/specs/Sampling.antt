@@ -7,10 +7,9 @@ use lib.Dec.{leb}
 use lib.ListN.{length, getD}
 use lib.IntN.{ℤ, pos, _-ℤ_, natAbs}
 use Rattle.lists.specs.Fold.{all-below}
-use Rattle.recordings.specs.Card.{Card}
+use Rattle.recordings.specs.Card.{Card, card}
 use Rattle.recordings.specs.Accepted.{InRange, Step, Gapless, Steady}
 use Rattle.refusals.specs.First.{Check}
-use Rattle.rules.specs.Refusals.{card}
 
 -- ---- 9: step or drift out of range
 unfoldable pub step-obeys : ℕ → ℕ → Bool

@@ -9,11 +9,11 @@ ghost use Rattle.recordings.specs.Verdict.{decide};
 ghost use Rattle.rows.specs.Cells.{extremum-of};
 ghost use Rattle.tables.specs.Kind.{operator};
 ghost use Rattle.tables.specs.Rules.{NodeRules};
-ghost use Rattle.rules.specs.Refusals.{card};
 ghost use Rattle.temporal.specs.Reading.{window-of};
 ghost use Rattle.verdicts.specs.Cells.{row-value, cells};
 ghost use Rattle.verdicts.specs.Rows.{window-extremum, strong-window, left-sign, row-of, Ready, Filled};
 ghost use Rattle.verdicts.specs.Answer.{outcome, judged, cells-after};
+ghost use Rattle.recordings.specs.Card.{lent};
 use recordings::Predicate;
 use recordings::Verdict;
 use tables::Node;
@@ -83,8 +83,8 @@ fn strong_row(
     step: u64,
     row: usize,
 )
-    requires { ⌜ Filled (card channels predicates (now times) (now values)) table step (now work) row ⌝ }
-    ensures { λ _. ⌜ now (work .exit) ≡ fill (row * length (now (times .entry))) (length (now (times .entry))) (row-value (card channels predicates (now (times .entry)) (now (values .entry))) step (table .nodes) row) (now (work .entry)) ⌝ }
+    requires { ⌜ Filled (lent channels predicates times values) table step (now work) row ⌝ }
+    ensures { λ _. ⌜ now (work .exit) ≡ fill (row * length (now (times .entry))) (length (now (times .entry))) (row-value (lent channels predicates (times .entry) (values .entry)) step (table .nodes) row) (now (work .entry)) ⌝ }
 {
     let k = row / 2;
     let affirmed = row % 2 == 0;
@@ -117,8 +117,8 @@ fn strong_rows(
     table: Table,
     step: u64,
 )
-    requires { ⌜ Ready (card channels predicates (now times) (now values)) table step (length (now work)) ⌝ }
-    ensures { λ _. ⌜ now (work .exit) ≡ cells (card channels predicates (now (times .entry)) (now (values .entry))) step (table .nodes) (table .count) (now (work .entry)) ⌝ }
+    requires { ⌜ Ready (lent channels predicates times values) table step (length (now work)) ⌝ }
+    ensures { λ _. ⌜ now (work .exit) ≡ cells (lent channels predicates (times .entry) (values .entry)) step (table .nodes) (table .count) (now (work .entry)) ⌝ }
 {
     let end = 2 * table.count;
     let mut row = 0;
@@ -161,8 +161,8 @@ pub fn verdict(
     drift: u64,
     work: &mut [i64],
 ) -> Answer
-    ensures answer { λ r. ⌜ outcome r ≡ judged (card channels predicates (now (times .entry)) (now (values .entry))) table step drift (length (now (work .entry))) ⌝ }
-    ensures cells { λ _. ⌜ now (work .exit) ≡ cells-after (card channels predicates (now (times .entry)) (now (values .entry))) table step drift (now (work .entry)) ⌝ }
+    ensures answer { λ r. ⌜ outcome r ≡ judged (lent channels predicates (times .entry) (values .entry)) table step drift (length (now (work .entry))) ⌝ }
+    ensures cells { λ _. ⌜ now (work .exit) ≡ cells-after (lent channels predicates (times .entry) (values .entry)) table step drift (now (work .entry)) ⌝ }
 {
     let early = rules::refusal(table, predicates, channels, times, values);
     if early != 0 {

@@ -5,9 +5,8 @@ use Prim.Native.Nat.{_≤_}
 use native.Mathlib.Nat.{le-of-eq}
 use lib.ListN.{length}
 use Rattle.numbers.proofs.Bits.{back-ok}
-use Rattle.recordings.specs.Card.{Card}
+use Rattle.recordings.specs.Card.{Card, card}
 use Rattle.margins.specs.Answers.{Outcome as MarginOutcome, outcome as margin-outcome, judged as margin-judged}
-use Rattle.rules.specs.Refusals.{card}
 use Rattle.verdicts.specs.Answer.{Outcome, outcome, judged}
 use Rattle.answers.specs.Answers.{CELLS}
 use Rattle.answers.proofs.Figures.{judge-refused, judge-accepted}

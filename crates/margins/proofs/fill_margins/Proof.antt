@@ -7,10 +7,9 @@ use borrow.Author.Needs.{needs}
 use lib.ListN.{length}
 use Rattle.lists.specs.Fill.{fill-rows}
 use Rattle.lists.proofs.Filled.{earlier-row}
-use Rattle.recordings.specs.Card.{Card}
+use Rattle.recordings.specs.Card.{Card, card}
 use Rattle.recordings.specs.Margin.{margin}
 use Rattle.tables.specs.Tree.{tree}
-use Rattle.rules.specs.Refusals.{card}
 use Rattle.margins.specs.Nodes.{Holds}
 use Rattle.margins.proofs.Filled.{filled-none, filled-holds, holds-bounded, filled-next}
 use Rattle.margins.proofs.fill_margins.Statement.{statement}

@@ -7,8 +7,8 @@ use native.Mathlib.Nat.{le-of-eq}
 use borrow.Author.Needs.{needs}
 use lib.ListN.{length}
 use Rattle.numbers.proofs.Bits.{back-ok}
-use Rattle.recordings.specs.Card.{Card}
-use Rattle.rules.specs.Refusals.{card, Sound}
+use Rattle.recordings.specs.Card.{Card, card}
+use Rattle.rules.specs.Refusals.{Sound}
 use Rattle.lists.proofs.Filled.{earlier-row}
 use Rattle.margins.proofs.Answers.{accepted, few-cells, refused-outcome, margin-outcome, cells-kept, cells-filled, root-cell}
 use Rattle.margins.proofs.margin.Statement.{statement}

@@ -8,10 +8,9 @@ use borrow.Author.Needs.{needs}
 use lib.ListN.{length}
 use Rattle.lists.specs.Fill.{fill}
 use Rattle.logic.specs.Window.{Window}
-use Rattle.recordings.specs.Card.{Card}
+use Rattle.recordings.specs.Card.{Card, card}
 use Rattle.tables.specs.Kind.{operator}
 use Rattle.tables.specs.Rules.{Used, left-use, right-use, timed}
-use Rattle.rules.specs.Refusals.{card}
 use Rattle.rows.specs.Cells.{cell}
 use Rattle.nodes.specs.Values.{node-value}
 use Rattle.margins.proofs.Nodes.{other-kind, end-known, used-earlier, value-filled, negation-filled}

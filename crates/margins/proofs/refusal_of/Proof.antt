@@ -4,8 +4,7 @@ use mathlib.Core.Path.{sym, _∙_}
 use native.Mathlib.Omega.{arith}
 use native.Mathlib.Nat.{le-of-eq}
 use borrow.Author.Needs.{needs}
-use Rattle.recordings.specs.Card.{Card}
-use Rattle.rules.specs.Refusals.{card}
+use Rattle.recordings.specs.Card.{Card, card}
 use Rattle.rules.proofs.Refusals.{sound}
 use Rattle.margins.proofs.Answers.{refusal-early, refusal-room, refusal-none, few-cells}
 use Rattle.margins.proofs.refusal_of.Statement.{statement}

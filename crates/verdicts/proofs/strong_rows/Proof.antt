@@ -6,11 +6,11 @@ use native.Mathlib.Omega.{arith}
 use lib.ListN.{length}
 use Rattle.lists.specs.Fill.{fill-rows}
 use Rattle.lists.proofs.Filled.{rows-next, rows-none, rows-to}
-use Rattle.rules.specs.Refusals.{card}
 use Rattle.verdicts.specs.Cells.{row-value}
 use Rattle.verdicts.proofs.Rows.{same-length as kept-length, so-far}
 use Rattle.verdicts.proofs.strong_rows.Statement.{statement}
 use Rattle.verdicts.proofs.strong_rows.Tie as tie
+use Rattle.recordings.specs.Card.{card}
 
 abbrev Inv-loop : tie.InvT-loop
 Inv-loop work₀ times values channels predicates table step end row₀ work row =

@@ -9,10 +9,10 @@ use native.Mathlib.Nat.{le-of-eq}
 use lib.ListN.{length}
 use borrow.Author.Needs.{needs}
 use Rattle.numbers.proofs.Bits.{back-ok}
-use Rattle.recordings.specs.Card.{Card}
+use Rattle.recordings.specs.Card.{Card, card}
 use Rattle.recordings.specs.Verdict.{decide}
 use Rattle.refusals.specs.First.{first}
-use Rattle.rules.specs.Refusals.{card, checks, Sound}
+use Rattle.rules.specs.Refusals.{checks, Sound}
 use Rattle.rules.proofs.Refusals.{sound}
 use Rattle.sampling.specs.Sampling.{checks as sampling-checks}
 use Rattle.sampling.proofs.Sampling.{measured, accepted, first-alone}
