@@ -1,8 +1,9 @@
--- A printed line has room for every number of 64 bits, so it says all that is written.
+-- A line of 64-bit numbers has at most `LINE` bytes: each key its own, each number twenty digits and a sign.
 -- Assumes nothing.
-use mathlib.Core.Path.{_≡_, refl}
+use mathlib.Core.Path.{_≡_, refl, subst}
 use mathlib.Core.List.{List, _++_}
 use Prim.Native.Nat.{ℕ, zero, suc, _+_, _≤_}
+use Prim.Native.String.{String}
 use native.Mathlib.Omega.{arith}
 use lib.ListN.{length, length-append}
 use lib.IntN.{ℤ}
@@ -11,13 +12,10 @@ use mir.Val.{SFits, Fits}
 use Rattle.recordings.specs.declared.Verdict.{Verdict}
 use Rattle.recordings.specs.declared.Verdict.the-variants.{Holds, Fails, NotShown}
 use Rattle.text.specs.Bytes.{bytes}
-use Rattle.printing.specs.declared.Line.{Line}
 use Rattle.printing.specs.Decimal.{decimal, decimal-signed}
-use Rattle.printing.specs.Line.{blank-line, written, Says}
-use Rattle.printing.proofs.Written.{blank-says}
 use Rattle.printing.proofs.Lengths.{decimal-few, signed-few}
 use Rattle.answers.specs.declared.Outcome.{Outcome}
-use Rattle.answers.specs.Printed.{word-of, figures-line, refusal-line, line-by, line-of}
+use Rattle.answers.specs.Printed.{LINE, word-of, field, figures-line, refusal-line, line-by, line-of}
 
 -- at most n bytes
 record Few (bs : List ℕ) (n : ℕ) : Type 0 where
@@ -40,18 +38,18 @@ word Holds = record { few = omega arith }
 word Fails = record { few = omega arith }
 word NotShown = record { few = omega arith }
 
+-- a key and what it says
+said : (key : String) {value : List ℕ} {n : ℕ} → Few value n → Few (field key value) (length (bytes key) + n)
+said key h = joined (says (bytes key)) h
+
 module _ (rows filled : ℕ) (margin hold fail : ℤ) (verdict : Verdict) where
-  figures-few : Fits w64 rows → Fits w64 filled → SFits w64 margin → SFits w64 hold → SFits w64 fail → Few (figures-line rows filled margin hold fail verdict) 153
+  pub figures-few : Fits w64 rows → Fits w64 filled → SFits w64 margin → SFits w64 hold → SFits w64 fail → length (figures-line rows filled margin hold fail verdict) ≤ LINE
   figures-few r f m h l =
-      joined (joined (joined (joined (joined (joined (joined (joined (joined (joined (joined (joined (says (bytes "rows=")) (digits rows r)) (says (bytes " filled="))) (digits filled f)) (says (bytes " margin="))) (signs margin m)) (says (bytes " hold="))) (signs hold h)) (says (bytes " fail="))) (signs fail l)) (says (bytes " verdict="))) (word verdict)) (says (bytes "\n"))
+      let s = joined (joined (joined (joined (joined (joined (said "rows=" (digits rows r)) (said " filled=" (digits filled f))) (said " margin=" (signs margin m))) (said " hold=" (signs hold h))) (said " fail=" (signs fail l))) (said " verdict=" (word verdict))) (says (bytes "\n")) in
+      omega (arith, s .few)
 
-  pub figures-said : {r : Line} → Fits w64 rows → Fits w64 filled → SFits w64 margin → SFits w64 hold → SFits w64 fail → r ≡ written blank-line (figures-line rows filled margin hold fail verdict) → Says r (figures-line rows filled margin hold fail verdict)
-  figures-said a b c d f e = rw e (blank-says (figures-line rows filled margin hold fail verdict) (omega (arith, figures-few a b c d f .few)))
-
-pub refusal-said : {r : Line} (n : ℕ) → Fits w64 n → r ≡ written blank-line (refusal-line n) → Says r (refusal-line n)
-refusal-said n f e =
-    let h : Few (refusal-line n) 29 = joined (joined (says (bytes "refused=")) (digits n f)) (says (bytes "\n")) in
-    rw e (blank-says (refusal-line n) (omega (arith, h .few)))
+pub refusal-few : (n : ℕ) → Fits w64 n → length (refusal-line n) ≤ LINE
+refusal-few n f = let s = joined (said "refused=" (digits n f)) (says (bytes "\n")) in omega (arith, s .few)
 
 -- ---- by the answer's number
 
@@ -66,3 +64,12 @@ line-refused o h = go (o .number) h
 pub line-judged : (o : Outcome) → o .number ≡ 0 → figures-line (o .rows) (o .filled) (o .margin) (o .hold) (o .fail) (o .verdict) ≡ line-of o
 unfolding line-of
 line-judged o h = rw h refl
+
+-- and its room
+pub room-refused : (o : Outcome) → (o .number ≡ 0 → ⊥) → length (refusal-line (o .number)) ≤ LINE → length (line-of o) ≤ LINE
+room-refused o h r = subst (λ (bs : List ℕ). length bs ≤ LINE) (line-refused o h) r
+
+pub room-judged : (o : Outcome) {m h f : ℤ} → m ≡ o .margin → h ≡ o .hold → f ≡ o .fail → o .number ≡ 0 → length (figures-line (o .rows) (o .filled) m h f (o .verdict)) ≤ LINE → length (line-of o) ≤ LINE
+room-judged o {m} {h} {f} p q s e r =
+    let l : figures-line (o .rows) (o .filled) m h f (o .verdict) ≡ line-of o = rw (p, q, s) (line-judged o e) in
+    subst (λ (bs : List ℕ). length bs ≤ LINE) l r

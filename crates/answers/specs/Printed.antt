@@ -2,6 +2,7 @@
 -- Assumes nothing.
 use mathlib.Core.List.{List, _++_}
 use Prim.Native.Nat.{ℕ, zero, suc}
+use Prim.Native.String.{String}
 use lib.IntN.{ℤ}
 use Rattle.recordings.specs.declared.Verdict.{Verdict}
 use Rattle.recordings.specs.declared.Verdict.the-variants.{Holds, Fails, NotShown}
@@ -14,15 +15,24 @@ word-of Holds = bytes "holds"
 word-of Fails = bytes "fails"
 word-of NotShown = bytes "unshown"
 
+-- a key and what it says
+abbrev pub field : String → List ℕ → List ℕ
+field key value = bytes key ++ value
+
 -- measured rows, filled rows, plain margin, the two strengthened ones, the verdict
 abbrev pub figures-line : ℕ → ℕ → ℤ → ℤ → ℤ → Verdict → List ℕ
 figures-line rows filled margin hold fail verdict =
-    bytes "rows=" ++ decimal rows ++ bytes " filled=" ++ decimal filled ++ bytes " margin=" ++ decimal-signed margin ++ bytes " hold=" ++ decimal-signed hold ++ bytes " fail=" ++ decimal-signed fail
-    ++ bytes " verdict=" ++ word-of verdict ++ bytes "\n"
+    field "rows=" (decimal rows)
+    ++ field " filled=" (decimal filled)
+    ++ field " margin=" (decimal-signed margin)
+    ++ field " hold=" (decimal-signed hold)
+    ++ field " fail=" (decimal-signed fail)
+    ++ field " verdict=" (word-of verdict)
+    ++ bytes "\n"
 
 -- a refusal prints only `refused=` and its number
 abbrev pub refusal-line : ℕ → List ℕ
-refusal-line number = bytes "refused=" ++ decimal number ++ bytes "\n"
+refusal-line number = field "refused=" (decimal number) ++ bytes "\n"
 
 abbrev pub line-by : ℕ → Outcome → List ℕ
 line-by zero a = figures-line (a .rows) (a .filled) (a .margin) (a .hold) (a .fail) (a .verdict)
@@ -30,3 +40,7 @@ line-by (suc n) a = refusal-line (suc n)
 
 unfoldable pub line-of : Outcome → List ℕ
 line-of a = line-by (a .number) a
+
+-- no line is longer
+abbrev pub LINE : ℕ
+LINE = 160

@@ -16,20 +16,19 @@ ghost use Rattle.sheet_rows.specs.Answer.{answer-of, times-of, values-of, after
 ghost use Rattle.margins.specs.Answers.{outcome as margin-outcome, judged as margin-judged, cells-after as margin-cells};
 ghost use Rattle.verdicts.specs.Answer.{outcome as verdict-outcome, judged as verdict-judged, cells-after as verdict-cells};
 ghost use Rattle.answers.specs.Answers.{answer-of-text};
-ghost use Rattle.answers.specs.Printed.{line-of};
+ghost use Rattle.answers.specs.Printed.{LINE, line-of};
 ghost use Rattle.exports.specs.Places.{sheet-places, row-places, card-from, margin-places, verdict-number, verdict-places};
 
 // The printed line of the answer to a whole text, and its length.
 #[no_mangle]
 pub extern "C" fn varmityep_answer(text: &[u8], line: &mut [u8]) -> usize
     ensures length { λ r. ⌜ r ≡ length (line-of (answer-of-text (now (text .entry)))) ⌝ }
-    ensures room { λ r. ⌜ r ≤ 160 ⌝ }
+    ensures room { λ r. ⌜ r ≤ LINE ⌝ }
     ensures line { λ _. ⌜ now (line .exit) ≡ written (line-of (answer-of-text (now (text .entry)))) (now (line .entry)) ⌝ }
 {
-    let printed = answers::printed::answer_line(text);
-    let len = printed.len;
-    let bytes = printed.bytes;
-    flat::write_bytes(&bytes[..len], line);
+    let mut printed = [0u8; answers::printed::LINE];
+    let len = answers::printed::answer_line(text, &mut printed);
+    flat::write_bytes(&printed[..len], line);
     len
 }
 

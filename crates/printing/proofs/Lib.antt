@@ -1,5 +1,5 @@
--- Laws of what is written after a line (`Written`) and of decimal digits (`Decimal`, `Numerals`, `Lengths`).
-pub mod Written
+-- Laws of printed bytes (`Printed`) and of decimal digits (`Decimal`, `Numerals`, `Lengths`).
+pub mod Printed
 pub mod Decimal
 pub mod Numerals
 pub mod Lengths

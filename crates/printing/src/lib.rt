@@ -1,47 +1,27 @@
-// A printed line, built byte by byte in an array of its own.
+// Prints words and numbers into a lent slice from a place on, and answers the place behind them. A byte that the slice has no place for is left out.
 ghost use mathlib.Core.Path.{_≡_};
 ghost use mathlib.Core.List.{[], _∷_};
 ghost use Rattle.printing.specs.Decimal.{digit-of, decimal, decimal-signed};
-ghost use Rattle.printing.specs.Line.{blank-line, written};
+ghost use Rattle.printing.specs.Output.{output, printed};
 
-// The first `len` bytes are the line. The longest line that 64-bit numbers give has 153.
-pub struct Line {
-    pub bytes: [u8; 160],
-    pub len: usize,
-}
-
-pub fn blank() -> Line
-    ensures { λ r. ⌜ r ≡ blank-line ⌝ }
+fn byte(out: &mut [u8], at: usize, b: u8) -> usize
+    ensures { λ r. ⌜ output (out .exit) r ≡ printed (output (out .entry) at) (b ∷ []) ⌝ }
 {
-    let bytes = [0u8; 160];
-    Line {
-        bytes: bytes,
-        len: 0,
+    if out.len() <= at {
+        return at;
     }
-}
-
-// One byte more; a full line stays as it is.
-fn push(line: Line, b: u8) -> Line
-    ensures { λ r. ⌜ r ≡ written line (b ∷ []) ⌝ }
-{
-    let at = line.len;
-    if 160 <= at {
-        return line;
-    }
-    let mut next = line;
-    next.bytes[at] = b;
-    next.len = at + 1;
-    next
+    out[at] = b;
+    at + 1
 }
 
 // A fixed word.
-pub fn word(line: Line, word: &[u8]) -> Line
-    ensures { λ r. ⌜ r ≡ written line (now (word .entry)) ⌝ }
+pub fn word(out: &mut [u8], at: usize, word: &[u8]) -> usize
+    ensures { λ r. ⌜ output (out .exit) r ≡ printed (output (out .entry) at) (now (word .entry)) ⌝ }
 {
-    let mut next = line;
+    let mut next = at;
     let mut i = 0;
     while i < word.len() {
-        next = push(next, word[i]);
+        next = byte(out, next, word[i]);
         i += 1;
     }
     next
@@ -54,23 +34,25 @@ fn digit(n: u64) -> u8
 }
 
 // A number in decimal digits.
-pub fn number(line: Line, n: u64) -> Line
-    ensures { λ r. ⌜ r ≡ written line (decimal n) ⌝ }
+pub fn number(out: &mut [u8], at: usize, n: u64) -> usize
+    ensures { λ r. ⌜ output (out .exit) r ≡ printed (output (out .entry) at) (decimal n) ⌝ }
 {
     if n < 10 {
-        return push(line, digit(n));
+        return byte(out, at, digit(n));
     }
-    push(number(line, n / 10), digit(n))
+    let last = number(out, at, n / 10);
+    byte(out, last, digit(n))
 }
 
 // A number with its sign, where it is negative.
-pub fn signed(line: Line, v: i64) -> Line
-    ensures { λ r. ⌜ r ≡ written line (decimal-signed v) ⌝ }
+pub fn signed(out: &mut [u8], at: usize, v: i64) -> usize
+    ensures { λ r. ⌜ output (out .exit) r ≡ printed (output (out .entry) at) (decimal-signed v) ⌝ }
 {
     let size = numbers::magnitude(v);
     if v < 0 {
-        number(word(line, b"-"), size)
+        let digits = word(out, at, b"-");
+        number(out, digits, size)
     } else {
-        number(line, size)
+        number(out, at, size)
     }
 }

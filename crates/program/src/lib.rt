@@ -100,8 +100,7 @@ pub fn answer_from(fd: i32) {
     let Input::Whole(count) = read_text(fd, &mut text) else {
         return;
     };
-    let line = answers::printed::answer_line(&text[..count]);
-    let len = line.len;
-    let bytes = line.bytes;
-    write_line(libc::STDOUT_FILENO, &bytes[..len]);
+    let mut line = [0u8; answers::printed::LINE];
+    let len = answers::printed::answer_line(&text[..count], &mut line);
+    write_line(libc::STDOUT_FILENO, &line[..len]);
 }

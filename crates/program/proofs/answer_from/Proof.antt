@@ -1,9 +1,9 @@
--- The bytes that were read lie in the buffer, and those that the line says in the line.
+-- The bytes that were read lie in the buffer, and the line's end in the line.
 -- Assumes nothing.
-use mathlib.Core.Path.{_≡_, sym}
+use mathlib.Core.Path.{sym}
 use native.Mathlib.Omega.{arith}
-use lib.ListN.{length}
 use lib.Seq.{length-take-le}
+use Rattle.printing.proofs.Printed.{place-inside}
 use borrow.Author.Needs.{needs}
 use Rattle.program.proofs.answer_from.Statement.{statement}
 use Rattle.program.proofs.answer_from.Tie as tie
@@ -34,14 +34,17 @@ array-share-prefix-text c = rw (c .before .count .given .1) at (c .before .befor
 slice-aggregate-answer-line : tie.Need-slice-aggregate-answer-line
 slice-aggregate-answer-line c = sym (length-take-le _ _ (rw (c .before .before .count .given .1) at (c .before .before .before .before .before .read-text .ensures)))
 
+slice-aggregate-answer-line-2 : tie.Need-slice-aggregate-answer-line-2
+slice-aggregate-answer-line-2 c = search needs
+
 answer-line-requires : tie.Need-answer-line-requires
 answer-line-requires c κs = search needs
 
-array-share-prefix-bytes : tie.Need-array-share-prefix-bytes
-array-share-prefix-bytes c = let n : length (c .before .answer-line .result .bytes) ≡ 160 = search needs in omega (arith, c .before .answer-line .ensures .fits)
+array-share-prefix-line : tie.Need-array-share-prefix-line
+array-share-prefix-line c = place-inside _ _ (c .before .answer-line .ensures .0) (omega arith)
 
 slice-aggregate-write-line : tie.Need-slice-aggregate-write-line
-slice-aggregate-write-line c = let n : length (c .before .before .answer-line .result .bytes) ≡ 160 = search needs in sym (length-take-le _ _ (omega (arith, c .before .before .answer-line .ensures .fits)))
+slice-aggregate-write-line c = sym (length-take-le _ _ (place-inside _ _ (c .before .before .answer-line .ensures .0) (omega arith)))
 
 write-line-requires : tie.Need-write-line-requires
 write-line-requires c κs = search needs
@@ -60,8 +63,9 @@ answer-from-spec =
     returns
     array-share-prefix-text
     slice-aggregate-answer-line
+    slice-aggregate-answer-line-2
     answer-line-requires
-    array-share-prefix-bytes
+    array-share-prefix-line
     slice-aggregate-write-line
     write-line-requires
     returns-2)

@@ -14,8 +14,11 @@ answer-requires c κs = search needs
 line-requires : tie.Need-line-requires
 line-requires c κs = search needs
 
+same-length : tie.Need-same-length
+same-length c = search needs
+
 returns : tie.Need-returns
-returns c = rw (c .before .answer .ensures) at (c .line .ensures)
+returns c = (rw (c .before .before .before .answer .ensures) at (c .before .before .line .ensures .0), rw (c .before .before .before .answer .ensures) at (c .before .before .line .ensures .1))
 
 pub answer-line-spec : {M : Type 1} → statement M
-answer-line-spec = tie.close (tie.spec answer-requires line-requires returns)
+answer-line-spec = tie.close (tie.spec answer-requires line-requires same-length returns)

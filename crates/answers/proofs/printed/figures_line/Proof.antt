@@ -1,23 +1,60 @@
--- Word after word, as written after a blank line.
+-- Field after field, and the line feed.
 -- Assumes nothing.
-use mathlib.Core.Path.{_≡_}
-use Rattle.numbers.proofs.Bits.{back}
-use Rattle.printing.specs.Line.{blank-line}
-use Rattle.printing.proofs.Written.{written-then}
-use Rattle.answers.proofs.Lines.{figures-said}
+use mathlib.Core.Path.{_≡_, ap, _∙_}
+use lib.ListN.{length}
+use Rattle.printing.specs.Output.{Output, printed}
+use Rattle.printing.proofs.Printed.{printed-then, printed-length}
+use Rattle.answers.specs.Printed.{figures-line}
+use Rattle.numbers.proofs.Bits.{back, back-is}
+use Rattle.answers.proofs.Lines.{figures-few}
 use borrow.Author.Needs.{needs}
 use Rattle.answers.proofs.printed.figures_line.Statement.{statement}
 use Rattle.answers.proofs.printed.figures_line.Tie as tie
 use Rattle.answers.proofs.printed.figures_line.Reads as reads
 use Rattle.answers.proofs.printed.figures_line.Lts as lts
+use Rattle.answers.proofs.printed.number_field.Reads as number-field-reads
+use Rattle.answers.proofs.printed.signed_field.Reads as signed-field-reads
 use Rattle.answers.proofs.printed.verdict_word.Reads as verdict-word-reads
-use Rattle.printing.proofs.blank.Reads as blank-reads
-use Rattle.printing.proofs.number.Reads as number-reads
-use Rattle.printing.proofs.signed.Reads as signed-reads
 use Rattle.printing.proofs.word.Reads as word-reads
 
-blank-requires : tie.Need-blank-requires
-blank-requires c κs = search needs
+abbrev entry : tie.After-slice-known9 → tie.Start
+entry c = c .before .before .before .before .before .before .before .before .before .before .before .before .before .before .before .before .before .before .before .before .before .before .before .before .before .before .before .before .before .before .before .before .before .before .before .before .before .before .before .before
+
+abbrev start-of : tie.After-slice-known9 → Output
+start-of c = record { bytes = entry c .args .out .now; end = entry c .args .at }
+
+abbrev output-of : tie.After-slice-known9 → Output
+output-of c = record { bytes = c .before .before .word2 .last .0; end = c .before .before .word2 .result }
+
+slice-aggregate-number-field : tie.Need-slice-aggregate-number-field
+slice-aggregate-number-field c = search needs
+
+number-field-requires : tie.Need-number-field-requires
+number-field-requires c κs = search needs
+
+slice-aggregate-number-field-2 : tie.Need-slice-aggregate-number-field-2
+slice-aggregate-number-field-2 c = search needs
+
+number-field-requires-2 : tie.Need-number-field-requires-2
+number-field-requires-2 c κs = search needs
+
+slice-aggregate-signed-field : tie.Need-slice-aggregate-signed-field
+slice-aggregate-signed-field c = search needs
+
+signed-field-requires : tie.Need-signed-field-requires
+signed-field-requires c κs = search needs
+
+slice-aggregate-signed-field-2 : tie.Need-slice-aggregate-signed-field-2
+slice-aggregate-signed-field-2 c = search needs
+
+signed-field-requires-2 : tie.Need-signed-field-requires-2
+signed-field-requires-2 c κs = search needs
+
+slice-aggregate-signed-field-3 : tie.Need-slice-aggregate-signed-field-3
+slice-aggregate-signed-field-3 c = search needs
+
+signed-field-requires-3 : tie.Need-signed-field-requires-3
+signed-field-requires-3 c κs = search needs
 
 slice-aggregate-word : tie.Need-slice-aggregate-word
 slice-aggregate-word c = search needs
@@ -25,8 +62,8 @@ slice-aggregate-word c = search needs
 word-requires : tie.Need-word-requires
 word-requires c κs = search needs
 
-number-requires : tie.Need-number-requires
-number-requires c κs = search needs
+verdict-word-requires : tie.Need-verdict-word-requires
+verdict-word-requires c κs = search needs
 
 slice-aggregate-word-2 : tie.Need-slice-aggregate-word-2
 slice-aggregate-word-2 c = search needs
@@ -34,83 +71,46 @@ slice-aggregate-word-2 c = search needs
 word-requires-2 : tie.Need-word-requires-2
 word-requires-2 c κs = search needs
 
-number-requires-2 : tie.Need-number-requires-2
-number-requires-2 c κs = search needs
+-- all that is printed
+whole : (c : tie.After-slice-known9) → output-of c ≡ printed (start-of c) (figures-line (entry c .args .rows) (entry c .args .filled) (entry c .args .margin) (entry c .args .hold) (entry c .args .fail) (entry c .args .verdict))
+whole c =
+    let s = entry c in
+    let m : back (s .args .margin) ≡ s .args .margin = back-is (s .fits .margin) in
+    let h : back (s .args .hold) ≡ s .args .hold = back-is (s .fits .hold) in
+    let f : back (s .args .fail) ≡ s .args .fail = back-is (s .fits .fail) in
+    let two = printed-then _ _ _ (c .before .before .before .before .before .before .before .before .before .before .before .before .before .before .before .before .before .before .before .before .before .before .before .before .before .before .before .before .before .before .before .before .before .before .before .before .number-field .ensures) (c .before .before .before .before .before .before .before .before .before .before .before .before .before .before .before .before .before .before .before .before .before .before .before .before .before .before .before .before .before .before .before .number-field2 .ensures) in
+    let three = printed-then _ _ _ two (rw m at (c .before .before .before .before .before .before .before .before .before .before .before .before .before .before .before .before .before .before .before .before .before .before .before .before .before .before .signed-field .ensures)) in
+    let four = printed-then _ _ _ three (rw h at (c .before .before .before .before .before .before .before .before .before .before .before .before .before .before .before .before .before .before .before .before .before .signed-field2 .ensures)) in
+    let five = printed-then _ _ _ four (rw f at (c .before .before .before .before .before .before .before .before .before .before .before .before .before .before .before .before .signed-field3 .ensures)) in
+    let six = printed-then _ _ _ five (printed-then _ _ _ (c .before .before .before .before .before .before .before .before .before .before .before .word .ensures) (c .before .before .before .before .before .before .before .verdict-word .ensures)) in
+    printed-then _ _ _ six (c .before .before .word2 .ensures)
 
-slice-aggregate-word-3 : tie.Need-slice-aggregate-word-3
-slice-aggregate-word-3 c = search needs
-
-word-requires-3 : tie.Need-word-requires-3
-word-requires-3 c κs = search needs
-
-signed-requires : tie.Need-signed-requires
-signed-requires c κs = search needs
-
-slice-aggregate-word-4 : tie.Need-slice-aggregate-word-4
-slice-aggregate-word-4 c = search needs
-
-word-requires-4 : tie.Need-word-requires-4
-word-requires-4 c κs = search needs
-
-signed-requires-2 : tie.Need-signed-requires-2
-signed-requires-2 c κs = search needs
-
-slice-aggregate-word-5 : tie.Need-slice-aggregate-word-5
-slice-aggregate-word-5 c = search needs
-
-word-requires-5 : tie.Need-word-requires-5
-word-requires-5 c κs = search needs
-
-signed-requires-3 : tie.Need-signed-requires-3
-signed-requires-3 c κs = search needs
-
-slice-aggregate-word-6 : tie.Need-slice-aggregate-word-6
-slice-aggregate-word-6 c = search needs
-
-word-requires-6 : tie.Need-word-requires-6
-word-requires-6 c κs = search needs
-
-verdict-word-requires : tie.Need-verdict-word-requires
-verdict-word-requires c κs = search needs
-
-slice-aggregate-word-7 : tie.Need-slice-aggregate-word-7
-slice-aggregate-word-7 c = search needs
-
-word-requires-7 : tie.Need-word-requires-7
-word-requires-7 c κs = search needs
+same-length : tie.Need-same-length
+same-length c = ap (λ (o : Output). length (o .bytes)) (whole c) ∙ printed-length _ _
 
 returns : tie.Need-returns
 returns c =
-    let s = c .before .before .before .before .before .before .before .before .before .before .before .before .before .before .before .before .before .before .before .before .before in
-    let m : back (s .args .margin) ≡ s .args .margin = search needs in
-    let h : back (s .args .hold) ≡ s .args .hold = search needs in
-    let f : back (s .args .fail) ≡ s .args .fail = search needs in
-    figures-said (s .args .rows) (s .args .filled) (s .args .margin) (s .args .hold) (s .args .fail) (s .args .verdict) (s .fits .rows) (s .fits .filled) (s .fits .margin) (s .fits .hold) (s .fits .fail)
-    (written-then blank-line _ _ (written-then blank-line _ _ (written-then blank-line _ _ (written-then blank-line _ _ (written-then blank-line _ _ (written-then blank-line _ _ (written-then blank-line _ _ (written-then blank-line _ _ (written-then blank-line _ _ (written-then blank-line _ _ (written-then blank-line _ _ (written-then blank-line _ _ (rw (c .before .before .before .before .before .before .before .before .before .before .before .before .before .before .before .before .before .before .before .before .blank .ensures) at (c .before .before .before .before .before .before .before .before .before .before .before .before .before .before .before .before .before .before .word .ensures)) (c .before .before .before .before .before .before .before .before .before .before .before .before .before .before .before .before .before .number .ensures)) (c .before .before .before .before .before .before .before .before .before .before .before .before .before .before .before .word2 .ensures)) (c .before .before .before .before .before .before .before .before .before .before .before .before .before .before .number2 .ensures)) (c .before .before .before .before .before .before .before .before .before .before .before .before .word3 .ensures)) (rw m at (c .before .before .before .before .before .before .before .before .before .before .before .signed .ensures))) (c .before .before .before .before .before .before .before .before .before .word4 .ensures)) (rw h at (c .before .before .before .before .before .before .before .before .signed2 .ensures))) (c .before .before .before .before .before .before .word5 .ensures)) (rw f at (c .before .before .before .before .before .signed3 .ensures))) (c .before .before .before .word6 .ensures)) (c .before .before .verdict-word .ensures)) (c .word7 .ensures))
+    let s = entry c in
+    (whole c, figures-few _ _ _ _ _ (s .args .verdict) (s .fits .rows) (s .fits .filled) (s .fits .margin) (s .fits .hold) (s .fits .fail))
 
 pub figures-line-spec : {M : Type 1} → statement M
 figures-line-spec =
     tie.close
     (tie.spec
-    blank-requires
+    slice-aggregate-number-field
+    number-field-requires
+    slice-aggregate-number-field-2
+    number-field-requires-2
+    slice-aggregate-signed-field
+    signed-field-requires
+    slice-aggregate-signed-field-2
+    signed-field-requires-2
+    slice-aggregate-signed-field-3
+    signed-field-requires-3
     slice-aggregate-word
     word-requires
-    number-requires
+    verdict-word-requires
     slice-aggregate-word-2
     word-requires-2
-    number-requires-2
-    slice-aggregate-word-3
-    word-requires-3
-    signed-requires
-    slice-aggregate-word-4
-    word-requires-4
-    signed-requires-2
-    slice-aggregate-word-5
-    word-requires-5
-    signed-requires-3
-    slice-aggregate-word-6
-    word-requires-6
-    verdict-word-requires
-    slice-aggregate-word-7
-    word-requires-7
+    same-length
     returns)

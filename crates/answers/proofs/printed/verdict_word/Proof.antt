@@ -34,14 +34,23 @@ slice-aggregate-word-3 c = search needs
 word-requires-3 : tie.Need-word-requires-3
 word-requires-3 c κs = search needs
 
+same-length : tie.Need-same-length
+same-length c = search needs
+
 returns : tie.Need-returns
-returns c = rw (c .before .before .enum-told .given .1) (c .word .ensures)
+returns c = rw (c .before .before .before .before .before .enum-told .given .1) (c .before .before .word .ensures)
+
+same-length-2 : tie.Need-same-length-2
+same-length-2 c = search needs
 
 returns-2 : tie.Need-returns-2
-returns-2 c = rw (c .before .before .enum-told2 .given .1) (c .word2 .ensures)
+returns-2 c = rw (c .before .before .before .before .before .enum-told2 .given .1) (c .before .before .word2 .ensures)
+
+same-length-3 : tie.Need-same-length-3
+same-length-3 c = search needs
 
 returns-3 : tie.Need-returns-3
-returns-3 c = rw (c .before .before .enum-told3 .given .1) (c .word3 .ensures)
+returns-3 c = rw (c .before .before .before .before .before .enum-told3 .given .1) (c .before .before .word3 .ensures)
 
 pub verdict-word-spec : {M : Type 1} → statement M
 verdict-word-spec =
@@ -56,6 +65,9 @@ verdict-word-spec =
     enum-told-3
     slice-aggregate-word-3
     word-requires-3
+    same-length
     returns
+    same-length-2
     returns-2
+    same-length-3
     returns-3)
