@@ -19,6 +19,11 @@ pub only-number : (n : ℕ) (c : Card) (t : Table) (step drift filled : ℕ) →
 only-number zero c t step drift filled h = absurd (h refl)
 only-number (suc n) c t step drift filled h = refl
 
+-- and the number is what it was answered by
+pub answered-number : (n : ℕ) (c : Card) (t : Table) (step drift filled : ℕ) → answered n c t step drift filled .number ≡ n
+answered-number zero c t step drift filled = refl
+answered-number (suc n) c t step drift filled = refl
+
 module _ (c : Card) (t : Table) (step drift filled : ℕ) where
   number-is : judged c t step drift CELLS .number ≡ refusal c t step drift CELLS
   unfolding judged

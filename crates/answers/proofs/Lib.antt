@@ -2,6 +2,7 @@
 pub mod Figures
 pub mod Lines
 pub mod Promises
+pub mod Relations
 pub mod Rows
 pub mod Runs
 pub mod Wholes

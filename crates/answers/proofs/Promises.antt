@@ -39,13 +39,10 @@ use Rattle.sheets.proofs.Behind.{same-requirement, same-behind}
 use Rattle.answers.specs.declared.Outcome.{Outcome}
 use Rattle.answers.specs.Answers.{ROWS, CELLS, measured, sheet-check, requirement-check, rows-check, table-run, requirement-run, figures, answered, refused-by, answer-for, listing, rows-part, requirement-part, requirement-in, listing-in, whole-run, answer-of-text}
 use Rattle.answers.specs.Printed.{line-of}
+use Rattle.answers.proofs.Figures.{answered-number}
 use Rattle.answers.proofs.Wholes.{sheet-refused, sheet-read}
 
 -- ---- the order of refusals
-
-answered-number : (n : ℕ) (c : Card) (t : Table) (step drift filled : ℕ) → answered n c t step drift filled .number ≡ n
-answered-number zero c t step drift filled = refl
-answered-number (suc n) c t step drift filled = refl
 
 for-number : (x : Sheet) (l : Listing) (r : List ℕ) → answer-for x l r .number ≡ first (requirement-run x l r)
 unfolding answer-for
