@@ -16,7 +16,7 @@ use Rattle.logic.proofs.Margins.{Sign, sign-step, Decides, decides-step}
 use Rattle.recordings.specs.declared.Range.{Range}
 use Rattle.recordings.specs.declared.Range.the-variants.{Unset, Free, AtLeast, AtMost, Between}
 use Rattle.recordings.specs.Distance.{contains, clearance, distance}
-use Rattle.recordings.specs.Accepted.{InRange, Ends}
+use Rattle.recordings.specs.Accepted.{FARTHEST, InRange, Ends}
 
 -- ---- the clearance
 -- from a to b, and from c to d: two differences at most e apart
@@ -91,9 +91,9 @@ Open (Between lo hi) = ⊥
 pub distance-small : (top : ℕ) (r : Range) (v : ℤ) → Ends r → InRange v → Open r ⊎ Within 2_000_000_001 (distance top r v)
 distance-small top Unset v h k = inl tt
 distance-small top Free v h k = inl tt
-distance-small top (AtLeast lo) v h k = inr (clearance-small 1_000_000_000 lo v h k)
-distance-small top (AtMost hi) v h k = inr (clearance-small 1_000_000_000 v hi k h)
-distance-small top (Between lo hi) v h k = inr (within-either (ltZ (clearance v hi) (clearance lo v)) (clearance-small 1_000_000_000 lo v (h .0) k) (clearance-small 1_000_000_000 v hi k (h .1)))
+distance-small top (AtLeast lo) v h k = inr (clearance-small FARTHEST lo v h k)
+distance-small top (AtMost hi) v h k = inr (clearance-small FARTHEST v hi k h)
+distance-small top (Between lo hi) v h k = inr (within-either (ltZ (clearance v hi) (clearance lo v)) (clearance-small FARTHEST lo v (h .0) k) (clearance-small FARTHEST v hi k (h .1)))
 
 pub distance-open : (top : ℕ) (r : Range) (v : ℤ) → Open r → distance top r v ≡ pos top
 distance-open top Unset v o = refl

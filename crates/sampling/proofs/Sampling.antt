@@ -15,7 +15,7 @@ use Rattle.numbers.proofs.Parts.{le-parts, parts-le, parts-apart, abs-parts, su
 use Rattle.lists.proofs.Below.{same-test, all-at, at-all}
 use Rattle.lists.proofs.Filled.{earlier-row}
 use Rattle.recordings.specs.Card.{Card, rows, time, value}
-use Rattle.recordings.specs.Accepted.{Step, Gapless, Steady, Recorded, Accepted}
+use Rattle.recordings.specs.Accepted.{LONGEST-STEP, LARGEST-DRIFT, Step, Gapless, Steady, Recorded, Accepted}
 use Rattle.tables.specs.declared.Table.{Table}
 use Rattle.refusals.specs.First.{first, Exact, AllExact, check-at}
 use Rattle.rules.specs.Refusals.{checks as recording-checks}
@@ -27,15 +27,15 @@ use Rattle.sampling.specs.Sampling.{step-obeys, all-close, times-close, 
 pub step-is : (step drift : ℕ) → T (step-obeys step drift) → Step step drift
 unfolding step-obeys
 step-is step drift t =
-    let a = and-yes (leb 1 step) (leb step 1_000_000_000 && leb drift 1_000_000_000) t in
-    let b = and-yes (leb step 1_000_000_000) (leb drift 1_000_000_000) (a .1) in
-    record { some-step = leb→le 1 step (a .0); short-step = leb→le step 1_000_000_000 (b .0); small-drift = leb→le drift 1_000_000_000 (b .1) }
+    let a = and-yes (leb 1 step) (leb step LONGEST-STEP && leb drift LARGEST-DRIFT) t in
+    let b = and-yes (leb step LONGEST-STEP) (leb drift LARGEST-DRIFT) (a .1) in
+    record { some-step = leb→le 1 step (a .0); short-step = leb→le step LONGEST-STEP (b .0); small-drift = leb→le drift LARGEST-DRIFT (b .1) }
 
 pub step-passes : (step drift : ℕ) → Step step drift → T (step-obeys step drift)
 unfolding step-obeys
 step-passes step drift r =
-    yes-and (leb 1 step) (leb step 1_000_000_000 && leb drift 1_000_000_000) (le→leb 1 step (r .some-step))
-    (yes-and (leb step 1_000_000_000) (leb drift 1_000_000_000) (le→leb step 1_000_000_000 (r .short-step)) (le→leb drift 1_000_000_000 (r .small-drift)))
+    yes-and (leb 1 step) (leb step LONGEST-STEP && leb drift LARGEST-DRIFT) (le→leb 1 step (r .some-step))
+    (yes-and (leb step LONGEST-STEP) (leb drift LARGEST-DRIFT) (le→leb step LONGEST-STEP (r .short-step)) (le→leb drift LARGEST-DRIFT (r .small-drift)))
 
 -- ---- 10
 pub gapless : (c : Card) (step : ℕ) → T (times-close step (c .times)) → Gapless c step
