@@ -5,6 +5,7 @@ use mathlib.Core.Bool.{Bool, true, not, _&&_, _||_}
 use mathlib.Core.List.{List}
 use Prim.Native.Nat.{ℕ, _<_}
 use lib.Dec.{leb, ltb, eqb}
+use lib.ListN.{length}
 use lib.IntN.{ℤ, pos, negℤ}
 use lib.Signed.{leZ}
 use Rattle.lists.specs.Fold.{all-below}
@@ -55,4 +56,4 @@ unfoldable pub predicates-obey : ℕ → List Predicate → ℕ → Bool
 predicates-obey channels ps n = all-below (λ p. predicate-obeys channels (predicate-at ps p)) n
 
 unfoldable pub channels-obey : ℕ → List Predicate → Bool
-channels-obey channels ps = leb 1 channels && (leb channels MOST-CHANNELS && predicates-obey channels ps 16)
+channels-obey channels ps = leb 1 channels && (leb channels MOST-CHANNELS && predicates-obey channels ps (length ps))

@@ -2,6 +2,7 @@
 // No test branches on what it has found so far: each looks at everything that it judges.
 ghost use mathlib.Core.Path.{_≡_};
 ghost use Prim.Native.Nat.{_≤_};
+ghost use lib.ListN.{length};
 ghost use Rattle.predicates.specs.Predicates.{is-set, names-set, all-named, requirement-obeys, value-obeys, range-obeys, predicate-obeys, predicates-obey, channels-obey};
 use recordings::FARTHEST;
 use recordings::MOST_CHANNELS;
@@ -97,7 +98,7 @@ fn predicate_obeys(predicate: Predicate, channels: usize) -> bool
 }
 
 fn predicates_obey(predicates: [Predicate; 16], channels: usize) -> bool
-    ensures { λ r. ⌜ r ≡ predicates-obey channels predicates 16 ⌝ }
+    ensures { λ r. ⌜ r ≡ predicates-obey channels predicates (length predicates) ⌝ }
 {
     let mut ok = true;
     let mut p = 0;

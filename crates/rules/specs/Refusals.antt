@@ -1,10 +1,7 @@
 -- Refusals 3 to 7, in the order in which they count: what a table and a card are judged by before any margin is taken.
 -- Assumes nothing.
 use mathlib.Core.List.{List, [], _∷_, _++_}
-use Prim.Native.Nat.{ℕ}
 use lib.ListN.{length}
-use lib.IntN.{ℤ}
-use Rattle.recordings.specs.declared.Predicate.{Predicate}
 use Rattle.recordings.specs.Card.{Card, rows}
 use Rattle.recordings.specs.Accepted.{Channels, Lengths, Times, Values, Recorded}
 use Rattle.tables.specs.declared.Table.{Table}
