@@ -54,7 +54,7 @@ module _ {w : List ℤ} {c : Card} {n : Node} {left right row : ℕ} (a : NodeAs
     known = elim (a .recorded .channels .proper (n .left) .known) [ inl u ↦ absurd (a .set e u) | inr k ↦ k ];
     ends = a .recorded .channels .proper (n .left) .ends;
     all-values = omega (arith, a .recorded .lengths .all-values);
-    in-range = a .recorded .values .in-range;
+    in-range = a .recorded .values;
   }
 
 -- eight kinds that it is not leave the last

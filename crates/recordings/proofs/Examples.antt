@@ -43,7 +43,7 @@ accepted {c} {step} {drift} t = record {
       small-times = λ i h. leb→le _ _ (all-at (λ j. leb (time c j) LATEST) (rows c) (t .small-times) i h);
     };
     values = record {
-      in-range = λ m h. record { size = leb→le _ _ (all-at (λ j. leb (natAbs (getD (c .values) j (pos 0))) FARTHEST) (length (c .values)) (t .in-range) m h) };
+      each = λ m h. record { size = leb→le _ _ (all-at (λ j. leb (natAbs (getD (c .values) j (pos 0))) FARTHEST) (length (c .values)) (t .in-range) m h) };
     };
   };
   stepped = record { some-step = leb→le 1 step (t .some-step); short-step = leb→le step LONGEST-STEP (t .short-step); small-drift = leb→le drift LARGEST-DRIFT (t .small-drift) };

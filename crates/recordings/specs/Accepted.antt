@@ -2,6 +2,7 @@
 -- Assumes nothing.
 use mathlib.Core.Path.{_≡_}
 use mathlib.Core.Logic.{_⊎_}
+use mathlib.Core.List.{List}
 use Prim.Native.Nat.{ℕ, suc, _+_, _*_, _≤_, _<_}
 use lib.Dec.{T}
 use lib.ListN.{length, getD}
@@ -73,8 +74,8 @@ pub record Times (c : Card) : Type 0 where
   pub small-times : (i : ℕ) → i < rows c → time c i ≤ LATEST
 
 -- 7: no value out of range
-pub record Values (c : Card) : Type 0 where
-  pub in-range : (m : ℕ) → m < length (c .values) → InRange (getD (c .values) m (pos 0))
+pub record Values (values : List ℤ) : Type 0 where
+  pub each : (m : ℕ) → m < length values → InRange (getD values m (pos 0))
 
 -- 9: the step is 1 to 1,000,000,000 seconds, the drift 0 to 1,000,000,000
 pub record Step (step drift : ℕ) : Type 0 where
@@ -95,7 +96,7 @@ pub record Recorded (c : Card) : Type 0 where
   pub channels : Channels c
   pub lengths : Lengths c
   pub times : Times c
-  pub values : Values c
+  pub values : Values (c .values)
 
 -- nor do refusals 9 to 11
 pub record Accepted (c : Card) (step drift : ℕ) : Type 0 where

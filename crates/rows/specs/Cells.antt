@@ -9,7 +9,7 @@ use Rattle.numbers.specs.Order.{Within}
 use Rattle.logic.specs.declared.Extremum.{Extremum}
 use Rattle.logic.specs.declared.Extremum.the-variants.{Largest, Smallest}
 use Rattle.recordings.specs.Distance.{TOP}
-use Rattle.recordings.specs.Accepted.{InRange, Ends}
+use Rattle.recordings.specs.Accepted.{Ends, Values}
 use Rattle.recordings.specs.declared.Predicate.{Predicate}
 
 -- the value of row r at place i
@@ -40,4 +40,4 @@ pub record Leaf (values : List ℤ) (channels : ℕ) (p : Predicate) (n : ℕ) :
   pub known : p .channel < channels
   pub ends : Ends (p .range)
   pub all-values : n * channels ≤ length values
-  pub in-range : (m : ℕ) → m < length values → InRange (getD values m (pos 0))
+  pub in-range : Values values

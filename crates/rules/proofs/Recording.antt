@@ -55,10 +55,10 @@ times-pass c r =
     (at-all (λ j. leb (time c j) LATEST) (rows c) (λ i h. le→leb (time c i) LATEST (r .small-times i h)))
 
 -- ---- 7
-pub values-are : (c : Card) → T (values-obey (c .values)) → Values c
+pub values-are : (c : Card) → T (values-obey (c .values)) → Values (c .values)
 unfolding all-in-range values-obey
-values-are c t = record { in-range = λ m h. value-in-range (getD (c .values) m (pos 0)) (all-at (λ j. value-obeys (getD (c .values) j (pos 0))) (length (c .values)) t m h) }
+values-are c t = record { each = λ m h. value-in-range (getD (c .values) m (pos 0)) (all-at (λ j. value-obeys (getD (c .values) j (pos 0))) (length (c .values)) t m h) }
 
-pub values-pass : (c : Card) → Values c → T (values-obey (c .values))
+pub values-pass : (c : Card) → Values (c .values) → T (values-obey (c .values))
 unfolding all-in-range values-obey
-values-pass c r = at-all (λ j. value-obeys (getD (c .values) j (pos 0))) (length (c .values)) (λ m h. in-range-passes (getD (c .values) m (pos 0)) (r .in-range m h))
+values-pass c r = at-all (λ j. value-obeys (getD (c .values) j (pos 0))) (length (c .values)) (λ m h. in-range-passes (getD (c .values) m (pos 0)) (r .each m h))

@@ -22,7 +22,7 @@ abbrev pub sample-checks : Card → List Check
 sample-checks c =
     record { number = 5; sentence = Lengths c; passes = lengths-obey (rows c) (length (c .values)) (c .channels) }
     ∷ record { number = 6; sentence = Times c; passes = times-obey (c .times) }
-    ∷ record { number = 7; sentence = Values c; passes = values-obey (c .values) }
+    ∷ record { number = 7; sentence = Values (c .values); passes = values-obey (c .values) }
     ∷ []
 
 abbrev pub checks : Card → Table → List Check

@@ -100,7 +100,7 @@ steady-passes c drift s l r = at-all (λ m. near drift (getD (c .values) m (pos 
 
 -- ---- all of them
 pub measured : {c : Card} → Recorded c → Measured (c .channels) (c .times) (c .values)
-measured {c} r = record { some-row = r .lengths .some-row; some-values = omega (arith, r .lengths .all-values, mul-le-mul-right (c .channels) (r .lengths .some-row)); in-range = r .values .in-range }
+measured {c} r = record { some-row = r .lengths .some-row; some-values = omega (arith, r .lengths .all-values, mul-le-mul-right (c .channels) (r .lengths .some-row)); in-range = r .values }
 
 pub exact : (c : Card) (step drift : ℕ) → Recorded c → AllExact (checks c step drift)
 exact c step drift r = (record { sound = step-is step drift; complete = step-passes step drift }, λ _. (record { sound = gapless c step; complete = gapless-passes c step }, λ _. (eleven, λ _. tt)))
