@@ -52,7 +52,7 @@ wide : (ch : ℕ) (ps : List Predicate) → channels-in-range ch ≡ false → c
 unfolding channels-obey
 wide ch ps h = go (leb 1 ch) (leb ch 8) h
   where
-    go : (a b : Bool) → a && b ≡ false → a && (b && predicates-obey ch ps 16) ≡ false
+    go : (a b : Bool) → a && b ≡ false → a && (b && predicates-obey ch ps (length ps)) ≡ false
     go true true h = absurd (false-true (sym h))
     go true false h = refl
     go false b h = refl
