@@ -8,14 +8,14 @@ use native.Mathlib.Omega.{arith}
 use lib.ListN.{length, length-append}
 use lib.Seq.{sets}
 use lib.Dec.{leb}
-use borrow.Author.Tests.{leb-true, leb-false, le-leb, lt-leb}
+use borrow.Author.Tests.{le-leb, lt-leb}
 use Rattle.text.specs.Bytes.{bytes}
 use Rattle.text.specs.Mark.{mark-at, after-mark}
 use Rattle.text.specs.Number.{field-at}
 use Rattle.text.specs.declared.Mark.{Mark}
 use Rattle.text.specs.declared.Mark.the-variants.{Next, Bad as Mark·Bad}
 use Rattle.text.specs.declared.Field.the-variants.{Number, Bad as Field·Bad}
-use Rattle.text.proofs.Tests.{by-test}
+use Rattle.text.proofs.Tests.{by-le}
 use Rattle.tables.specs.declared.Node.{Node}
 use Rattle.grammar.specs.declared.Span.{Span}
 use Rattle.grammar.specs.Operators.{letter, true-kind, predicate-kind}
@@ -26,9 +26,6 @@ use Rattle.building.specs.declared.Step.the-variants.{Read, Refused}
 use Rattle.building.specs.Nodes.{node, nodes-of}
 use Rattle.building.specs.Storing.{cells-of, step-of, leaf-cells, Wrote, Done, pushed-step, pushed-cells, parent-step, wrap-cells, join-cells, closed-step}
 use Rattle.building.proofs.Cells.{length-nodes, sets-nodes}
-
-by-le : {A : Type 0} (m n : ℕ) → (m ≤ n → A) → (n < m → A) → A
-by-le m n f g = by-test (leb m n) (λ e. f (leb-true m n e)) (λ e. g (leb-false m n e))
 
 -- ---- steps and readings
 
