@@ -4,7 +4,6 @@ use mathlib.Core.Path.{_≡_, refl, sym, _∙_}
 use Prim.Native.Nat.{ℕ, zero, suc, _*_, _≤_}
 use native.Mathlib.Omega.{arith}
 use lib.IntN.{ℤ}
-use lib.ListN.{length}
 use Rattle.recordings.specs.declared.Verdict.{Verdict}
 use Rattle.recordings.specs.Card.{Card, rows}
 use Rattle.tables.specs.declared.Table.{Table}
@@ -32,19 +31,19 @@ module _ (c : Card) (t : Table) (step drift filled : ℕ) where
   pub judge-refused : (n : ℕ) → n ≡ judged c t step drift CELLS .number → (n ≡ 0 → ⊥) → refused-by n ≡ answered (refusal c t step drift CELLS) c t step drift filled
   judge-refused n e h = rw (sym (e ∙ number-is)) (only-number n c t step drift filled h)
 
-  module _ (few : length (c .predicates) ≤ 16) (e : judged c t step drift CELLS .number ≡ 0) where
+  module _ (e : judged c t step drift CELLS .number ≡ 0) where
     margin-accepts : margin-judged c t CELLS .number ≡ 0
     margin-accepts =
-        let r : 2 * t .count * rows c ≤ CELLS = number-room c t step drift CELLS few e .0 in
-        none-number c t CELLS few (number-sound c t step drift CELLS few e) (omega arith)
+        let r : 2 * t .count * rows c ≤ CELLS = number-room c t step drift CELLS e .0 in
+        none-number c t CELLS (number-sound c t step drift CELLS e) (omega arith)
 
     pub judge-accepted : (m h f : ℤ) (v : Verdict) → m ≡ margin-judged c t CELLS .margin → h ≡ judged c t step drift CELLS .hold → f ≡ judged c t step drift CELLS .fail → v ≡ judged c t step drift CELLS .verdict
         → record { number = 0; rows = rows c; filled = filled; margin = m; hold = h; fail = f; verdict = v } ≡ answered (refusal c t step drift CELLS) c t step drift filled
     judge-accepted m h f v p q r s =
         rw (
           sym number-is ∙ e,
-          p ∙ margin-is c t CELLS few margin-accepts,
-          q ∙ hold-is c t step drift CELLS few e,
-          r ∙ fail-is c t step drift CELLS few e,
-          s ∙ verdict-is c t step drift CELLS few e,
+          p ∙ margin-is c t CELLS margin-accepts,
+          q ∙ hold-is c t step drift CELLS e,
+          r ∙ fail-is c t step drift CELLS e,
+          s ∙ verdict-is c t step drift CELLS e,
         ) refl

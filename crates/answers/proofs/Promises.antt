@@ -6,7 +6,6 @@ use mathlib.Core.Logic.{⊎-elim}
 use mathlib.Core.List.{List, [], _∷_, _++_}
 use Prim.Native.Nat.{ℕ, zero, suc, _≤_}
 use native.Mathlib.Omega.{arith}
-use native.Mathlib.Nat.{le-of-eq}
 use lib.Dec.{leb→le, le→leb, eqb→eq}
 use lib.ListN.{length}
 use borrow.Author.Tests.{eq-eqb, ne-eqb}
@@ -30,9 +29,8 @@ use Rattle.row_lines.specs.Rows.{limit, Listing}
 use Rattle.sheet_rows.specs.Answer.{filled-of}
 use Rattle.row_lines.specs.Same.{SameButFilled}
 use Rattle.row_lines.proofs.Exact.{rows-alike}
-use Rattle.predicate_lines.proofs.Exact.{lines-keep}
 use Rattle.sheets.specs.declared.Sheet.{Sheet}
-use Rattle.sheets.specs.Form.{Form, blank}
+use Rattle.sheets.specs.Form.{blank}
 use Rattle.sheets.specs.Sheets.{sheet-of}
 use Rattle.sheets.proofs.Exact.{sheet-sound, sheet-complete, sheet-or-blank, sheet-alike}
 use Rattle.sheets.proofs.Behind.{same-requirement, same-behind}
@@ -73,20 +71,16 @@ requirement-check-exact r = record {
   complete = λ a. yes (eq-eqb (requirement-of r .refusal) 0 (ap (λ (q : Requirement). q .refusal) (answer-complete r (a .0) (a .1))));
 }
 
-table-run-exact : (c : Card) (t : Table) (step drift : ℕ) → length (c .predicates) ≤ 16 → AllExact (table-run c t step drift)
-table-run-exact c t step drift few =
+table-run-exact : (c : Card) (t : Table) (step drift : ℕ) → AllExact (table-run c t step drift)
+table-run-exact c t step drift =
     let rest : List Check = sample-checks c ++ (room-check c t CELLS ∷ sampling-checks c step drift) in
-    let p = exact-parts (table-checks c t) rest (exact-checks c t step drift CELLS few) in
+    let p = exact-parts (table-checks c t) rest (exact-checks c t step drift CELLS) in
     exact-append (table-checks c t) (rows-check c ∷ rest) (p .0) (λ q. (record { sound = leb→le (rows c) ROWS; complete = le→leb (rows c) ROWS }, λ _. p .1 q))
-
--- a sheet has sixteen predicates
-sixteen : (s : List ℕ) (x : Sheet) → Form s x → length (sheet-of s .predicates) ≤ 16
-sixteen s x f = rw (sheet-complete s x f) (le-of-eq (lines-keep (f .predicates)))
 
 pub exact : (s : List ℕ) → AllExact (whole-run s)
 exact s = (
   sheet-check-exact s,
-  λ f. (requirement-check-exact (requirement-in s), λ _. table-run-exact (measured (sheet-of s) (listing-in s)) (requirement-of (requirement-in s) .table) (sheet-of s .step) (sheet-of s .drift) (sixteen s (f .0) (f .1))),
+  λ _. (requirement-check-exact (requirement-in s), λ _. table-run-exact (measured (sheet-of s) (listing-in s)) (requirement-of (requirement-in s) .table) (sheet-of s .step) (sheet-of s .drift)),
 )
 
 -- a number m is answered exactly when its condition applies and no earlier one does
@@ -146,17 +140,14 @@ module _ (s : List ℕ) where
       let c = first-of-whole (rows-check recording ∷ []) rest tt (b .1) in
       first-append (table-checks recording table) rest tt (b .0) ∙ c .1
 
-  few : answer-of-text s .number ≡ 0 → length (recording .predicates) ≤ 16
-  few e = let f = number-none s e .each 0 (omega arith) in sixteen s (f .0) (f .1)
-
   verdict-of-answer : answer-of-text s .number ≡ 0 → answer-of-text s .verdict ≡ judged recording table (sheet .step) (sheet .drift) CELLS .verdict
-  verdict-of-answer e = ap (λ (o : Outcome). o .verdict) (figures-are e) ∙ sym (verdict-is recording table (sheet .step) (sheet .drift) CELLS (few e) (verdict-accepts e))
+  verdict-of-answer e = ap (λ (o : Outcome). o .verdict) (figures-are e) ∙ sym (verdict-is recording table (sheet .step) (sheet .drift) CELLS (verdict-accepts e))
 
   pub holds : answer-of-text s .number ≡ 0 → answer-of-text s .verdict ≡ Holds → Shown recording (sheet .step) (sheet .drift) true (root table)
-  holds e v = verdict-holds recording table (sheet .step) (sheet .drift) CELLS (few e) (verdict-accepts e) (sym (verdict-of-answer e) ∙ v)
+  holds e v = verdict-holds recording table (sheet .step) (sheet .drift) CELLS (verdict-accepts e) (sym (verdict-of-answer e) ∙ v)
 
   pub fails : answer-of-text s .number ≡ 0 → answer-of-text s .verdict ≡ Fails → Shown recording (sheet .step) (sheet .drift) false (root table)
-  fails e v = verdict-fails recording table (sheet .step) (sheet .drift) CELLS (few e) (verdict-accepts e) (sym (verdict-of-answer e) ∙ v)
+  fails e v = verdict-fails recording table (sheet .step) (sheet .drift) CELLS (verdict-accepts e) (sym (verdict-of-answer e) ∙ v)
 
 -- ---- two runs: texts within the size limit that differ in well-written filled rows alone
 

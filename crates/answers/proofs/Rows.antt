@@ -1,31 +1,31 @@
 -- The row reader on the part behind a sheet's head: it refuses only channels out of range and more rows than there is room for, since the sheet has checked the lines.
 -- Assumes nothing.
 use mathlib.Core.Path.{_≡_, refl, sym, ap, subst, _∙_}
-use mathlib.Core.Bool.{Bool, true, false, _&&_, _||_}
+use mathlib.Core.Bool.{Bool, true, false, _&&_}
 use mathlib.Core.Logic.{_⊎_, inl, inr, ⊎-elim}
 use mathlib.Core.List.{List, []}
 use Prim.Native.Nat.{ℕ, suc, _-_, _*_, _≤_}
 use native.Mathlib.Nat.{zero-mul, mul-le-mul}
 use native.Mathlib.Omega.{arith}
-use lib.Dec.{leb, ltb}
+use lib.Dec.{leb}
 use lib.IntN.{ℤ}
 use lib.ListN.{length, take, drop}
 use lib.Seq.{take-append-seam}
-use borrow.Author.Tests.{leb-true, leb-false, lt-ltb, le-ltb}
+use borrow.Author.Tests.{leb-true, leb-false, le-leb}
 use Rattle.text.proofs.Tests.{false-true, by-test}
 use Rattle.recordings.specs.declared.Predicate.{Predicate}
 use Rattle.recordings.specs.Card.{Card, rows, card}
 use Rattle.tables.specs.declared.Table.{Table}
 use Rattle.predicates.specs.Predicates.{channels-obey, predicates-obey}
-use Rattle.refusals.specs.First.{first}
+use Rattle.refusals.specs.First.{first, unless-refused}
 use Rattle.rules.specs.Refusals.{checks}
 use Rattle.verdicts.specs.Answer.{refusal}
 use Rattle.row_lines.specs.Rows.{limit, channels-in-range, Listing, listed, broken, rows-of}
 use Rattle.row_lines.proofs.Exact.{rows-exact}
 use Rattle.sheet_rows.specs.declared.Answer.{Answer}
-use Rattle.sheet_rows.specs.Answer.{measured-of, filled-of, too-many, answer-of, times-of, values-of, in-front, after}
+use Rattle.sheet_rows.specs.Answer.{measured-of, filled-of, has-room, answer-of, times-of, values-of, in-front}
 use Rattle.sheet_rows.proofs.Storing.{length-times, length-values}
-use Rattle.sheet_rows.proofs.Numbers.{few-channels}
+use Rattle.sheet_rows.proofs.Numbers.{channels-are, room-for, for-room}
 use Rattle.sheets.specs.declared.Sheet.{Sheet}
 use Rattle.answers.specs.Answers.{ROWS, VALUES, CELLS, listing, measured, table-run, refused-by, answered as outcome-by, table-answer, Checked}
 use Rattle.answers.proofs.Figures.{only-number}
@@ -52,7 +52,7 @@ wide : (ch : ℕ) (ps : List Predicate) → channels-in-range ch ≡ false → c
 unfolding channels-obey
 wide ch ps h = go (leb 1 ch) (leb ch 8) h
   where
-    go : (a b : Bool) → a && b ≡ false → a && (b && predicates-obey ch ps 16) ≡ false
+    go : (a b : Bool) → a && b ≡ false → a && (b && predicates-obey ch ps (length ps)) ≡ false
     go true true h = absurd (false-true (sym h))
     go true false h = refl
     go false b h = refl
@@ -62,20 +62,14 @@ wide ch ps h = go (leb 1 ch) (leb ch 8) h
 pub product : (r ch : ℕ) → r ≤ ROWS → ch ≤ 8 → r * ch ≤ VALUES
 product r ch h w = mul-le-mul h w
 
-many : (r ch : ℕ) → ch ≤ 8 → too-many r ch ROWS VALUES ≡ true → suc ROWS ≤ r
+many : (r ch : ℕ) → ch ≤ 8 → has-room r ch ROWS VALUES ≡ false → suc ROWS ≤ r
 many r ch w h = by-test (leb r ROWS)
     (λ e. let l : r ≤ 2_048 = leb-true r ROWS e in
-    let g : r * ch ≤ 16_384 = product r ch l w in
-    absurd (false-true (sym (rw (le-ltb 4_096 r (omega arith), le-ltb ROWS r l, le-ltb VALUES (r * ch) g)) ∙ h)))
+    absurd (false-true (sym h ∙ for-room r ch ROWS VALUES (record { few = omega arith; times-hold = l; values-hold = product r ch l w }))))
     (λ e. leb-false r ROWS e)
 
-few : (r ch : ℕ) → too-many r ch ROWS VALUES ≡ false → r ≤ ROWS
-few r ch h = by-test (leb r ROWS) (λ e. leb-true r ROWS e)
-    (λ e. absurd (false-true (sym (go (ltb 4_096 r) (ltb VALUES (r * ch)) (ltb ROWS r) (lt-ltb ROWS r (leb-false r ROWS e)) h))))
-  where
-    go : (a b c : Bool) → c ≡ true → a || (c || b) ≡ false → true ≡ false
-    go true b c e h = h
-    go false b c e h = sym (rw e) ∙ h
+few : (r ch : ℕ) → has-room r ch ROWS VALUES ≡ true → r ≤ ROWS
+few r ch h = room-for r ch ROWS VALUES h .times-hold
 
 -- ---- what the reader answers
 
@@ -89,39 +83,42 @@ module _ (s : List ℕ) (x : Sheet) (p : Checked s (x .channels)) where
   abbrev answer : Answer
   answer = answer-of s (x .channels) ROWS VALUES
 
-  short : ltb limit (length s) ≡ false
-  short = le-ltb limit (length s) (p .short)
+  short : leb (length s) limit ≡ true
+  short = le-leb (length s) limit (p .short)
 
   four : channels-in-range (x .channels) ≡ false → answer .number ≡ 4
+  unfolding first
   four w = rw (short, w) refl
 
   module _ (w : channels-in-range (x .channels) ≡ true) where
-    five : too-many (measured-of (listing x s)) (x .channels) ROWS VALUES ≡ true → answer .number ≡ 5
+    five : has-room (measured-of (listing x s)) (x .channels) ROWS VALUES ≡ false → answer .number ≡ 5
+    unfolding first
     five m = rw (short, w, p .whole w, m) refl
 
-    none : too-many (measured-of (listing x s)) (x .channels) ROWS VALUES ≡ false → answer ≡ record { number = 0; rows = measured-of (listing x s); filled = filled-of (listing x s) }
+    none : has-room (measured-of (listing x s)) (x .channels) ROWS VALUES ≡ true → answer ≡ record { number = 0; rows = measured-of (listing x s); filled = filled-of (listing x s) }
+    unfolding first
     none m = rw (short, w, p .whole w, m) refl
 
     narrow : x .channels ≤ 8
-    narrow = few-channels (x .channels) w
+    narrow = channels-are (x .channels) w .1
 
   pub rows-refused : (answer .number ≡ 0 → ⊥) → (channels-obey (x .channels) (x .predicates) ≡ false) ⊎ (suc ROWS ≤ measured-of (listing x s))
   rows-refused h = by-test (channels-in-range (x .channels))
-      (λ w. by-test (too-many (measured-of (listing x s)) (x .channels) ROWS VALUES)
-      (λ m. inr (many (measured-of (listing x s)) (x .channels) (narrow w) m))
-      (λ m. absurd (h (ap (λ (a : Answer). a .number) (none w m)))))
+      (λ w. by-test (has-room (measured-of (listing x s)) (x .channels) ROWS VALUES)
+      (λ m. absurd (h (ap (λ (a : Answer). a .number) (none w m))))
+      (λ m. inr (many (measured-of (listing x s)) (x .channels) (narrow w) m)))
       (λ w. inl (wide (x .channels) (x .predicates) w))
 
   pub rows-read : answer .number ≡ 0 → Read x (listing x s) answer
   rows-read h = by-test (channels-in-range (x .channels))
-      (λ w. by-test (too-many (measured-of (listing x s)) (x .channels) ROWS VALUES)
-      (λ m. absurd (let e : _≡_ {A = ℕ} 5 0 = sym (five w m) ∙ h in omega arith))
+      (λ w. by-test (has-room (measured-of (listing x s)) (x .channels) ROWS VALUES)
       (λ m. record {
         counted = ap (λ (a : Answer). a .rows) (none w m);
         filled = ap (λ (a : Answer). a .filled) (none w m);
         fits = few (measured-of (listing x s)) (x .channels) m;
         narrow = narrow w;
-      }))
+      })
+      (λ m. absurd (let e : _≡_ {A = ℕ} 5 0 = sym (five w m) ∙ h in omega arith)))
       (λ w. absurd (let e : _≡_ {A = ℕ} 4 0 = sym (four w) ∙ h in omega arith))
 
   -- ---- what is judged: no rows where they are refused, else what stands in front of the slices
@@ -144,7 +141,7 @@ module _ (s : List ℕ) (x : Sheet) (p : Checked s (x .channels)) where
     pub values-few : a .rows * x .channels ≤ VALUES
     values-few = product (a .rows) (x .channels) rows-few (read .narrow)
 
-    module _ (times times₀ : List ℕ) (values values₀ : List ℤ) (f : times ≡ after (a .number) (times-of (listing x s)) times₀) (g : values ≡ after (a .number) (values-of (listing x s)) values₀) where
+    module _ (times times₀ : List ℕ) (values values₀ : List ℤ) (f : times ≡ unless-refused (a .number) (in-front (times-of (listing x s)) times₀) times₀) (g : values ≡ unless-refused (a .number) (in-front (values-of (listing x s)) values₀) values₀) where
       times-taken : take (a .rows) times ≡ times-of (listing x s)
       times-taken = rw (f, z) (front-taken (times-of (listing x s)) times₀ (a .rows) (read .counted ∙ sym (times-long (listing x s))))
 

@@ -4,19 +4,18 @@ use mathlib.Core.Path.{_≡_, refl, sym, ap, _∙_}
 use mathlib.Core.List.{List, [], _∷_, _++_, append-assoc}
 use mathlib.Core.Bool.{true, false}
 use Prim.Native.Nat.{ℕ, _+_, _-_, _*_, _≤_, _<_}
-use native.Mathlib.Nat.{add-zero}
 use native.Mathlib.Omega.{arith}
 use lib.ListN.{length, length-append}
 use lib.Seq.{sets}
 use lib.Dec.{leb}
-use borrow.Author.Tests.{leb-true, leb-false, le-leb, lt-leb}
+use borrow.Author.Tests.{le-leb, lt-leb}
 use Rattle.text.specs.Bytes.{bytes}
 use Rattle.text.specs.Mark.{mark-at, after-mark}
 use Rattle.text.specs.Number.{field-at}
 use Rattle.text.specs.declared.Mark.{Mark}
 use Rattle.text.specs.declared.Mark.the-variants.{Next, Bad as Mark·Bad}
 use Rattle.text.specs.declared.Field.the-variants.{Number, Bad as Field·Bad}
-use Rattle.text.proofs.Tests.{by-test}
+use Rattle.text.proofs.Tests.{by-le}
 use Rattle.tables.specs.declared.Node.{Node}
 use Rattle.grammar.specs.declared.Span.{Span}
 use Rattle.grammar.specs.Operators.{letter, true-kind, predicate-kind}
@@ -25,11 +24,8 @@ use Rattle.grammar.specs.Reading.{Reading, got, none, on-got, closing, leaf-at}
 use Rattle.building.specs.declared.Step.{Step}
 use Rattle.building.specs.declared.Step.the-variants.{Read, Refused}
 use Rattle.building.specs.Nodes.{node, nodes-of}
-use Rattle.building.specs.Storing.{cells-of, step-of, Wrote, Done, pushed-step, pushed-cells, parent-step, wrap-cells, join-cells, closed-step}
+use Rattle.building.specs.Storing.{cells-of, step-of, leaf-cells, Wrote, Done, pushed-step, pushed-cells, parent-step, wrap-cells, join-cells, closed-step}
 use Rattle.building.proofs.Cells.{length-nodes, sets-nodes}
-
-by-le : {A : Type 0} (m n : ℕ) → (m ≤ n → A) → (n < m → A) → A
-by-le m n f g = by-test (leb m n) (λ e. f (leb-true m n e)) (λ e. g (leb-false m n e))
 
 -- ---- steps and readings
 
@@ -196,25 +192,43 @@ close-done o s (got a n) i r before after d p = by-le (o + size a) 64 (λ h. sma
 
 -- ---- leaves
 
-leaf-done : (o : ℕ) (a : Tree) (x : Node) (n : ℕ) (r : Step) (before after : List ℕ) → size a ≡ 1 → nodes-of o a ≡ x ∷ [] → r ≡ pushed-step o n → after ≡ pushed-cells o x before
-    → Done o (got a n) r before after
-leaf-done o a x n r before after z w p q =
-    parent-done o 0 [] x a n r before before after refl z w nothing (p ∙ ap (λ (c : ℕ). pushed-step c n) (sym (add-zero o))) (q ∙ ap (λ (c : ℕ). pushed-cells c x before) (sym (add-zero o)))
+pub stored-done : (o : ℕ) (x : Reading) (r : Step) (before after : List ℕ) → r ≡ step-of o x → after ≡ leaf-cells o x before → Done o x r before after
+unfolding Wrote leaf-cells
+stored-done o none r before after p q = record { step = p; cells = tt }
+stored-done o (got a n) r before after p q = record { step = p; cells = λ l. q ∙ rw (le-leb (o + size a) 64 l) refl }
+
+node-stored : (o : ℕ) (a : Tree) (x : Node) (n : ℕ) (r : Step) (before after : List ℕ) → size a ≡ 1 → nodes-of o a ≡ x ∷ [] → r ≡ pushed-step o n → after ≡ pushed-cells o x before
+    → (r ≡ step-of o (got a n)) × (after ≡ leaf-cells o (got a n) before)
+unfolding leaf-cells cells-of
+node-stored o a x n r before after z w p q = by-le (o + 1) 64 small big
   where
-    nothing : before ≡ sets before (5 * o) (cells-of [])
-    nothing = unfold cells-of in refl
+    small : o + 1 ≤ 64 → (r ≡ step-of o (got a n)) × (after ≡ leaf-cells o (got a n) before)
+    small h =
+        let t : leb 64 o ≡ false = lt-leb 64 o (omega arith) in
+        let g : o + size a ≤ 64 = omega arith in
+        let root : o ≡ o + size a - 1 = omega arith in
+        let free : o + 1 ≡ o + size a = omega arith in
+        let same : Read n o (o + 1) ≡ Read n (o + size a - 1) (o + size a) = cc in
+        ((rw t at p) ∙ (same ∙ sym (step-small o a n g)), (rw t at q) ∙ rw (le-leb (o + size a) 64 g, w) refl)
+
+    big : 64 < o + 1 → (r ≡ step-of o (got a n)) × (after ≡ leaf-cells o (got a n) before)
+    big h =
+        let t : leb 64 o ≡ true = le-leb 64 o (omega arith) in
+        let g : 64 < o + size a = omega arith in
+        ((rw t at p) ∙ sym (step-big o a n g), (rw t at q) ∙ rw (lt-leb (o + size a) 64 g) refl)
 
 module _ (o : ℕ) (s : List ℕ) (at : ℕ) (r : Step) (before after : List ℕ) where
-  pub true-done : (n : ℕ) → mark-at (letter true-kind) s at ≡ Next n → r ≡ pushed-step o n → after ≡ pushed-cells o (node true-kind 0 0 no-span) before
-      → Done o (leaf-at s at) r before after
+  pub true-stored : (n : ℕ) → mark-at (letter true-kind) s at ≡ Next n → r ≡ pushed-step o n → after ≡ pushed-cells o (node true-kind 0 0 no-span) before
+      → (r ≡ step-of o (leaf-at s at)) × (after ≡ leaf-cells o (leaf-at s at) before)
   unfolding leaf-at size nodes-of
-  true-done n e p q = rw e (leaf-done o truth (node true-kind 0 0 no-span) n r before after refl refl p q)
+  true-stored n e p q = rw e (node-stored o truth (node true-kind 0 0 no-span) n r before after refl refl p q)
 
-  pub predicate-done : (v n : ℕ) → mark-at (letter true-kind) s at ≡ Mark·Bad → field-at (letter predicate-kind) s at 15 ≡ Number v n
-      → r ≡ pushed-step o n → after ≡ pushed-cells o (node predicate-kind v 0 no-span) before → Done o (leaf-at s at) r before after
+  pub predicate-stored : (v n : ℕ) → mark-at (letter true-kind) s at ≡ Mark·Bad → field-at (letter predicate-kind) s at 15 ≡ Number v n
+      → r ≡ pushed-step o n → after ≡ pushed-cells o (node predicate-kind v 0 no-span) before → (r ≡ step-of o (leaf-at s at)) × (after ≡ leaf-cells o (leaf-at s at) before)
   unfolding leaf-at size nodes-of
-  predicate-done v n e f p q = rw (e, f) (leaf-done o (predicate v) (node predicate-kind v 0 no-span) n r before after refl refl p q)
+  predicate-stored v n e f p q = rw (e, f) (node-stored o (predicate v) (node predicate-kind v 0 no-span) n r before after refl refl p q)
 
-  pub leaf-refused : mark-at (letter true-kind) s at ≡ Mark·Bad → field-at (letter predicate-kind) s at 15 ≡ Field·Bad → Done o (leaf-at s at) Refused before after
-  unfolding leaf-at
-  leaf-refused e f = rw (e, f) (refused-done o none before after (step-none o))
+module _ (o : ℕ) (s : List ℕ) (at : ℕ) (cells : List ℕ) where
+  pub leaf-refused : mark-at (letter true-kind) s at ≡ Mark·Bad → field-at (letter predicate-kind) s at 15 ≡ Field·Bad → (Refused ≡ step-of o (leaf-at s at)) × (cells ≡ leaf-cells o (leaf-at s at) cells)
+  unfolding leaf-at step-of leaf-cells
+  leaf-refused e f = rw (e, f) (refl, refl)

@@ -27,7 +27,12 @@ unfoldable pub step-of : ℕ → Reading → Step
 step-of o (got a n) = cond (leb (o + size a) 64) (Read n (o + size a - 1) (o + size a)) Refused
 step-of o none = Refused
 
--- then the cells of its nodes are written, and no other; a refused reading may leave anything
+-- a leaf: the cells of its node are written where it has room, and no other; a refused one writes nothing
+unfoldable pub leaf-cells : ℕ → Reading → List ℕ → List ℕ
+leaf-cells o (got a n) cells = cond (leb (o + size a) 64) (sets cells (5 * o) (cells-of (nodes-of o a))) cells
+leaf-cells o none cells = cells
+
+-- a larger part: the same where it is not refused; a refused one may leave what it had written of its beginning
 unfoldable pub Wrote : ℕ → Reading → List ℕ → List ℕ → Type 0
 Wrote o (got a n) before after = o + size a ≤ 64 → after ≡ sets before (5 * o) (cells-of (nodes-of o a))
 Wrote o none before after = Unit {0}

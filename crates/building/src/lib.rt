@@ -8,7 +8,7 @@ ghost use mathlib.Core.Path.{_≡_};
 ghost use Prim.Native.Nat.{_<_};
 ghost use Rattle.grammar.specs.Reading.{leaf-at};
 ghost use Rattle.building.specs.Nodes.{empty-table};
-ghost use Rattle.building.specs.Storing.{Done, pushed-step, pushed-cells, parent-step, wrap-cells, join-cells, closed-step, node-from, table-from};
+ghost use Rattle.building.specs.Storing.{step-of, leaf-cells, pushed-step, pushed-cells, parent-step, wrap-cells, join-cells, closed-step, node-from, table-from};
 
 // Cells for 64 nodes.
 pub const CELLS: usize = 320;
@@ -133,7 +133,8 @@ pub fn table_from(cells: &[u64; CELLS], count: usize) -> Table
 
 // True, or a predicate with 0 to 15.
 pub fn read_leaf(s: &[u8], at: usize, free: usize, cells: &mut [u64; CELLS]) -> Step
-    ensures { λ r. ⌜ Done free (leaf-at (now (s .entry)) at) r (now (cells .entry)) (now (cells .exit)) ⌝ }
+    ensures step { λ r. ⌜ r ≡ step-of free (leaf-at (now (s .entry)) at) ⌝ }
+    ensures cells { λ r. ⌜ now (cells .exit) ≡ leaf-cells free (leaf-at (now (s .entry)) at) (now (cells .entry)) ⌝ }
 {
     if let Mark::Next(next) = operators::read_letter(s, at, operators::TRUE) {
         let x = Node {

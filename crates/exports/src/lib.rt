@@ -12,7 +12,8 @@ ghost use Rattle.flat.specs.Predicates.{ranges-of, ends-of};
 ghost use Rattle.sheets.specs.Sheets.{sheet-of};
 ghost use Rattle.requirements.specs.Requirement.{requirement-of};
 ghost use Rattle.row_lines.specs.Rows.{rows-of};
-ghost use Rattle.sheet_rows.specs.Answer.{answer-of, times-of, values-of, after};
+ghost use Rattle.refusals.specs.First.{unless-refused};
+ghost use Rattle.sheet_rows.specs.Answer.{answer-of, times-of, values-of, in-front};
 ghost use Rattle.margins.specs.Answers.{outcome as margin-outcome, judged as margin-judged, cells-after as margin-cells};
 ghost use Rattle.verdicts.specs.Answer.{outcome as verdict-outcome, judged as verdict-judged, cells-after as verdict-cells};
 ghost use Rattle.answers.specs.Answers.{answer-of-text};
@@ -87,8 +88,8 @@ pub extern "C" fn varmityep_rows(
     counts: &mut [u64],
 ) -> u64
     ensures number { λ r. ⌜ r ≡ answer-of (now (text .entry)) channels (length (now (times .entry))) (length (now (values .entry))) .number ⌝ }
-    ensures times { λ r. ⌜ now (times .exit) ≡ after r (times-of (rows-of channels (now (text .entry)))) (now (times .entry)) ⌝ }
-    ensures values { λ r. ⌜ now (values .exit) ≡ after r (values-of (rows-of channels (now (text .entry)))) (now (values .entry)) ⌝ }
+    ensures times { λ r. ⌜ now (times .exit) ≡ unless-refused r (in-front (times-of (rows-of channels (now (text .entry)))) (now (times .entry))) (now (times .entry)) ⌝ }
+    ensures values { λ r. ⌜ now (values .exit) ≡ unless-refused r (in-front (values-of (rows-of channels (now (text .entry)))) (now (values .entry))) (now (values .entry)) ⌝ }
     ensures counts { λ _. ⌜ now (counts .exit) ≡ written (row-places (answer-of (now (text .entry)) channels (length (now (times .entry))) (length (now (values .entry))))) (now (counts .entry)) ⌝ }
 {
     let answer = sheet_rows::read_rows(text, channels as usize, times, values);
@@ -154,7 +155,7 @@ fn write_verdict(answer: verdicts::Answer, result: &mut [i64]) -> u64
 {
     match answer {
         verdicts::Answer::Judged(verdict, hold, fail) => {
-            let places = [verdict_number(verdict), hold, fail];
+            let places = [verdict_number(verdict), fail, hold];
             flat::write_values(&places, result);
             0
         }

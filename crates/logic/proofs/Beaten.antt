@@ -10,8 +10,11 @@ use lib.IntN.{ℤ, pos, negℤ}
 use lib.Signed.{ltZ}
 use Rattle.numbers.specs.Order.{Within}
 use Rattle.numbers.proofs.Parts.{plus, minus, parts-nlt, not-taken, plus-neg, minus-neg, abs-parts, Smaller, Larger, smaller-parts, larger-parts}
-use Rattle.logic.specs.Window.{Window, inside}
-use Rattle.logic.specs.Formula.{Extremum, largest, smallest, dual}
+use Rattle.logic.specs.declared.Window.{Window}
+use Rattle.logic.specs.Window.{inside}
+use Rattle.logic.specs.declared.Extremum.{Extremum}
+use Rattle.logic.specs.declared.Extremum.the-variants.{Largest, Smallest}
+use Rattle.logic.specs.Formula.{dual}
 use Rattle.logic.specs.Reading.{extremum, along, margins, margin-extreme, margin-nothing}
 
 abbrev AtMost : ℤ → ℤ → Type 0
@@ -19,33 +22,33 @@ AtMost a b = plus a + minus b ≤ plus b + minus a
 
 -- b is at least as extreme as a
 abbrev pub Beaten : Extremum → ℤ → ℤ → Type 0
-Beaten largest b a = AtMost a b
-Beaten smallest b a = AtMost b a
+Beaten Largest b a = AtMost a b
+Beaten Smallest b a = AtMost b a
 
 pub beaten-stays : (e : Extremum) (b a : ℤ) → Beaten e b a → margin-extreme e b a ≡ b
-beaten-stays largest b a h = not-taken (ltZ b a) b a (parts-nlt b a h)
-beaten-stays smallest b a h = not-taken (ltZ a b) b a (parts-nlt a b h)
+beaten-stays Largest b a h = not-taken (ltZ b a) b a (parts-nlt b a h)
+beaten-stays Smallest b a h = not-taken (ltZ a b) b a (parts-nlt a b h)
 
 stays-beaten : (e : Extremum) (b a : ℤ) → margin-extreme e b a ≡ b → Beaten e b a
-stays-beaten largest b a h = let p : Larger b a b = rw h at (larger-parts b a) in omega arith
-stays-beaten smallest b a h = let p : Smaller b a b = rw h at (smaller-parts b a) in omega arith
+stays-beaten Largest b a h = let p : Larger b a b = rw h at (larger-parts b a) in omega arith
+stays-beaten Smallest b a h = let p : Smaller b a b = rw h at (smaller-parts b a) in omega arith
 
 beaten-self : (e : Extremum) (a : ℤ) → Beaten e a a
-beaten-self largest a = omega arith
-beaten-self smallest a = omega arith
+beaten-self Largest a = omega arith
+beaten-self Smallest a = omega arith
 
 -- what is beaten stays so as the extremum goes on
 beaten-more : (e : Extremum) (b a x : ℤ) → Beaten e b a → Beaten e (margin-extreme e b x) a
-beaten-more largest b a x h = omega (arith, larger-parts b x)
-beaten-more smallest b a x h = omega (arith, smaller-parts b x)
+beaten-more Largest b a x h = omega (arith, larger-parts b x)
+beaten-more Smallest b a x h = omega (arith, smaller-parts b x)
 
 beaten-first : (e : Extremum) (b a x : ℤ) → Beaten e b a → Beaten e b (margin-extreme (dual e) a x)
-beaten-first largest b a x h = omega (arith, smaller-parts a x)
-beaten-first smallest b a x h = omega (arith, larger-parts a x)
+beaten-first Largest b a x h = omega (arith, smaller-parts a x)
+beaten-first Smallest b a x h = omega (arith, larger-parts a x)
 
 beaten-last : (e : Extremum) (b a x : ℤ) → Beaten e b a → Beaten e b (margin-extreme (dual e) x a)
-beaten-last largest b a x h = omega (arith, smaller-parts x a)
-beaten-last smallest b a x h = omega (arith, larger-parts x a)
+beaten-last Largest b a x h = omega (arith, smaller-parts x a)
+beaten-last Smallest b a x h = omega (arith, larger-parts x a)
 
 either-beaten : (e : Extremum) (t : Bool) (b x y : ℤ) → Beaten e b x → Beaten e b y → Beaten e b (cond t x y)
 either-beaten e true b x y h k = h
@@ -53,8 +56,8 @@ either-beaten e false b x y h k = k
 
 -- what lies within top beats an extremum over nothing
 pub nothing-moves : (top : ℕ) (e : Extremum) (a : ℤ) → Within top a → margin-extreme e a (margin-nothing top e) ≡ a
-nothing-moves top largest a h = beaten-stays largest a (negℤ (pos top)) (omega (arith, abs-parts a, plus-neg (pos top), minus-neg (pos top), h .size))
-nothing-moves top smallest a h = beaten-stays smallest a (pos top) (omega (arith, abs-parts a, h .size))
+nothing-moves top Largest a h = beaten-stays Largest a (negℤ (pos top)) (omega (arith, abs-parts a, plus-neg (pos top), minus-neg (pos top), h .size))
+nothing-moves top Smallest a h = beaten-stays Smallest a (pos top) (omega (arith, abs-parts a, h .size))
 
 module _ (top : ℕ) (e : Extremum) where
   nothing-beaten : (f : ℕ → ℤ) (n : ℕ) → Beaten e (extremum (margins top) e f n) (margin-nothing top e)

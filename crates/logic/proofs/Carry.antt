@@ -5,8 +5,11 @@ use mathlib.Core.Bool.{Bool, true, false, not}
 use mathlib.Core.Path.{_≡_, refl, sym, ap₂, subst}
 use Prim.Native.Nat.{ℕ, _<_}
 use lib.Dec.{T, T-not}
-use Rattle.logic.specs.Window.{Window, inside}
-use Rattle.logic.specs.Formula.{Extremum, largest, smallest, Direction, Formula, truth, atom, negation, junction, temporal}
+use Rattle.logic.specs.declared.Window.{Window}
+use Rattle.logic.specs.Window.{inside}
+use Rattle.logic.specs.declared.Extremum.{Extremum}
+use Rattle.logic.specs.declared.Extremum.the-variants.{Largest, Smallest}
+use Rattle.logic.specs.Formula.{Direction, Formula, truth, atom, negation, junction, temporal}
 use Rattle.logic.specs.Reading.{Algebra, Places, place, count, offset, along, read, booleans, boolean-extreme}
 use Rattle.logic.specs.Negation.{turn, push}
 use Rattle.logic.specs.Strengthening.{strengthen-window, strengthened}
@@ -34,13 +37,13 @@ Meets near K L = (m : ℕ) → m < K .size → T (inside (K .window) (K .times m
 
 -- until is carried from K to L where K's places are met in L, release where L's are met in K
 unfoldable pub Bridge : Extremum → (near : ℕ → ℕ → Type 0) → Row → Row → Type 0
-Bridge largest near K L = Meets near K L
-Bridge smallest near K L = Meets (λ a b. near b a) L K
+Bridge Largest near K L = Meets near K L
+Bridge Smallest near K L = Meets (λ a b. near b a) L K
 
 abbrev pub on-row : Extremum → Row → (ℕ → Bool) → (ℕ → Bool) → Bool
 on-row e K l r = along booleans e (K .window) (K .times) l r (K .size)
 
-carry-until : {near : ℕ → ℕ → Type 0} (K L : Row) (l r l′ r′ : ℕ → Bool) → Meets near K L → ((m n : ℕ) → near m n → T (l m) → T (l′ n)) → ((m n : ℕ) → near m n → T (r m) → T (r′ n)) → T (on-row largest K l r) → T (on-row largest L l′ r′)
+carry-until : {near : ℕ → ℕ → Type 0} (K L : Row) (l r l′ r′ : ℕ → Bool) → Meets near K L → ((m n : ℕ) → near m n → T (l m) → T (l′ n)) → ((m n : ℕ) → near m n → T (r m) → T (r′ n)) → T (on-row Largest K l r) → T (on-row Largest L l′ r′)
 unfolding Meets
 carry-until K L l r l′ r′ meets hl hr t =
     let u : Witness (K .window) (K .times) l r (K .size) = witness-of t in
@@ -62,26 +65,26 @@ contrapositive false b f t = tt
 
 pub carry : (e : Extremum) {near : ℕ → ℕ → Type 0} (K L : Row) (l r l′ r′ : ℕ → Bool) → Bridge e near K L → ((m n : ℕ) → near m n → T (l m) → T (l′ n)) → ((m n : ℕ) → near m n → T (r m) → T (r′ n)) → T (on-row e K l r) → T (on-row e L l′ r′)
 unfolding Bridge
-carry largest K L l r l′ r′ bridge hl hr t = carry-until K L l r l′ r′ bridge hl hr t
-carry smallest {near} K L l r l′ r′ bridge hl hr t =
-    subst T (twice (on-row smallest L l′ r′))
-    (subst (λ b. T (not b)) (sym (along-negated booleans-dual smallest (L .window) (L .times) l′ r′ (L .size)))
-    (contrapositive (on-row largest L (λ m. not (l′ m)) (λ m. not (r′ m))) (on-row largest K (λ m. not (l m)) (λ m. not (r m)))
+carry Largest K L l r l′ r′ bridge hl hr t = carry-until K L l r l′ r′ bridge hl hr t
+carry Smallest {near} K L l r l′ r′ bridge hl hr t =
+    subst T (twice (on-row Smallest L l′ r′))
+    (subst (λ b. T (not b)) (sym (along-negated booleans-dual Smallest (L .window) (L .times) l′ r′ (L .size)))
+    (contrapositive (on-row Largest L (λ m. not (l′ m)) (λ m. not (r′ m))) (on-row Largest K (λ m. not (l m)) (λ m. not (r m)))
     (carry-until {near = λ a b. near b a} L K (λ m. not (l′ m)) (λ m. not (r′ m)) (λ m. not (l m)) (λ m. not (r m)) bridge
     (λ m n c. contrapositive (l n) (l′ m) (hl n m c))
     (λ m n c. contrapositive (r n) (r′ m) (hr n m c)))
-    (subst (λ b. T (not b)) (along-negated booleans-dual smallest (K .window) (K .times) l r (K .size))
-    (subst T (sym (twice (on-row smallest K l r))) t))))
+    (subst (λ b. T (not b)) (along-negated booleans-dual Smallest (K .window) (K .times) l r (K .size))
+    (subst T (sym (twice (on-row Smallest K l r))) t))))
 
 -- ---- a whole requirement
 pub junction-carries : (e : Extremum) (a b c d : Bool) → (T a → T c) → (T b → T d) → T (boolean-extreme e a b) → T (boolean-extreme e c d)
-junction-carries largest true b true d f g t = tt
-junction-carries largest true b false d f g t = absurd (f tt)
-junction-carries largest false b true d f g t = tt
-junction-carries largest false b false d f g t = g t
-junction-carries smallest true b true d f g t = g t
-junction-carries smallest true b false d f g t = absurd (f tt)
-junction-carries smallest false b c d f g t = absurd t
+junction-carries Largest true b true d f g t = tt
+junction-carries Largest true b false d f g t = absurd (f tt)
+junction-carries Largest false b true d f g t = tt
+junction-carries Largest false b false d f g t = g t
+junction-carries Smallest true b true d f g t = g t
+junction-carries Smallest true b false d f g t = absurd (f tt)
+junction-carries Smallest false b c d f g t = absurd t
 
 -- `test` turns what is read into truth, in step with the operations
 abbrev pub Tests : {X : Type 0} → Algebra X → (X → Bool) → Type 0
@@ -113,8 +116,8 @@ module _ {X Y P : Type 0} {A : Algebra X} {B : Algebra Y} (D : DeMorgan A) (test
 
       -- what the test finds of a strengthened requirement at i it finds of the requirement itself at every t near i
       pub carried : (b : Bool) (φ : Formula P) (i t : ℕ) → near i t → T (test (read A F at (strengthened s b φ) i)) → T (test′ (read B G at′ (push b φ) t))
-      carried true truth i t c h = subst T (sym (H′ .nothing smallest)) tt
-      carried false truth i t c h = absurd (subst T (H .nothing largest) (rw (D .nothing smallest) at h))
+      carried true truth i t c h = subst T (sym (H′ .nothing Smallest)) tt
+      carried false truth i t c h = absurd (subst T (H .nothing Largest) (rw (D .nothing Smallest) at h))
       carried b (atom p) i t c h = atoms b p i t c h
       carried b (negation φ) i t c h = carried (not b) φ i t c h
       carried b (junction e l r) i t c h = subst T (sym (H′ .extremes (turn b e) refl refl)) (junction-carries (turn b e) _ _ _ _ (carried b l i t c) (carried b r i t c) (subst T (H .extremes (turn b e) refl refl) h))

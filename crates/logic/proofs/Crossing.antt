@@ -5,8 +5,10 @@ use mathlib.Core.Path.{_≡_, refl, sym, subst}
 use Prim.Native.Nat.{ℕ, suc, _+_, _-_, _≤_, _<_}
 use native.Mathlib.Nat.{add-suc, add-zero}
 use native.Mathlib.Omega.{arith}
-use Rattle.logic.specs.Window.{Window}
-use Rattle.logic.specs.Formula.{Extremum, largest, smallest, Direction, future}
+use Rattle.logic.specs.declared.Window.{Window}
+use Rattle.logic.specs.declared.Extremum.{Extremum}
+use Rattle.logic.specs.declared.Extremum.the-variants.{Largest, Smallest}
+use Rattle.logic.specs.Formula.{Direction, future}
 use Rattle.logic.specs.Reading.{Places, place, count, offset}
 use Rattle.logic.specs.Strengthening.{strengthen-window}
 use Rattle.logic.proofs.Windows.{Near, Spread, contraction-spread, expansion-spread}
@@ -84,8 +86,8 @@ module _ {s b e : ℕ} {F G : Places} (DF : Dense s b e F) (DG : Dense s b e G) 
   -- both ways: until from F to G, release from G to F
   pub bridge : (d : Direction) (x : Extremum) (w : Window) (i t : ℕ) → Close s F G i t → Bridge x (λ m n. Close s F G (place d i m) (place d t n)) (row d F (strengthen-window x s w) i) (row d G w t)
   unfolding Bridge Meets
-  bridge d largest w i t c = crossing DF DG (contraction-spread s w) i t c d
-  bridge d smallest w i t c = λ m h k. mapped (λ p q a z. swap) (crossing DG DF (expansion-spread s w) t i (swap c) d m h k)
+  bridge d Largest w i t c = crossing DF DG (contraction-spread s w) i t c d
+  bridge d Smallest w i t c = λ m h k. mapped (λ p q a z. swap) (crossing DG DF (expansion-spread s w) t i (swap c) d m h k)
 
 -- the same row with its window as it was: until from the contracted window, release from the expanded one
 module _ (s : ℕ) (F : Places) where
@@ -95,5 +97,5 @@ module _ (s : ℕ) (F : Places) where
 
   pub same-row : (d : Direction) (x : Extremum) (w : Window) (i t : ℕ) → i ≡ t → Bridge x (λ m n. place d i m ≡ place d t n) (row d F (strengthen-window x s w) i) (row d F w t)
   unfolding Bridge Meets
-  same-row d largest w i t p = subst (λ u. Meets (λ m n. place d i m ≡ place d u n) (row d F (strengthen-window largest s w) i) (row d F w u)) p (still (contraction-spread s w) d i)
-  same-row d smallest w i t p = subst (λ u. Meets (λ n m. place d i m ≡ place d u n) (row d F w u) (row d F (strengthen-window smallest s w) i)) p (λ m h t. mapped (λ a b c e. sym) (still (expansion-spread s w) d i m h t))
+  same-row d Largest w i t p = subst (λ u. Meets (λ m n. place d i m ≡ place d u n) (row d F (strengthen-window Largest s w) i) (row d F w u)) p (still (contraction-spread s w) d i)
+  same-row d Smallest w i t p = subst (λ u. Meets (λ n m. place d i m ≡ place d u n) (row d F w u) (row d F (strengthen-window Smallest s w) i)) p (λ m h t. mapped (λ a b c e. sym) (still (expansion-spread s w) d i m h t))

@@ -4,8 +4,10 @@
 use mathlib.Core.Bool.{Bool, true, false, not}
 use mathlib.Core.Path.{_≡_, refl}
 use Prim.Native.Nat.{ℕ}
-use Rattle.logic.specs.Window.{Window}
-use Rattle.logic.specs.Formula.{Extremum, largest, smallest, dual, Formula, truth, atom, negation, junction, temporal, eventually, always}
+use Rattle.logic.specs.declared.Window.{Window}
+use Rattle.logic.specs.declared.Extremum.{Extremum}
+use Rattle.logic.specs.declared.Extremum.the-variants.{Largest, Smallest}
+use Rattle.logic.specs.Formula.{dual, Formula, truth, atom, negation, junction, temporal, eventually, always}
 use Rattle.logic.specs.Reading.{Algebra, Places, place, count, offset, along, read, booleans, boolean-extreme, boolean-nothing}
 use Rattle.logic.specs.Negation.{push, Normal}
 use Rattle.logic.proofs.Steps.{Step, along-step, same}
@@ -75,11 +77,11 @@ booleans-dual = record { twice = twice; nothing = nothing; extremes = extremes }
     twice false = refl
 
     nothing : (e : Extremum) → not (boolean-nothing e) ≡ boolean-nothing (dual e)
-    nothing largest = refl
-    nothing smallest = refl
+    nothing Largest = refl
+    nothing Smallest = refl
 
     extremes : (e : Extremum) (a b : Bool) → not (boolean-extreme e a b) ≡ boolean-extreme (dual e) (not a) (not b)
-    extremes largest true b = refl
-    extremes largest false b = refl
-    extremes smallest true b = refl
-    extremes smallest false b = refl
+    extremes Largest true b = refl
+    extremes Largest false b = refl
+    extremes Smallest true b = refl
+    extremes Smallest false b = refl

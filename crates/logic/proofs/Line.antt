@@ -7,7 +7,8 @@ use native.Mathlib.Nat.{le-refl}
 use native.Mathlib.Omega.{arith}
 use native.Mathlib.Decide.{decLe, decLt}
 use lib.Dec.{T}
-use Rattle.logic.specs.Window.{Window, inside}
+use Rattle.logic.specs.declared.Window.{Window}
+use Rattle.logic.specs.Window.{inside}
 use Rattle.logic.proofs.Windows.{Near, Spread}
 use Rattle.logic.proofs.Carry.{Met}
 

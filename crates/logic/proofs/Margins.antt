@@ -11,7 +11,9 @@ use lib.Signed.{ltZ}
 use Rattle.numbers.specs.Order.{Within}
 use Rattle.numbers.proofs.Parts.{plus, minus, lt-parts, parts-lt, nlt-parts, plus-neg, minus-neg, abs-parts, within-either}
 use Rattle.lists.proofs.Below.{same-test}
-use Rattle.logic.specs.Formula.{Extremum, largest, smallest, dual}
+use Rattle.logic.specs.declared.Extremum.{Extremum}
+use Rattle.logic.specs.declared.Extremum.the-variants.{Largest, Smallest}
+use Rattle.logic.specs.Formula.{dual}
 use Rattle.logic.specs.Reading.{booleans, boolean-extreme, boolean-nothing, margins, margin-extreme, margin-nothing}
 use Rattle.logic.proofs.Steps.{Step}
 use Rattle.logic.proofs.Duality.{DeMorgan, booleans-dual}
@@ -30,12 +32,12 @@ pub margins-dual : (top : ℕ) → DeMorgan (margins top)
 margins-dual top = record { twice = negℤ-negℤ; nothing = nothing; extremes = extremes }
   where
     nothing : (e : Extremum) → negℤ (margin-nothing top e) ≡ margin-nothing top (dual e)
-    nothing largest = negℤ-negℤ (pos top)
-    nothing smallest = refl
+    nothing Largest = negℤ-negℤ (pos top)
+    nothing Smallest = refl
 
     extremes : (e : Extremum) (a b : ℤ) → negℤ (margin-extreme e a b) ≡ margin-extreme (dual e) (negℤ a) (negℤ b)
-    extremes largest a b = rw (← turned a b) (negated-choice (ltZ a b) b a)
-    extremes smallest a b = rw (← turned b a) (negated-choice (ltZ b a) b a)
+    extremes Largest a b = rw (← turned a b) (negated-choice (ltZ a b) b a)
+    extremes Smallest a b = rw (← turned b a) (negated-choice (ltZ b a) b a)
 
 -- z is larger than e
 abbrev pub above : ℤ → ℤ → Bool
@@ -78,16 +80,16 @@ module _ (e : ℤ) where
   and-above false a b h k = and-first (above e a) (above e b) (keep b a (k tt))
 
   pub above-extreme : (x : Extremum) (a b : ℤ) → above e (margin-extreme x a b) ≡ boolean-extreme x (above e a) (above e b)
-  above-extreme largest a b = or-above (ltZ a b) a b (λ t. t) (λ t. t)
-  above-extreme smallest a b = and-above (ltZ b a) a b (λ t. t) (λ t. t)
+  above-extreme Largest a b = or-above (ltZ a b) a b (λ t. t) (λ t. t)
+  above-extreme Smallest a b = and-above (ltZ b a) a b (λ t. t) (λ t. t)
 
 -- "above e" is in step with truth, for every e from -top on below top
 pub above-tests : (top : ℕ) (e : ℤ) → minus e ≤ top → plus e < top → Tests (margins top) (above e)
 above-tests top e low high = record { nothing = nothing; extremes = λ x {a} {b} p q. above-extreme e x a b ∙ ap₂ (boolean-extreme x) p q }
   where
     nothing : (x : Extremum) → above e (margin-nothing top x) ≡ boolean-nothing x
-    nothing largest = same-test (λ t. absurd (omega (arith, lt-parts e (negℤ (pos top)) t, plus-neg (pos top), minus-neg (pos top)))) absurd
-    nothing smallest = same-test (λ t. tt) (λ t. parts-lt e (pos top) (omega arith))
+    nothing Largest = same-test (λ t. absurd (omega (arith, lt-parts e (negℤ (pos top)) t, plus-neg (pos top), minus-neg (pos top)))) absurd
+    nothing Smallest = same-test (λ t. tt) (λ t. parts-lt e (pos top) (omega arith))
 
 -- the sign says the truth: above zero where true, below zero where false, never zero
 pub record Sign (z : ℤ) (b : Bool) : Type 0 where
@@ -130,17 +132,17 @@ decides-step e top = record {
     low t = omega (arith, lt-parts (pos e) (negℤ (pos top)) t, plus-neg (pos top), minus-neg (pos top))
 
     nothing : (x : Extremum) → Decides e (margin-nothing top x) (boolean-nothing x)
-    nothing largest = record { when-true = λ t. absurd (low t); when-false = λ t. tt }
-    nothing smallest = record { when-true = λ t. tt; when-false = λ t. absurd (low t) }
+    nothing Largest = record { when-true = λ t. absurd (low t); when-false = λ t. tt }
+    nothing Smallest = record { when-true = λ t. tt; when-false = λ t. absurd (low t) }
 
 -- no margin is further from zero than top
 pub bounded-step : (top : ℕ) → Step (margins top) booleans (λ z b. Within top z)
 bounded-step top = record { nothing = nothing; extremes = λ e {a} {b} p q. extremes e a b p q }
   where
     nothing : (e : Extremum) → Within top (margin-nothing top e)
-    nothing largest = record { size = omega (arith, abs-parts (negℤ (pos top)), plus-neg (pos top), minus-neg (pos top)) }
-    nothing smallest = record { size = omega arith }
+    nothing Largest = record { size = omega (arith, abs-parts (negℤ (pos top)), plus-neg (pos top), minus-neg (pos top)) }
+    nothing Smallest = record { size = omega arith }
 
     extremes : (e : Extremum) (a b : ℤ) → Within top a → Within top b → Within top (margin-extreme e a b)
-    extremes largest a b p q = within-either (ltZ a b) p q
-    extremes smallest a b p q = within-either (ltZ b a) p q
+    extremes Largest a b p q = within-either (ltZ a b) p q
+    extremes Smallest a b p q = within-either (ltZ b a) p q

@@ -5,8 +5,11 @@ use mathlib.Core.Path.{_≡_, refl, ap₂}
 use mathlib.Core.Bool.{Bool, true, false, cond}
 use Prim.Native.Nat.{ℕ, zero, suc, _<_}
 use native.Mathlib.Omega.{arith}
-use Rattle.logic.specs.Window.{Window, inside}
-use Rattle.logic.specs.Formula.{Extremum, smallest, dual, Formula, truth, atom, negation, junction, temporal}
+use Rattle.logic.specs.declared.Window.{Window}
+use Rattle.logic.specs.Window.{inside}
+use Rattle.logic.specs.declared.Extremum.{Extremum}
+use Rattle.logic.specs.declared.Extremum.the-variants.{Smallest}
+use Rattle.logic.specs.Formula.{dual, Formula, truth, atom, negation, junction, temporal}
 use Rattle.logic.specs.Reading.{Algebra, Places, place, count, offset, extremum, along, read}
 
 -- the operations of two algebras keep R, "not" apart
@@ -33,7 +36,7 @@ module _ {X Y : Type 0} {A : Algebra X} {B : Algebra Y} {R : X → Y → Type 0}
 
   module _ {P : Type 0} (F : Places) {at : P → ℕ → X} {at′ : P → ℕ → Y} (negates : (a : X) (c : Y) → R a c → R (A .negate a) (B .negate c)) (atoms : (p : P) (i : ℕ) → R (at p i) (at′ p i)) where
     pub read-step : (φ : Formula P) (i : ℕ) → R (read A F at φ i) (read B F at′ φ i)
-    read-step truth i = S .nothing smallest
+    read-step truth i = S .nothing Smallest
     read-step (atom p) i = atoms p i
     read-step (negation φ) i = negates _ _ (read-step φ i)
     read-step (junction e l r) i = S .extremes e (read-step l i) (read-step r i)

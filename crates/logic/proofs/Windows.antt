@@ -5,7 +5,10 @@ use Prim.Native.Nat.{ℕ, _+_, _-_, _≤_}
 use native.Mathlib.Omega.{arith}
 use lib.Dec.{T, leb, leb→le, le→leb, ltb→lt, lt→ltb}
 use mir.Facts.{and-yes, yes-and}
-use Rattle.logic.specs.Window.{Stop, endless, before, Window, reaches, inside}
+use Rattle.logic.specs.declared.Stop.{Stop}
+use Rattle.logic.specs.declared.Stop.the-variants.{Endless, Before}
+use Rattle.logic.specs.declared.Window.{Window}
+use Rattle.logic.specs.Window.{reaches, inside}
 use Rattle.logic.specs.Strengthening.{sooner, later, contraction, expansion}
 
 -- x and y are at most s apart
@@ -24,12 +27,12 @@ pub says-inside : (w : Window) (d : ℕ) → w .from ≤ d → T (reaches (w .st
 says-inside w d h t = yes-and (leb (w .from) d) (reaches (w .stop) d) (le→leb _ _ h) t
 
 sooner-near : (s : ℕ) (e : Stop) (c d : ℕ) → Near s c d → T (reaches (sooner s e) c) → T (reaches e d)
-sooner-near s endless c d n t = tt
-sooner-near s (before e) c d n t = lt→ltb d e (omega (arith, ltb→lt c (e - s) t))
+sooner-near s Endless c d n t = tt
+sooner-near s (Before e) c d n t = lt→ltb d e (omega (arith, ltb→lt c (e - s) t))
 
 later-near : (s : ℕ) (e : Stop) (c d : ℕ) → Near s c d → T (reaches e c) → T (reaches (later s e) d)
-later-near s endless c d n t = tt
-later-near s (before e) c d n t = lt→ltb d (e + s) (omega (arith, ltb→lt c e t))
+later-near s Endless c d n t = tt
+later-near s (Before e) c d n t = lt→ltb d (e + s) (omega (arith, ltb→lt c e t))
 
 pub contraction-spread : (s : ℕ) (w : Window) → Spread s (contraction s w) w
 contraction-spread s w = record { spread = λ c d t n. let p = inside-says (contraction s w) c t in says-inside w d (omega arith) (sooner-near s (w .stop) c d n (p .1)) }

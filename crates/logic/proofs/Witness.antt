@@ -5,8 +5,9 @@ use Prim.Native.Nat.{ℕ, _<_}
 use lib.Dec.{T}
 use Rattle.lists.specs.Fold.{all-below}
 use Rattle.lists.proofs.Below.{all-at, at-all, any-at, at-any}
-use Rattle.logic.specs.Window.{Window, inside}
-use Rattle.logic.specs.Formula.{largest}
+use Rattle.logic.specs.declared.Window.{Window}
+use Rattle.logic.specs.Window.{inside}
+use Rattle.logic.specs.declared.Extremum.the-variants.{Largest}
 use Rattle.logic.specs.Reading.{along, booleans}
 
 pub record Witness (w : Window) (d : ℕ → ℕ) (l r : ℕ → Bool) (n : ℕ) : Type 0 where
@@ -27,10 +28,10 @@ joined true false c x y z = absurd y
 joined false b c x y z = absurd x
 
 module _ {w : Window} {d : ℕ → ℕ} {l r : ℕ → Bool} {n : ℕ} where
-  pub of-witness : Witness w d l r n → T (along booleans largest w d l r n)
+  pub of-witness : Witness w d l r n → T (along booleans Largest w d l r n)
   of-witness u = at-any _ n (u .spot) (u .in-row) (joined (inside w (d (u .spot))) (r (u .spot)) (all-below l (u .spot)) (u .in-window) (u .right) (at-all l (u .spot) (u .left)))
 
-  pub witness-of : T (along booleans largest w d l r n) → Witness w d l r n
+  pub witness-of : T (along booleans Largest w d l r n) → Witness w d l r n
   witness-of t =
       let f = any-at _ n t in
       let g = apart (inside w (d (f .0))) (r (f .0)) (all-below l (f .0)) (f .2) in

@@ -10,7 +10,8 @@ use lib.Dec.{T}
 use mir.Facts.{or-yes}
 use Rattle.lists.specs.Fold.{any-below}
 use Rattle.lists.proofs.Below.{all-at, at-all, any-at, at-any, yes-or}
-use Rattle.logic.specs.Window.{Window, inside}
+use Rattle.logic.specs.declared.Window.{Window}
+use Rattle.logic.specs.Window.{inside}
 use Rattle.logic.specs.Formula.{Formula, truth, negation, until, release, eventually, always, future}
 use Rattle.logic.specs.Reading.{Places, offset, read, booleans}
 use Rattle.logic.specs.Words.{Ahead, Until, Release, Eventually, Always}

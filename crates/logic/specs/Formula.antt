@@ -1,14 +1,13 @@
 -- Requirements as trees: Metric Temporal Logic over atoms P.
 -- Assumes nothing.
-use Rattle.logic.specs.Window.{Window}
+use Rattle.logic.specs.declared.Extremum.{Extremum}
+use Rattle.logic.specs.declared.Extremum.the-variants.{Largest, Smallest}
+use Rattle.logic.specs.declared.Window.{Window}
 
--- Which of two values an operator takes. "Or", until and eventually take the largest; "and", release and always, their duals, the smallest.
-pub data Extremum : Type 0 where
-  largest smallest : Extremum
-
+-- an operator takes the largest of two values ("or", until, eventually) or the smallest ("and", release, always, their duals), as src/ declares it
 abbrev pub dual : Extremum → Extremum
-dual largest = smallest
-dual smallest = largest
+dual Largest = Smallest
+dual Smallest = Largest
 
 -- where a temporal operator looks: at later places
 pub data Direction : Type 0 where
@@ -23,16 +22,16 @@ pub data Formula (P : Type 0) : Type 0 where
 
 -- the requirement table's kinds 3 to 8 by their names
 abbrev pub conjunction : {P : Type 0} → Formula P → Formula P → Formula P
-conjunction l r = junction smallest l r
+conjunction l r = junction Smallest l r
 
 abbrev pub disjunction : {P : Type 0} → Formula P → Formula P → Formula P
-disjunction l r = junction largest l r
+disjunction l r = junction Largest l r
 
 abbrev pub until : {P : Type 0} → Window → Formula P → Formula P → Formula P
-until w l r = temporal future largest w l r
+until w l r = temporal future Largest w l r
 
 abbrev pub release : {P : Type 0} → Window → Formula P → Formula P → Formula P
-release w l r = temporal future smallest w l r
+release w l r = temporal future Smallest w l r
 
 -- eventually is until from true, always is release from false
 abbrev pub eventually : {P : Type 0} → Window → Formula P → Formula P

@@ -6,8 +6,11 @@ use Prim.Native.Nat.{ℕ, _+_, _-_}
 use lib.IntN.{ℤ, pos, negℤ}
 use Rattle.numbers.specs.Order.{smaller-of, larger-of}
 use Rattle.lists.specs.Fold.{fold}
-use Rattle.logic.specs.Window.{Window, inside}
-use Rattle.logic.specs.Formula.{Extremum, largest, smallest, dual, Direction, future, Formula, truth, atom, negation, junction, temporal}
+use Rattle.logic.specs.declared.Window.{Window}
+use Rattle.logic.specs.Window.{inside}
+use Rattle.logic.specs.declared.Extremum.{Extremum}
+use Rattle.logic.specs.declared.Extremum.the-variants.{Largest, Smallest}
+use Rattle.logic.specs.Formula.{dual, Direction, future, Formula, truth, atom, negation, junction, temporal}
 
 -- what a requirement is read into: "not", the larger and the smaller of two, and the largest and the smallest over nothing
 pub record Algebra (X : Type 0) : Type 0 where
@@ -43,7 +46,7 @@ module _ {X : Type 0} (A : Algebra X) where
 
   -- the requirement table: one line for each kind
   abbrev pub read : {P : Type 0} → Places → (P → ℕ → X) → Formula P → ℕ → X
-  read F at truth i = A .over-nothing smallest
+  read F at truth i = A .over-nothing Smallest
   read F at (atom p) i = at p i
   read F at (negation φ) i = A .negate (read F at φ i)
   read F at (junction e l r) i = A .extreme e (read F at l i) (read F at r i)
@@ -51,24 +54,24 @@ module _ {X : Type 0} (A : Algebra X) where
 
 -- true and false, true the larger
 abbrev pub boolean-extreme : Extremum → Bool → Bool → Bool
-boolean-extreme largest a b = a || b
-boolean-extreme smallest a b = a && b
+boolean-extreme Largest a b = a || b
+boolean-extreme Smallest a b = a && b
 
 abbrev pub boolean-nothing : Extremum → Bool
-boolean-nothing largest = false
-boolean-nothing smallest = true
+boolean-nothing Largest = false
+boolean-nothing Smallest = true
 
 abbrev pub booleans : Algebra Bool
 booleans = record { negate = not; extreme = boolean-extreme; over-nothing = boolean-nothing }
 
 -- whole numbers up to `top`: a largest over nothing is -top, a smallest over nothing is top
 abbrev pub margin-extreme : Extremum → ℤ → ℤ → ℤ
-margin-extreme largest a b = larger-of a b
-margin-extreme smallest a b = smaller-of a b
+margin-extreme Largest a b = larger-of a b
+margin-extreme Smallest a b = smaller-of a b
 
 abbrev pub margin-nothing : ℕ → Extremum → ℤ
-margin-nothing top largest = negℤ (pos top)
-margin-nothing top smallest = pos top
+margin-nothing top Largest = negℤ (pos top)
+margin-nothing top Smallest = pos top
 
 abbrev pub margins : ℕ → Algebra ℤ
 margins top = record { negate = negℤ; extreme = margin-extreme; over-nothing = margin-nothing top }

@@ -2,18 +2,22 @@
 -- Assumes nothing.
 use mathlib.Core.Bool.{Bool}
 use Prim.Native.Nat.{ℕ, _+_, _-_}
-use Rattle.logic.specs.Window.{Window, Stop, endless, before}
-use Rattle.logic.specs.Formula.{Extremum, largest, smallest, Formula, truth, atom, negation, junction, temporal}
+use Rattle.logic.specs.declared.Stop.{Stop}
+use Rattle.logic.specs.declared.Stop.the-variants.{Endless, Before}
+use Rattle.logic.specs.declared.Window.{Window}
+use Rattle.logic.specs.declared.Extremum.{Extremum}
+use Rattle.logic.specs.declared.Extremum.the-variants.{Largest, Smallest}
+use Rattle.logic.specs.Formula.{Formula, truth, atom, negation, junction, temporal}
 use Rattle.logic.specs.Negation.{push}
 
 -- no end remains no end
 abbrev pub sooner : ℕ → Stop → Stop
-sooner s endless = endless
-sooner s (before e) = before (e - s)
+sooner s Endless = Endless
+sooner s (Before e) = Before (e - s)
 
 abbrev pub later : ℕ → Stop → Stop
-later s endless = endless
-later s (before e) = before (e + s)
+later s Endless = Endless
+later s (Before e) = Before (e + s)
 
 -- the source's contraction: lo + step to hi - step, perhaps empty
 abbrev pub contraction : ℕ → Window → Window
@@ -25,8 +29,8 @@ expansion s w = record { from = w .from - s; stop = later s (w .stop) }
 
 -- until and eventually contract their windows, release and always expand them
 abbrev pub strengthen-window : Extremum → ℕ → Window → Window
-strengthen-window largest s w = contraction s w
-strengthen-window smallest s w = expansion s w
+strengthen-window Largest s w = contraction s w
+strengthen-window Smallest s w = expansion s w
 
 abbrev pub strengthen : {P : Type 0} → ℕ → Formula P → Formula P
 strengthen s truth = truth

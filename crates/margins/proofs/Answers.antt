@@ -35,10 +35,10 @@ module _ (c : Card) (t : Table) (cells : ℕ) where
   refusal-none e h = first-append (checks c t) (room-check c t cells ∷ []) tt e ∙ first-passes (room-check c t cells) [] (le-leb (t .count * rows c) cells h)
 
   -- number 0 says that none of refusals 3 to 8 applies
-  pub accepted : length (c .predicates) ≤ 16 → refusal c t cells ≡ 0 → Sound c t × (t .count * rows c ≤ cells)
-  accepted l e =
+  pub accepted : refusal c t cells ≡ 0 → Sound c t × (t .count * rows c ≤ cells)
+  accepted e =
       elim (ℕ-discrete (first (checks c t)) 0) [
-        | yes z ↦ (sound c t l z, elim (decLe (t .count * rows c) cells) [ yes h ↦ h | no h ↦ absurd (omega (arith, sym (refusal-room z (omega arith)) ∙ e)) ])
+        | yes z ↦ (sound c t z, elim (decLe (t .count * rows c) cells) [ yes h ↦ h | no h ↦ absurd (omega (arith, sym (refusal-room z (omega arith)) ∙ e)) ])
         | no n ↦ absurd (n (sym (refusal-early n) ∙ e))
       ]
 

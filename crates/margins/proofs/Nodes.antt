@@ -12,7 +12,8 @@ use lib.IntN.{ℤ, negℤ}
 use Rattle.numbers.proofs.Parts.{holds}
 use Rattle.lists.specs.Fill.{fill}
 use Rattle.lists.proofs.Filled.{fill-cong}
-use Rattle.logic.specs.Formula.{Formula, largest, smallest}
+use Rattle.logic.specs.declared.Extremum.the-variants.{Largest, Smallest}
+use Rattle.logic.specs.Formula.{Formula}
 use Rattle.recordings.specs.Card.{Card, rows}
 use Rattle.recordings.specs.Margin.{margin, robustness}
 use Rattle.tables.specs.declared.Node.{Node}
@@ -76,8 +77,8 @@ module _ (c : Card) (w : List ℤ) (k : ℕ) (φ : ℕ → Formula ℕ) (H : Hol
   value-is unknown n h i = refl
   value-is (joined e) n h i = refl
   value-is (binary d e) n h i = refl
-  value-is (unary d largest) n h i = refl
-  value-is (unary d smallest) n h i = refl
+  value-is (unary d Largest) n h i = refl
+  value-is (unary d Smallest) n h i = refl
 
   pub value-filled : (n : Node) {l : List ℤ} → NodeRules n k → (operator (n .kind) ≡ negated → ⊥) → l ≡ fill (k * rows c) (rows c) (node-value c true (window n) (operator (n .kind)) n (cell w (rows c) (n .left)) (cell w (rows c) (n .right))) w → l ≡ fill (k * rows c) (rows c) (margin c (formula (operator (n .kind)) n φ)) w
   value-filled n r h e =

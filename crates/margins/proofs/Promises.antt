@@ -22,10 +22,10 @@ use Rattle.rules.proofs.Refusals.{exact, sound-passes}
 use Rattle.margins.specs.Answers.{room-check, margin-checks, refusal, judged, cells-after}
 use Rattle.margins.proofs.Answers.{accepted, refusal-none}
 
-module _ (c : Card) (t : Table) (cells : ℕ) (few : length (c .predicates) ≤ 16) where
+module _ (c : Card) (t : Table) (cells : ℕ) where
   -- each test of the list holds exactly where its sentence does
   exact-checks : AllExact (margin-checks c t cells)
-  exact-checks = exact-append (checks c t) (room-check c t cells ∷ []) (exact c t few) (λ _. (record { sound = leb→le _ _; complete = le→leb _ _ }, λ _. tt))
+  exact-checks = exact-append (checks c t) (room-check c t cells ∷ []) (exact c t) (λ _. (record { sound = leb→le _ _; complete = le→leb _ _ }, λ _. tt))
 
   -- a number m is answered exactly when its condition applies and no earlier one does
   pub number-refused : (judged c t cells .number ≡ 0 → ⊥) → Refused (margin-checks c t cells) (judged c t cells .number)
@@ -39,11 +39,11 @@ module _ (c : Card) (t : Table) (cells : ℕ) (few : length (c .predicates) ≤ 
   -- 0 is answered exactly when none of refusals 3 to 8 applies
   pub number-none : judged c t cells .number ≡ 0 → Sound c t × (t .count * rows c ≤ cells)
   unfolding judged
-  number-none e = accepted c t cells few e
+  number-none e = accepted c t cells e
 
   pub none-number : Sound c t → t .count * rows c ≤ cells → judged c t cells .number ≡ 0
   unfolding judged
-  none-number s h = refusal-none c t cells (sound-passes c t few s) h
+  none-number s h = refusal-none c t cells (sound-passes c t s) h
 
   -- under a refusal the margin is 0
   pub refused-margin : (judged c t cells .number ≡ 0 → ⊥) → judged c t cells .margin ≡ pos 0
@@ -80,8 +80,8 @@ module _ (c : Card) (t : Table) (w : List ℤ) where
   cells-are e = rw e refl
 
   -- cell k × rows + i ends as node k's margin at i, whether the root reaches the node or not
-  pub cell-is : length (c .predicates) ≤ 16 → judged c t (length w) .number ≡ 0 → (k i : ℕ) → k < t .count → i < rows c → getD (cells-after c t w) (k * rows c + i) (pos 0) ≡ margin c (tree (t .nodes) k) i
-  cell-is l e k i a b = rw (cells-are e) (rows-in (rows c) (λ q. margin c (tree (t .nodes) q)) (t .count) w k i (pos 0) a b (number-none c t (length w) l e .1))
+  pub cell-is : judged c t (length w) .number ≡ 0 → (k i : ℕ) → k < t .count → i < rows c → getD (cells-after c t w) (k * rows c + i) (pos 0) ≡ margin c (tree (t .nodes) k) i
+  cell-is e k i a b = rw (cells-are e) (rows-in (rows c) (λ q. margin c (tree (t .nodes) q)) (t .count) w k i (pos 0) a b (number-none c t (length w) e .1))
 
   -- later cells keep their contents
   pub later-kept : judged c t (length w) .number ≡ 0 → (m : ℕ) → t .count * rows c ≤ m → getD (cells-after c t w) m (pos 0) ≡ getD w m (pos 0)

@@ -8,8 +8,10 @@ use Prim.Native.Nat.{ℕ, _≤_, _<_}
 use native.Mathlib.Omega.{arith}
 use lib.IntN.{ℤ}
 use Rattle.lists.specs.Fill.{fill}
-use Rattle.logic.specs.Window.{Window}
-use Rattle.logic.specs.Formula.{Extremum, largest, smallest, dual, future}
+use Rattle.logic.specs.declared.Window.{Window}
+use Rattle.logic.specs.declared.Extremum.{Extremum}
+use Rattle.logic.specs.declared.Extremum.the-variants.{Largest, Smallest}
+use Rattle.logic.specs.Formula.{dual, future}
 use Rattle.logic.specs.Reading.{margin-extreme, margin-nothing}
 use Rattle.logic.specs.Negation.{turn}
 use Rattle.recordings.specs.Card.{Card, rows, predicate, samples}
@@ -26,11 +28,11 @@ use Rattle.nodes.specs.Values.{node-value}
 use Rattle.nodes.specs.Asks.{Earlier, NodeAsks}
 
 -- the flag that the code passes for "or", until and eventually, and for their duals
-pub turn-largest : (b : Bool) → extremum-of b ≡ turn b largest
+pub turn-largest : (b : Bool) → extremum-of b ≡ turn b Largest
 turn-largest true = refl
 turn-largest false = refl
 
-pub turn-smallest : (b : Bool) → extremum-of (not b) ≡ turn b smallest
+pub turn-smallest : (b : Bool) → extremum-of (not b) ≡ turn b Smallest
 turn-smallest true = refl
 turn-smallest false = refl
 
@@ -52,7 +54,7 @@ module _ {w : List ℤ} {c : Card} {n : Node} {left right row : ℕ} (a : NodeAs
     known = elim (a .recorded .channels .proper (n .left) .known) [ inl u ↦ absurd (a .set e u) | inr k ↦ k ];
     ends = a .recorded .channels .proper (n .left) .ends;
     all-values = omega (arith, a .recorded .lengths .all-values);
-    in-range = a .recorded .values .in-range;
+    in-range = a .recorded .values;
   }
 
 -- eight kinds that it is not leave the last
@@ -67,7 +69,7 @@ last-kind k h a b c d e f g i = not-middle k (not-low k a b c d) h e f g i
 
 -- ---- a row filled as its kind asks is the node's
 module _ (c : Card) (n : Node) (w : Window) (l r : ℕ → ℤ) (base len : ℕ) (work : List ℤ) {out : List ℤ} (b : Bool) where
-  pub true-arm : n .kind ≡ 0 → out ≡ fill base len (λ i. signed b (margin-nothing TOP smallest)) work → out ≡ fill base len (node-value c b w (operator (n .kind)) n l r) work
+  pub true-arm : n .kind ≡ 0 → out ≡ fill base len (λ i. signed b (margin-nothing TOP Smallest)) work → out ≡ fill base len (node-value c b w (operator (n .kind)) n l r) work
   unfolding node-value
   true-arm e h = rw e h
 

@@ -5,8 +5,9 @@ use mathlib.Core.Bool.{Bool}
 use Prim.Native.Nat.{ℕ, _+_, _-_, _<_}
 use native.Mathlib.Omega.{arith}
 use lib.IntN.{ℤ}
-use Rattle.logic.specs.Window.{Window}
-use Rattle.logic.specs.Formula.{Extremum, dual, Direction, future}
+use Rattle.logic.specs.declared.Window.{Window}
+use Rattle.logic.specs.declared.Extremum.{Extremum}
+use Rattle.logic.specs.Formula.{dual, Direction, future}
 use Rattle.logic.specs.Reading.{margins, margin-extreme, margin-nothing, offset}
 use Rattle.logic.specs.Negation.{turn}
 use Rattle.logic.proofs.Steps.{along-cong}

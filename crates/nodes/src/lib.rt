@@ -4,15 +4,14 @@ ghost use Prim.Native.Nat.{_*_};
 ghost use lib.ListN.{length};
 ghost use Rattle.lists.specs.Fill.{fill};
 ghost use Rattle.rows.specs.Cells.{cell};
-ghost use Rattle.temporal.specs.Reading.{window-of};
 ghost use Rattle.tables.specs.Kind.{operator};
 ghost use Rattle.nodes.specs.Values.{node-value};
 ghost use Rattle.nodes.specs.Asks.{NodeAsks};
 ghost use Rattle.recordings.specs.Card.{lent};
+use logic::Window;
 use recordings::Predicate;
 use tables::Node;
 use temporal::Left;
-use temporal::Window;
 
 // Row `row` gets the node's values, or, where it is not affirmed, those of its negation, from rows `left` and `right`.
 pub fn node_row(
@@ -29,7 +28,7 @@ pub fn node_row(
     row: usize,
 )
     requires { ⌜ NodeAsks (now work) (lent channels predicates times values) node left right row ⌝ }
-    ensures { λ _. ⌜ now (work .exit) ≡ fill (row * length (now (times .entry))) (length (now (times .entry))) (node-value (lent channels predicates (times .entry) (values .entry)) affirmed (window-of window) (operator (node .kind)) node (cell (now (work .entry)) (length (now (times .entry))) left) (cell (now (work .entry)) (length (now (times .entry))) right)) (now (work .entry)) ⌝ }
+    ensures { λ _. ⌜ now (work .exit) ≡ fill (row * length (now (times .entry))) (length (now (times .entry))) (node-value (lent channels predicates (times .entry) (values .entry)) affirmed window (operator (node .kind)) node (cell (now (work .entry)) (length (now (times .entry))) left) (cell (now (work .entry)) (length (now (times .entry))) right)) (now (work .entry)) ⌝ }
 {
     let rows = times.len();
     let kind = node.kind;

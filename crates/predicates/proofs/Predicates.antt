@@ -1,4 +1,4 @@
--- The tests of predicates hold exactly where their sentences do. A test is taken apart into its parts and put together from them; sixteen predicates are all there are.
+-- The tests of predicates hold exactly where their sentences do. A test is taken apart into its parts and put together from them; a number past the listed predicates is unset, which obeys.
 -- Assumes nothing.
 use mathlib.Core.Path.{_≡_, refl}
 use mathlib.Core.Bool.{Bool, true, false, not, _&&_, _||_}
@@ -19,7 +19,7 @@ use Rattle.recordings.specs.declared.Predicate.{Predicate}
 use Rattle.recordings.specs.declared.Range.{Range}
 use Rattle.recordings.specs.declared.Range.the-variants.{Unset, Free, AtLeast, AtMost, Between}
 use Rattle.recordings.specs.Card.{predicate-at, Card, predicate}
-use Rattle.recordings.specs.Accepted.{InRange, Ends, Proper, Channels}
+use Rattle.recordings.specs.Accepted.{MOST-CHANNELS, FARTHEST, InRange, Ends, Proper, Channels}
 use Rattle.tables.specs.declared.Node.{Node}
 use Rattle.tables.specs.declared.Table.{Table}
 use Rattle.tables.specs.Tree.{node-at}
@@ -70,15 +70,15 @@ named-passes c t r = at-all (λ j. names-set (c .predicates) (node-at (t .nodes)
 pub value-in-range : (v : ℤ) → T (value-obeys v) → InRange v
 unfolding value-obeys
 value-in-range v t =
-    let a = and-yes (leZ (negℤ (pos 1_000_000_000)) v) (leZ v (pos 1_000_000_000)) t in
-    record { size = omega (arith, le-parts (negℤ (pos 1_000_000_000)) v (a .0), le-parts v (pos 1_000_000_000) (a .1), parts-apart v, abs-parts v) }
+    let a = and-yes (leZ (negℤ (pos FARTHEST)) v) (leZ v (pos FARTHEST)) t in
+    record { size = omega (arith, le-parts (negℤ (pos FARTHEST)) v (a .0), le-parts v (pos FARTHEST) (a .1), parts-apart v, abs-parts v) }
 
 pub in-range-passes : (v : ℤ) → InRange v → T (value-obeys v)
 unfolding value-obeys
 in-range-passes v r =
-    yes-and (leZ (negℤ (pos 1_000_000_000)) v) (leZ v (pos 1_000_000_000))
-    (parts-le (negℤ (pos 1_000_000_000)) v (omega (arith, r .size, abs-parts v)))
-    (parts-le v (pos 1_000_000_000) (omega (arith, r .size, abs-parts v)))
+    yes-and (leZ (negℤ (pos FARTHEST)) v) (leZ v (pos FARTHEST))
+    (parts-le (negℤ (pos FARTHEST)) v (omega (arith, r .size, abs-parts v)))
+    (parts-le v (pos FARTHEST) (omega (arith, r .size, abs-parts v)))
 
 range-ends : (r : Range) → T (range-obeys r) → Ends r
 range-ends Unset t = tt
@@ -118,16 +118,16 @@ proper-passes channels p r =
     (yes-or (not (is-set (p .range))) (ltb (p .channel) channels) (elim (r .known) [ inl h ↦ inl (unset-not h) | inr h ↦ inr (lt→ltb (p .channel) channels h) ]))
     (ends-pass (p .range) (r .ends))
 
-pub channels-are : (c : Card) → length (c .predicates) ≤ 16 → T (channels-obey (c .channels) (c .predicates)) → Channels c
+pub channels-are : (c : Card) → T (channels-obey (c .channels) (c .predicates)) → Channels c
 unfolding predicates-obey channels-obey
-channels-are c l t =
-    let a = and-yes (leb 1 (c .channels)) (leb (c .channels) 8 && predicates-obey (c .channels) (c .predicates) 16) t in
-    let b = and-yes (leb (c .channels) 8) (predicates-obey (c .channels) (c .predicates) 16) (a .1) in
+channels-are c t =
+    let a = and-yes (leb 1 (c .channels)) (leb (c .channels) MOST-CHANNELS && predicates-obey (c .channels) (c .predicates) (length (c .predicates))) t in
+    let b = and-yes (leb (c .channels) MOST-CHANNELS) (predicates-obey (c .channels) (c .predicates) (length (c .predicates))) (a .1) in
     record {
       some-channel = leb→le 1 (c .channels) (a .0);
-      few-channels = leb→le (c .channels) 8 (b .0);
-      proper = λ p. elim (decLt p 16) [
-        | yes i ↦ proper (c .channels) (predicate c p) (all-at (λ q. predicate-obeys (c .channels) (predicate-at (c .predicates) q)) 16 (b .1) p i)
+      few-channels = leb→le (c .channels) MOST-CHANNELS (b .0);
+      proper = λ p. elim (decLt p (length (c .predicates))) [
+        | yes i ↦ proper (c .channels) (predicate c p) (all-at (λ q. predicate-obeys (c .channels) (predicate-at (c .predicates) q)) (length (c .predicates)) (b .1) p i)
         | no i ↦ rw (List·getD-eq-default (c .predicates) (record { channel = 0; range = Unset }) {n = p} (omega arith)) (record { known = inl refl; ends = tt })
       ];
     }
@@ -135,13 +135,13 @@ channels-are c l t =
 pub channels-pass : (c : Card) → Channels c → T (channels-obey (c .channels) (c .predicates))
 unfolding predicates-obey channels-obey
 channels-pass c r =
-    yes-and (leb 1 (c .channels)) (leb (c .channels) 8 && predicates-obey (c .channels) (c .predicates) 16) (le→leb 1 (c .channels) (r .some-channel))
-    (yes-and (leb (c .channels) 8) (predicates-obey (c .channels) (c .predicates) 16) (le→leb (c .channels) 8 (r .few-channels))
-    (at-all (λ q. predicate-obeys (c .channels) (predicate-at (c .predicates) q)) 16 (λ p i. proper-passes (c .channels) (predicate c p) (r .proper p))))
+    yes-and (leb 1 (c .channels)) (leb (c .channels) MOST-CHANNELS && predicates-obey (c .channels) (c .predicates) (length (c .predicates))) (le→leb 1 (c .channels) (r .some-channel))
+    (yes-and (leb (c .channels) MOST-CHANNELS) (predicates-obey (c .channels) (c .predicates) (length (c .predicates))) (le→leb (c .channels) MOST-CHANNELS (r .few-channels))
+    (at-all (λ q. predicate-obeys (c .channels) (predicate-at (c .predicates) q)) (length (c .predicates)) (λ p i. proper-passes (c .channels) (predicate c p) (r .proper p))))
 
 -- what the test of the lengths may rely on
-pub few-channels : (channels : ℕ) (ps : List Predicate) → channels-obey channels ps ≡ true → channels ≤ 8
+pub few-channels : (channels : ℕ) (ps : List Predicate) → channels-obey channels ps ≡ true → channels ≤ MOST-CHANNELS
 unfolding channels-obey
 few-channels channels ps e =
-    let a = and-yes (leb 1 channels) (leb channels 8 && predicates-obey channels ps 16) (holds e) in
-    leb→le channels 8 (and-yes (leb channels 8) (predicates-obey channels ps 16) (a .1) .0)
+    let a = and-yes (leb 1 channels) (leb channels MOST-CHANNELS && predicates-obey channels ps (length ps)) (holds e) in
+    leb→le channels MOST-CHANNELS (and-yes (leb channels MOST-CHANNELS) (predicates-obey channels ps (length ps)) (a .1) .0)

@@ -5,6 +5,7 @@ use mathlib.Core.Bool.{Bool, true, not, _&&_, _||_}
 use mathlib.Core.List.{List}
 use Prim.Native.Nat.{ℕ, _<_}
 use lib.Dec.{leb, ltb, eqb}
+use lib.ListN.{length}
 use lib.IntN.{ℤ, pos, negℤ}
 use lib.Signed.{leZ}
 use Rattle.lists.specs.Fold.{all-below}
@@ -13,6 +14,7 @@ use Rattle.recordings.specs.declared.Range.{Range}
 use Rattle.recordings.specs.declared.Range.the-variants.{Unset, Free, AtLeast, AtMost, Between}
 use Rattle.recordings.specs.Card.{Card, predicate, predicate-at}
 use Rattle.recordings.specs.Distance.{is-unset}
+use Rattle.recordings.specs.Accepted.{MOST-CHANNELS, FARTHEST}
 use Rattle.tables.specs.declared.Node.{Node}
 use Rattle.tables.specs.declared.Table.{Table}
 use Rattle.tables.specs.Tree.{node-at}
@@ -38,7 +40,7 @@ pub record Named (c : Card) (t : Table) : Type 0 where
 
 -- ---- 4: channels not 1 to 8, or a set predicate with a channel not below that count, an end out of range or lo > hi
 unfoldable pub value-obeys : ℤ → Bool
-value-obeys v = leZ (negℤ (pos 1_000_000_000)) v && leZ v (pos 1_000_000_000)
+value-obeys v = leZ (negℤ (pos FARTHEST)) v && leZ v (pos FARTHEST)
 
 abbrev pub range-obeys : Range → Bool
 range-obeys Unset = true
@@ -54,4 +56,4 @@ unfoldable pub predicates-obey : ℕ → List Predicate → ℕ → Bool
 predicates-obey channels ps n = all-below (λ p. predicate-obeys channels (predicate-at ps p)) n
 
 unfoldable pub channels-obey : ℕ → List Predicate → Bool
-channels-obey channels ps = leb 1 channels && (leb channels 8 && predicates-obey channels ps 16)
+channels-obey channels ps = leb 1 channels && (leb channels MOST-CHANNELS && predicates-obey channels ps (length ps))

@@ -2,16 +2,14 @@
 // No test branches on what it has found so far: each looks at everything that it judges.
 ghost use mathlib.Core.Path.{_≡_};
 ghost use Prim.Native.Nat.{_≤_};
+ghost use lib.ListN.{length};
 ghost use Rattle.predicates.specs.Predicates.{is-set, names-set, all-named, requirement-obeys, value-obeys, range-obeys, predicate-obeys, predicates-obey, channels-obey};
+use recordings::FARTHEST;
+use recordings::MOST_CHANNELS;
 use recordings::Predicate;
 use recordings::Range;
 use tables::Node;
 use tables::Table;
-
-// The range of values, and of the ends of predicates' ranges.
-pub const LOWEST: i64 = -1_000_000_000;
-
-pub const HIGHEST: i64 = 1_000_000_000;
 
 pub fn is_set(range: Range) -> bool
     ensures { λ r. ⌜ r ≡ is-set range ⌝ }
@@ -66,7 +64,7 @@ pub fn requirement_obeys(table: Table, predicates: [Predicate; 16]) -> bool
 pub fn value_obeys(v: i64) -> bool
     ensures { λ r. ⌜ r ≡ value-obeys v ⌝ }
 {
-    (LOWEST <= v) & (v <= HIGHEST)
+    (-FARTHEST <= v) & (v <= FARTHEST)
 }
 
 fn between_obeys(lo: i64, hi: i64) -> bool
@@ -100,7 +98,7 @@ fn predicate_obeys(predicate: Predicate, channels: usize) -> bool
 }
 
 fn predicates_obey(predicates: [Predicate; 16], channels: usize) -> bool
-    ensures { λ r. ⌜ r ≡ predicates-obey channels predicates 16 ⌝ }
+    ensures { λ r. ⌜ r ≡ predicates-obey channels predicates (length predicates) ⌝ }
 {
     let mut ok = true;
     let mut p = 0;
@@ -118,5 +116,5 @@ pub fn channels_obey(channels: usize, predicates: [Predicate; 16]) -> bool
     ensures { λ r. ⌜ r ≡ channels-obey channels predicates ⌝ }
 {
     let each = predicates_obey(predicates, channels);
-    (1 <= channels) & ((channels <= 8) & each)
+    (1 <= channels) & ((channels <= MOST_CHANNELS) & each)
 }

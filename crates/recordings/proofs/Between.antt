@@ -8,7 +8,8 @@ use Prim.Native.Nat.{ℕ, suc, _+_, _-_, _≤_, _<_}
 use native.Mathlib.Omega.{arith}
 use lib.Dec.{T}
 use lib.IntN.{ℤ, pos}
-use Rattle.logic.specs.Formula.{Formula, atom, smallest}
+use Rattle.logic.specs.declared.Extremum.the-variants.{Smallest}
+use Rattle.logic.specs.Formula.{Formula, atom}
 use Rattle.logic.specs.Reading.{read, booleans, margins}
 use Rattle.logic.specs.Negation.{push}
 use Rattle.logic.specs.Strengthening.{strengthened}
@@ -57,7 +58,7 @@ module _ {c : Card} {step : ℕ} (ok : Sampled c step) where
     -- a predicate at a second near a sample
     atom-decides : (p i t : ℕ) → Close step (samples c) (span c) i t → Decides drift (distance-at top c p i) (true-when c h p t)
     atom-decides p i t n = elim (ok .known p) [
-      | inl u ↦ rw u (decides-step drift top .nothing smallest)
+      | inl u ↦ rw u (decides-step drift top .nothing Smallest)
       | inr u ↦ distance-decides drift top (predicate c p .range) _ _ (history .follows (predicate c p .channel) i t u (n .here .high) (record { from-first = n .there .low; to-last = omega (arith, n .there .high) }) (record { after = n .near .down; before = n .near .up }))
     ]
 

@@ -11,12 +11,12 @@ use lib.Signed.{leZ, ltZ}
 use Rattle.numbers.specs.Order.{Within}
 use Rattle.numbers.proofs.Parts.{plus, minus, lt-parts, parts-lt, le-parts, parts-le, nle-parts, parts-nle, plus-neg, minus-neg, abs-parts, suc-parts, sub-parts, within-diff, within-suc, within-more, within-either}
 use Rattle.lists.proofs.Below.{same-test}
-use Rattle.logic.specs.Formula.{smallest}
+use Rattle.logic.specs.declared.Extremum.the-variants.{Smallest}
 use Rattle.logic.proofs.Margins.{Sign, sign-step, Decides, decides-step}
 use Rattle.recordings.specs.declared.Range.{Range}
 use Rattle.recordings.specs.declared.Range.the-variants.{Unset, Free, AtLeast, AtMost, Between}
 use Rattle.recordings.specs.Distance.{contains, clearance, distance}
-use Rattle.recordings.specs.Accepted.{InRange, Ends}
+use Rattle.recordings.specs.Accepted.{FARTHEST, InRange, Ends}
 
 -- ---- the clearance
 -- from a to b, and from c to d: two differences at most e apart
@@ -65,19 +65,19 @@ distance-decides e top r v x h = go r
     high hi = clearance-decides e v hi x hi (omega (arith, abs-parts (x -ℤ v), sub-parts x v))
 
     go : (r : Range) → Decides e (distance top r v) (contains r x)
-    go Unset = decides-step e top .nothing smallest
-    go Free = decides-step e top .nothing smallest
+    go Unset = decides-step e top .nothing Smallest
+    go Free = decides-step e top .nothing Smallest
     go (AtLeast lo) = low lo
     go (AtMost hi) = high hi
-    go (Between lo hi) = decides-step e top .extremes smallest (low lo) (high hi)
+    go (Between lo hi) = decides-step e top .extremes Smallest (low lo) (high hi)
 
 -- the sign is the predicate's truth
 pub distance-sign : (top : ℕ) → 0 < top → (r : Range) (v : ℤ) → Sign (distance top r v) (contains r v)
-distance-sign top h Unset v = sign-step top h .nothing smallest
-distance-sign top h Free v = sign-step top h .nothing smallest
+distance-sign top h Unset v = sign-step top h .nothing Smallest
+distance-sign top h Free v = sign-step top h .nothing Smallest
 distance-sign top h (AtLeast lo) v = clearance-sign lo v
 distance-sign top h (AtMost hi) v = clearance-sign v hi
-distance-sign top h (Between lo hi) v = sign-step top h .extremes smallest (clearance-sign lo v) (clearance-sign v hi)
+distance-sign top h (Between lo hi) v = sign-step top h .extremes Smallest (clearance-sign lo v) (clearance-sign v hi)
 
 -- a range that takes every number
 abbrev pub Open : Range → Type 0
@@ -91,9 +91,9 @@ Open (Between lo hi) = ⊥
 pub distance-small : (top : ℕ) (r : Range) (v : ℤ) → Ends r → InRange v → Open r ⊎ Within 2_000_000_001 (distance top r v)
 distance-small top Unset v h k = inl tt
 distance-small top Free v h k = inl tt
-distance-small top (AtLeast lo) v h k = inr (clearance-small 1_000_000_000 lo v h k)
-distance-small top (AtMost hi) v h k = inr (clearance-small 1_000_000_000 v hi k h)
-distance-small top (Between lo hi) v h k = inr (within-either (ltZ (clearance v hi) (clearance lo v)) (clearance-small 1_000_000_000 lo v (h .0) k) (clearance-small 1_000_000_000 v hi k (h .1)))
+distance-small top (AtLeast lo) v h k = inr (clearance-small FARTHEST lo v h k)
+distance-small top (AtMost hi) v h k = inr (clearance-small FARTHEST v hi k h)
+distance-small top (Between lo hi) v h k = inr (within-either (ltZ (clearance v hi) (clearance lo v)) (clearance-small FARTHEST lo v (h .0) k) (clearance-small FARTHEST v hi k (h .1)))
 
 pub distance-open : (top : ℕ) (r : Range) (v : ℤ) → Open r → distance top r v ≡ pos top
 distance-open top Unset v o = refl

@@ -14,7 +14,7 @@ use Rattle.lists.specs.Fold.{all-below}
 use Rattle.lists.proofs.Below.{all-at}
 use Rattle.recordings.specs.Card.{Card, rows, time, value, predicate}
 use Rattle.recordings.specs.History.{OneStep, History}
-use Rattle.recordings.specs.Accepted.{Accepted, Proper}
+use Rattle.recordings.specs.Accepted.{MOST-ROWS, LATEST, FARTHEST, LONGEST-STEP, LARGEST-DRIFT, Proper, Accepted}
 use Rattle.recordings.specs.Examples.{example, ramp}
 
 -- the sentences of acceptance for a recording of one channel, as tests that compute
@@ -22,14 +22,14 @@ record Computed (c : Card) (step drift : ℕ) : Type 0 where
   one-channel : c .channels ≡ 1
   proper : (p : ℕ) → Proper (c .channels) (predicate c p)
   some-row : T (leb 1 (rows c))
-  few-rows : T (leb (rows c) 4_096)
+  few-rows : T (leb (rows c) MOST-ROWS)
   all-values : length (c .values) ≡ rows c * c .channels
   rising : T (all-below (λ i. ltb (time c i) (time c (suc i))) (rows c - 1))
-  small-times : T (all-below (λ i. leb (time c i) 2_000_000_000) (rows c))
-  in-range : T (all-below (λ m. leb (natAbs (getD (c .values) m (pos 0))) 1_000_000_000) (length (c .values)))
+  small-times : T (all-below (λ i. leb (time c i) LATEST) (rows c))
+  in-range : T (all-below (λ m. leb (natAbs (getD (c .values) m (pos 0))) FARTHEST) (length (c .values)))
   some-step : T (leb 1 step)
-  short-step : T (leb step 1_000_000_000)
-  small-drift : T (leb drift 1_000_000_000)
+  short-step : T (leb step LONGEST-STEP)
+  small-drift : T (leb drift LARGEST-DRIFT)
   no-gap : T (all-below (λ i. leb (time c (suc i)) (time c i + step)) (rows c - 1))
   no-jump : T (all-below (λ i. leb (natAbs (value c 0 (suc i) -ℤ value c 0 i)) (2 * drift)) (rows c - 1))
 
@@ -37,16 +37,16 @@ accepted : {c : Card} {step drift : ℕ} → Computed c step drift → Accepted 
 accepted {c} {step} {drift} t = record {
   recorded = record {
     channels = record { some-channel = omega (arith, t .one-channel); few-channels = omega (arith, t .one-channel); proper = t .proper };
-    lengths = record { some-row = leb→le 1 (rows c) (t .some-row); few-rows = leb→le (rows c) 4_096 (t .few-rows); all-values = t .all-values };
+    lengths = record { some-row = leb→le 1 (rows c) (t .some-row); few-rows = leb→le (rows c) MOST-ROWS (t .few-rows); all-values = t .all-values };
     times = record {
       rising = λ i h. ltb→lt _ _ (all-at (λ j. ltb (time c j) (time c (suc j))) (rows c - 1) (t .rising) i (omega arith));
-      small-times = λ i h. leb→le _ _ (all-at (λ j. leb (time c j) 2_000_000_000) (rows c) (t .small-times) i h);
+      small-times = λ i h. leb→le _ _ (all-at (λ j. leb (time c j) LATEST) (rows c) (t .small-times) i h);
     };
     values = record {
-      in-range = λ m h. record { size = leb→le _ _ (all-at (λ j. leb (natAbs (getD (c .values) j (pos 0))) 1_000_000_000) (length (c .values)) (t .in-range) m h) };
+      each = λ m h. record { size = leb→le _ _ (all-at (λ j. leb (natAbs (getD (c .values) j (pos 0))) FARTHEST) (length (c .values)) (t .in-range) m h) };
     };
   };
-  stepped = record { some-step = leb→le 1 step (t .some-step); short-step = leb→le step 1_000_000_000 (t .short-step); small-drift = leb→le drift 1_000_000_000 (t .small-drift) };
+  stepped = record { some-step = leb→le 1 step (t .some-step); short-step = leb→le step LONGEST-STEP (t .short-step); small-drift = leb→le drift LARGEST-DRIFT (t .small-drift) };
   gapless = record { no-gap = λ i h. leb→le _ _ (all-at (λ j. leb (time c (suc j)) (time c j + step)) (rows c - 1) (t .no-gap) i (omega arith)) };
   steady = record {
     no-jump = λ i ch h k.

@@ -64,7 +64,7 @@ module _ {c : Card} (ok : Recorded c) where
   in-range-at m = go (decLt m (length (c .values)))
     where
       go : Dec (m < length (c .values)) → InRange (getD (c .values) m (pos 0))
-      go (yes h) = ok .values .in-range m h
+      go (yes h) = ok .values .each m h
       go (no h) = rw (List·getD-eq-default (c .values) (pos 0) {n = m} (omega arith)) (record { size = lit≤ tt })
 
   -- a distance that is not free is smaller than TOP

@@ -2,6 +2,7 @@
 -- Assumes nothing.
 use mathlib.Core.Path.{_≡_}
 use mathlib.Core.Logic.{_⊎_}
+use mathlib.Core.List.{List}
 use Prim.Native.Nat.{ℕ, suc, _+_, _*_, _≤_, _<_}
 use lib.Dec.{T}
 use lib.ListN.{length, getD}
@@ -13,9 +14,33 @@ use Rattle.recordings.specs.declared.Range.{Range}
 use Rattle.recordings.specs.declared.Range.the-variants.{Unset, Free, AtLeast, AtMost, Between}
 use Rattle.recordings.specs.Card.{Card, rows, time, value, predicate}
 
+-- ---- the limits; `src/` has the same names
+-- a recording has 1 to 4,096 samples and 1 to 8 channels
+abbrev pub MOST-ROWS : ℕ
+MOST-ROWS = 4_096
+
+abbrev pub MOST-CHANNELS : ℕ
+MOST-CHANNELS = 8
+
+-- times are at most 2,000,000,000
+abbrev pub LATEST : ℕ
+LATEST = 2_000_000_000
+
 -- values and ends of ranges lie from −1,000,000,000 to 1,000,000,000
+abbrev pub FARTHEST : ℕ
+FARTHEST = 1_000_000_000
+
 abbrev pub InRange : ℤ → Type 0
-InRange v = Within 1_000_000_000 v
+InRange v = Within FARTHEST v
+
+-- the step is 1 to 1,000,000,000 seconds, the drift 0 to 1,000,000,000
+abbrev pub LONGEST-STEP : ℕ
+LONGEST-STEP = 1_000_000_000
+
+abbrev pub LARGEST-DRIFT : ℕ
+LARGEST-DRIFT = 1_000_000_000
+
+-- ---- a predicate
 
 -- a range's ends obey the range of values, and lo ≤ hi
 abbrev pub Ends : Range → Type 0
@@ -34,29 +59,29 @@ pub record Proper (channels : ℕ) (p : Predicate) : Type 0 where
 -- 4: 1 to 8 channels, and every predicate proper
 pub record Channels (c : Card) : Type 0 where
   pub some-channel : 1 ≤ c .channels
-  pub few-channels : c .channels ≤ 8
+  pub few-channels : c .channels ≤ MOST-CHANNELS
   pub proper : (p : ℕ) → Proper (c .channels) (predicate c p)
 
 -- 5: 1 to 4,096 samples, and the values rows × channels long, rows being the count of times
 pub record Lengths (c : Card) : Type 0 where
   pub some-row : 1 ≤ rows c
-  pub few-rows : rows c ≤ 4_096
+  pub few-rows : rows c ≤ MOST-ROWS
   pub all-values : length (c .values) ≡ rows c * c .channels
 
 -- 6: times strictly rising, at most 2,000,000,000
 pub record Times (c : Card) : Type 0 where
   pub rising : (i : ℕ) → suc i < rows c → time c i < time c (suc i)
-  pub small-times : (i : ℕ) → i < rows c → time c i ≤ 2_000_000_000
+  pub small-times : (i : ℕ) → i < rows c → time c i ≤ LATEST
 
 -- 7: no value out of range
-pub record Values (c : Card) : Type 0 where
-  pub in-range : (m : ℕ) → m < length (c .values) → InRange (getD (c .values) m (pos 0))
+pub record Values (values : List ℤ) : Type 0 where
+  pub each : (m : ℕ) → m < length values → InRange (getD values m (pos 0))
 
 -- 9: the step is 1 to 1,000,000,000 seconds, the drift 0 to 1,000,000,000
 pub record Step (step drift : ℕ) : Type 0 where
   pub some-step : 1 ≤ step
-  pub short-step : step ≤ 1_000_000_000
-  pub small-drift : drift ≤ 1_000_000_000
+  pub short-step : step ≤ LONGEST-STEP
+  pub small-drift : drift ≤ LARGEST-DRIFT
 
 -- 10: no two neighbouring times differ by more than the step
 pub record Gapless (c : Card) (step : ℕ) : Type 0 where
@@ -71,7 +96,7 @@ pub record Recorded (c : Card) : Type 0 where
   pub channels : Channels c
   pub lengths : Lengths c
   pub times : Times c
-  pub values : Values c
+  pub values : Values (c .values)
 
 -- nor do refusals 9 to 11
 pub record Accepted (c : Card) (step drift : ℕ) : Type 0 where

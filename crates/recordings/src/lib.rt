@@ -1,6 +1,24 @@
-// Predicates on a card's channels, and the three verdicts. Their meaning is in specs/.
+// Predicates on a card's channels, the three verdicts, and the limits of a recording. Their meaning is in specs/.
 ghost use mathlib.Core.Path.{_≡_};
 ghost use Rattle.recordings.specs.Distance.{is-unset};
+
+// A recording has at most so many samples and channels.
+pub const MOST_ROWS: usize = 4_096;
+
+pub const MOST_CHANNELS: usize = 8;
+
+// No time is later.
+pub const LATEST: u64 = 2_000_000_000;
+
+// No value and no end of a range is farther from zero, on either side.
+pub const FARTHEST: i64 = 1_000_000_000;
+
+pub const LONGEST_STEP: u64 = 1_000_000_000;
+
+pub const LARGEST_DRIFT: u64 = 1_000_000_000;
+
+// No margin is further from zero; its distance is what a free range and true have.
+pub const TOP: i64 = 4_000_000_000;
 
 // The numbers that a predicate asks for. The ends belong to the range.
 pub enum Range {

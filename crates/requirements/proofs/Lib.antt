@@ -2,4 +2,6 @@ pub mod Readers
 pub mod Wholes
 pub mod Answers
 pub mod Rules
+pub mod Says
+pub mod Shared
 pub mod Examples

@@ -1,25 +1,26 @@
 -- A table that is read obeys every rule of a table: each production gives its node's numbers what the kind asks for, and nodes stand left, right, parent.
 -- Assumes nothing.
 use mathlib.Core.Path.{_≡_, refl, sym, ap, subst, _∙_}
-use mathlib.Core.List.{List, [], _∷_, _++_, append-assoc, List·Memᴰ·not-nil, List·Memᴰ·cases-cons}
+use mathlib.Core.List.{List, [], _∷_, _++_, List·Memᴰ·not-nil, List·Memᴰ·cases-cons}
 use mathlib.Core.Logic.{_⊎_, inl, inr}
 use Prim.Native.Nat.{ℕ, zero, suc, _+_, _-_, _≤_, _<_}
-use native.Mathlib.Nat.{zero-add}
+use native.Mathlib.Nat.{zero-add, add-zero}
 use native.Mathlib.Omega.{arith}
 use lib.ListN.{length, getD, replicate, length-append, List·getD-append}
 use lib.Seq.{getD-append-add}
-use lib.Dec.{leb, T}
-use borrow.Author.Tests.{leb-true, leb-false}
-use Rattle.text.proofs.Tests.{by-test}
+use lib.Dec.{T}
+use Rattle.text.proofs.Tests.{by-le}
 use Rattle.tables.specs.declared.Node.{Node}
 use Rattle.tables.specs.Kind.{kinds, operator}
+use Rattle.tables.specs.Tree.{node-at}
 use Rattle.tables.specs.Rules.{Use, child, unused, left-use, right-use, timed, Used, WindowRules, EndsRules, NodeRules, TableRules, table-obeys}
 use Rattle.tables.proofs.Rules.{table-passes}
 use Rattle.grammar.specs.declared.Span.{Span}
-use Rattle.grammar.specs.Operators.{binders, prefixes, _∈_}
-use Rattle.grammar.specs.Tree.{Tree, truth, predicate, one, two, size}
+use Rattle.grammar.specs.Operators.{true-kind, predicate-kind, binders, prefixes, _∈_}
+use Rattle.grammar.specs.Tree.{Tree, truth, predicate, one, two, size, no-span}
 use Rattle.grammar.specs.Grammar.{WindowText, closed, endless, Part, Derives, alternative-one, alternative-more, conjunction-one, conjunction-more, bind-one, bind-two, unary-not, unary-timed, unary-true, unary-predicate, unary-group, Requires}
 use Rattle.building.specs.Nodes.{node, empty-node, nodes-of, table-of}
+use Rattle.building.specs.Order.{NodeOrdered, LeftRightParent}
 use Rattle.building.proofs.Cells.{size-some, length-nodes}
 use Rattle.requirements.specs.Requirement.{requirement-of}
 use Rattle.requirements.proofs.Answers.{answer-sound}
@@ -32,7 +33,7 @@ pub record KindRules (k : ℕ) (right : Use) (w : Span) : Type 0 where
   pub rights : right-use (operator k) ≡ right
   pub ends : EndsRules (timed (operator k)) (w .lo) (w .hi)
 
-abbrev Proper : Tree → Type 0
+abbrev pub Proper : Tree → Type 0
 Proper truth = Unit {0}
 Proper (predicate p) = p ≤ 15
 Proper (one k w a) = KindRules k unused w × Proper a
@@ -67,7 +68,7 @@ prefix-rules {k} {w} m r =
 
 -- ---- every production keeps the rules
 
-derives-proper : {p : Part} {d : ℕ} {w : List ℕ} {a : Tree} → Derives p d w a → Proper a
+pub derives-proper : {p : Part} {d : ℕ} {w : List ℕ} {a : Tree} → Derives p d w a → Proper a
 derives-proper (alternative-one x) = derives-proper x
 derives-proper (alternative-more x y) = (record { known = omega arith; lefts = refl; rights = refl; ends = (refl, refl) }, derives-proper x, derives-proper y)
 derives-proper (conjunction-one x) = derives-proper x
@@ -82,87 +83,93 @@ derives-proper (unary-group x) = derives-proper x
 
 -- ---- the nodes of a tree, the first with the number o
 
+-- what holds of the node that each production makes
+module _ (P : Node → ℕ → Type 0) where
+  abbrev pub Made : ℕ → Tree → Type 0
+  Made o truth = P (node true-kind 0 0 no-span) o
+  Made o (predicate p) = P (node predicate-kind p 0 no-span) o
+  Made o (one k w a) = Made o a × P (node k (o + size a - 1) 0 w) (o + size a)
+  Made o (two k w a b) = Made o a × Made (o + size a) b × P (node k (o + size a - 1) (o + size a + size b - 1) w) (o + size a + size b)
+
+  -- nodes after nodes
+  after-nodes : (us vs : List Node) (o : ℕ) → ((j : ℕ) → j < length us → P (getD us j empty-node) (o + j)) → ((j : ℕ) → j < length vs → P (getD vs j empty-node) (o + length us + j))
+      → (i : ℕ) → i < length (us ++ vs) → P (getD (us ++ vs) i empty-node) (o + i)
+  after-nodes us vs o l r i h = by-le (length us) i behind front
+    where
+      front : i < length us → P (getD (us ++ vs) i empty-node) (o + i)
+      front c = rw (List·getD-append us vs empty-node i c) (l i c)
+
+      behind : length us ≤ i → P (getD (us ++ vs) i empty-node) (o + i)
+      behind c =
+          let n : i ≡ length us + (i - length us) = omega arith in
+          let y : getD (us ++ vs) i empty-node ≡ getD vs (i - length us) empty-node = ap (λ (m : ℕ). getD (us ++ vs) m empty-node) n ∙ getD-append-add us vs (i - length us) empty-node in
+          let m : o + i ≡ o + length us + (i - length us) = omega arith in
+          let e : length (us ++ vs) ≡ length us + length vs = length-append us vs in
+          rw (y, m) (r (i - length us) (omega arith))
+
+  alone : (x : Node) (k : ℕ) → P x k → (j : ℕ) → j < 1 → P (getD (x ∷ []) j empty-node) (k + j)
+  alone x k p zero h = rw add-zero p
+  alone x k p (suc j) h = absurd (omega arith)
+
+  -- holds of every node of the tree
+  pub each-node : (o : ℕ) (a : Tree) → Made o a → (i : ℕ) → i < length (nodes-of o a) → P (getD (nodes-of o a) i empty-node) (o + i)
+  unfolding nodes-of
+  each-node o truth m = alone (node true-kind 0 0 no-span) o m
+  each-node o (predicate p) m = alone (node predicate-kind p 0 no-span) o m
+  each-node o (one k w a) m = after-nodes (nodes-of o a) (node k (o + size a - 1) 0 w ∷ []) o (each-node o a (m .0)) (rw (length-nodes o a) (alone (node k (o + size a - 1) 0 w) (o + size a) (m .1)))
+  each-node o (two k w a b) m =
+      let x : Node = node k (o + size a - 1) (o + size a + size b - 1) w in
+      after-nodes (nodes-of o a) (nodes-of (o + size a) b ++ (x ∷ [])) o (each-node o a (m .0))
+      (rw (length-nodes o a) (after-nodes (nodes-of (o + size a) b) (x ∷ []) (o + size a) (each-node (o + size a) b (m .1)) (rw (length-nodes (o + size a) b) (alone x (o + size a + size b) (m .2)))))
+
+-- ---- every rule, and the order
+
 used-as : {u v : Use} (k x : ℕ) → u ≡ v → Used v k x → Used u k x
 used-as {u} {v} k x e h = subst (λ (y : Use). Used y k x) (sym e) h
 
--- a node after n others
-module _ (us : List Node) (x : Node) (k n i : ℕ) (l : length us ≡ n) (rest : (j : ℕ) → j < n → NodeRules (getD us j empty-node) (k + j)) (last : NodeRules x (k + n)) where
-  after-nodes : i < n + 1 → NodeRules (getD (us ++ (x ∷ [])) i empty-node) (k + i)
-  after-nodes h = by-test (leb n i) (λ e. here (leb-true n i e)) (λ e. before (leb-false n i e))
-    where
-      before : i < n → NodeRules (getD (us ++ (x ∷ [])) i empty-node) (k + i)
-      before g = rw (List·getD-append us (x ∷ []) empty-node i (rw l g)) (rest i g)
-
-      here : n ≤ i → NodeRules (getD (us ++ (x ∷ [])) i empty-node) (k + i)
-      here g =
-          let e : i ≡ length us + 0 = omega arith in
-          let f : i ≡ n = omega arith in
-          let y : getD (us ++ (x ∷ [])) i empty-node ≡ x = rw (e, getD-append-add us (x ∷ []) 0 empty-node) in
-          rw (y, f) last
-
-nodes-rules : (o : ℕ) (a : Tree) → Proper a → (i : ℕ) → i < size a → NodeRules (getD (nodes-of o a) i empty-node) (o + i)
-unfolding nodes-of size
-nodes-rules o truth p zero h = record { known = omega arith; left = refl; right = refl; ends = (refl, refl) }
-nodes-rules o truth p (suc i) h = absurd (omega arith)
-nodes-rules o (predicate q) p zero h = record { known = omega arith; left = p; right = refl; ends = (refl, refl) }
-nodes-rules o (predicate q) p (suc i) h = absurd (omega arith)
-nodes-rules o (one k w a) p i h =
+pub made-rules : (o : ℕ) (a : Tree) → Proper a → Made NodeRules o a
+made-rules o truth p = record { known = omega arith; left = refl; right = refl; ends = (refl, refl) }
+made-rules o (predicate q) p = record { known = omega arith; left = p; right = refl; ends = (refl, refl) }
+made-rules o (one k w a) p =
     let s = size-some a in
-    after-nodes (nodes-of o a) (node k (o + size a - 1) 0 w) o (size a) i (length-nodes o a) (λ j g. nodes-rules o a (p .1) j g)
-    (record {
-      known = p .0 .known;
-      left = used-as _ _ (p .0 .lefts) (omega arith);
-      right = used-as _ _ (p .0 .rights) refl;
-      ends = p .0 .ends;
-    })
-    h
-nodes-rules o (two k w a b) p i h =
+    (made-rules o a (p .1), record { known = p .0 .known; left = used-as _ _ (p .0 .lefts) (omega arith); right = used-as _ _ (p .0 .rights) refl; ends = p .0 .ends })
+made-rules o (two k w a b) p =
+    let s = size-some a in
+    let t = size-some b in (
+      made-rules o a (p .1),
+      made-rules (o + size a) b (p .2),
+      record { known = p .0 .known; left = used-as _ _ (p .0 .lefts) (omega arith); right = used-as _ _ (p .0 .rights) (omega arith); ends = p .0 .ends },
+    )
+
+made-ordered : (o : ℕ) (a : Tree) → Proper a → Made NodeOrdered o a
+made-ordered o truth p = tt
+made-ordered o (predicate q) p = tt
+made-ordered o (one k w a) p =
+    let s = size-some a in
+    let x : Node = node k (o + size a - 1) 0 w in
+    let e : suc (o + size a - 1) ≡ o + size a = omega arith in
+    (made-ordered o a (p .1), rw (p .0 .lefts, p .0 .rights) e)
+made-ordered o (two k w a b) p =
     let s = size-some a in
     let t = size-some b in
-    let us = nodes-of o a ++ nodes-of (o + size a) b in
-    let x = node k (o + size a - 1) (o + size a + size b - 1) w in
-    let e : nodes-of o a ++ (nodes-of (o + size a) b ++ (x ∷ [])) ≡ us ++ (x ∷ []) = sym (append-assoc (nodes-of o a) (nodes-of (o + size a) b) (x ∷ [])) in
-    rw e
-    (after-nodes us x o (size a + size b) i (rw (length-append, length-nodes o a, length-nodes (o + size a) b))
-    (both-nodes (λ j g. nodes-rules o a (p .1) j g) (λ j g. nodes-rules (o + size a) b (p .2) j g))
-    (record {
-      known = p .0 .known;
-      left = used-as _ _ (p .0 .lefts) (omega arith);
-      right = used-as _ _ (p .0 .rights) (omega arith);
-      ends = p .0 .ends;
-    })
-    h)
-  where
-    both-nodes : ((j : ℕ) → j < size a → NodeRules (getD (nodes-of o a) j empty-node) (o + j))
-        → ((j : ℕ) → j < size b → NodeRules (getD (nodes-of (o + size a) b) j empty-node) (o + size a + j))
-        → (j : ℕ) → j < size a + size b → NodeRules (getD (nodes-of o a ++ nodes-of (o + size a) b) j empty-node) (o + j)
-    both-nodes l r j g = by-test (leb (size a) j) (λ e. right (leb-true _ _ e)) (λ e. left (leb-false _ _ e))
-      where
-        left : j < size a → NodeRules (getD (nodes-of o a ++ nodes-of (o + size a) b) j empty-node) (o + j)
-        left c = rw (List·getD-append (nodes-of o a) (nodes-of (o + size a) b) empty-node j (rw (length-nodes o a) c)) (l j c)
-
-        right : size a ≤ j → NodeRules (getD (nodes-of o a ++ nodes-of (o + size a) b) j empty-node) (o + j)
-        right c =
-            let n : j ≡ length (nodes-of o a) + (j - size a) = rw (length-nodes o a) (omega arith) in
-            let y : getD (nodes-of o a ++ nodes-of (o + size a) b) j empty-node ≡ getD (nodes-of (o + size a) b) (j - size a) empty-node =
-            ap (λ (m : ℕ). getD (nodes-of o a ++ nodes-of (o + size a) b) m empty-node) n ∙ getD-append-add (nodes-of o a) (nodes-of (o + size a) b) (j - size a) empty-node in
-            let m : o + j ≡ o + size a + (j - size a) = omega arith in
-            rw (y, m) (r (j - size a) (omega arith))
+    let l : o + size a - 1 < o + size a + size b - 1 = omega arith in
+    let e : suc (o + size a + size b - 1) ≡ o + size a + size b = omega arith in
+    (made-ordered o a (p .1), made-ordered (o + size a) b (p .2), rw (p .0 .lefts, p .0 .rights) (l, e))
 
 -- ---- the whole table
 
-tree-rules : (a : Tree) → Proper a → size a ≤ 64 → TableRules (table-of a)
-tree-rules a p h =
-    record {
-      some-node = size-some a;
-      few-nodes = h;
-      each = λ k i.
-          rw (List·getD-append (nodes-of 0 a) (replicate (64 - size a) empty-node) empty-node k (rw (length-nodes 0 a) i)) (rw zero-add at (nodes-rules 0 a p k i));
-    }
+-- what holds of every node of a tree holds of every node of its table
+table-each : (P : Node → ℕ → Type 0) (a : Tree) → Made P 0 a → (k : ℕ) → k < size a → P (node-at (table-of a .nodes) k) k
+table-each P a m k h =
+    rw (List·getD-append (nodes-of 0 a) (replicate (64 - size a) empty-node) empty-node k (rw (length-nodes 0 a) h)) (rw zero-add at (each-node P 0 a m k (rw (length-nodes 0 a) h)))
 
 -- the table of a requirement obeys every rule of a table
 pub required-rules : (s : List ℕ) (a : Tree) → Requires s a → TableRules (table-of a)
-required-rules s a r = tree-rules a (derives-proper (r .derives)) (r .nodes)
+required-rules s a r = record { some-node = size-some a; few-nodes = r .nodes; each = table-each NodeRules a (made-rules 0 a (derives-proper (r .derives))) }
+
+-- its nodes stand left, right, parent
+pub left-right-parent : (s : List ℕ) (a : Tree) → Requires s a → LeftRightParent (table-of a)
+left-right-parent s a r = record { each = table-each NodeOrdered a (made-ordered 0 a (derives-proper (r .derives))) }
 
 -- so the reader's table passes the test of refusal 3, which leaves only that each predicate is set
 pub answer-rules : (s : List ℕ) → requirement-of s .refusal ≡ 0 → T (table-obeys (requirement-of s .table))

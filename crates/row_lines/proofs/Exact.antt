@@ -10,12 +10,12 @@ use lib.ListN.{length, drop, drop-of-length-le, length-drop, length-append}
 use lib.Dec.{leb}
 use borrow.Author.Tests.{leb-true, le-leb, lt-leb}
 use Rattle.text.specs.Bytes.{bytes}
-use Rattle.text.proofs.Tests.{test-case}
+use Rattle.text.proofs.Tests.{false-true, test-case}
 use Rattle.text.proofs.Places.{Between, place-inside}
 use Rattle.row_lines.specs.declared.Row.{Row}
 use Rattle.row_lines.specs.declared.Row.the-variants.{Measured, Filled, Bad}
-use Rattle.row_lines.specs.Form.{lines, Sample, Rows, none, measured, filled}
-use Rattle.row_lines.specs.Rows.{row-at, after-row, Listing, listed, broken, also-measured, also-filled, sample-at, rows-from, rows-of}
+use Rattle.row_lines.specs.Form.{lines, Sample, Rows, none, measured, filled, AreRows}
+use Rattle.row_lines.specs.Rows.{row-at, after-row, Listing, listed, broken, is-broken, also-measured, also-filled, sample-at, rows-from, rows-of}
 use Rattle.row_lines.specs.Same.{Alike, none as Alike·none, same, filled as Alike·filled, SameButFilled}
 use Rattle.row_lines.proofs.Written.{RowHere, row-here, row-taken}
 use Rattle.row_lines.proofs.Lines.{Fed, fed-some, row-fed, lines-fed, lines-split, lines-none, one-width, one-source}
@@ -134,6 +134,17 @@ rows-broken ch s = ((λ e xs k h. let f : broken ≡ listed xs k = sym e ∙ row
     go : (x : Listing) → rows-of ch s ≡ x → ((xs : List Sample) (k : ℕ) → Rows ch (lines s) xs k → ⊥) → rows-of ch s ≡ broken
     go (listed xs k) e h = absurd (h xs k (rows-exact ch s xs k .0 e))
     go broken e h = e
+
+-- so the test of the listing is exact
+pub unbroken-rows : (ch : ℕ) (s : List ℕ) → is-broken (rows-of ch s) ≡ false → AreRows ch (lines s)
+unbroken-rows ch s h = go (rows-of ch s) refl h
+  where
+    go : (x : Listing) → rows-of ch s ≡ x → is-broken x ≡ false → AreRows ch (lines s)
+    go (listed xs k) e h = (xs, k, rows-exact ch s xs k .0 e)
+    go broken e h = absurd (false-true (sym h))
+
+pub rows-unbroken : (ch : ℕ) (s : List ℕ) → AreRows ch (lines s) → is-broken (rows-of ch s) ≡ false
+rows-unbroken ch s r = rw (rows-exact ch s (r .0) (r .1) .1 (r .2))
 
 -- ---- filled rows reach nothing
 

@@ -58,3 +58,11 @@ pub data Rows (channels : ℕ) : List (List ℕ) → List Sample → ℕ → Typ
       → Row channels l true t vs → Rows channels ls samples filled → Rows channels (l ∷ ls) (record { time = t; values = vs } ∷ samples) filled
   filled : {l : List ℕ} {ls : List (List ℕ)} {t : ℕ} {vs : List ℤ} {samples : List Sample} {filled : ℕ}
       → Row channels l false t vs → Rows channels ls samples filled → Rows channels (l ∷ ls) samples (suc filled)
+
+-- lines all of which are rows
+abbrev pub AreRows : ℕ → List (List ℕ) → Type 0
+AreRows channels ls = (samples : List Sample) × (filled : ℕ) × Rows channels ls samples filled
+
+-- 1 to 8 channels: rows are read only then
+abbrev pub ChannelsInRange : ℕ → Type 0
+ChannelsInRange channels = (1 ≤ channels) × (channels ≤ 8)

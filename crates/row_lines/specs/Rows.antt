@@ -23,7 +23,7 @@ use Rattle.row_lines.specs.Form.{Sample}
 abbrev pub limit : ℕ
 limit = 65_536
 
--- 1 to 8 channels
+-- the test of `ChannelsInRange`
 abbrev pub channels-in-range : ℕ → Bool
 channels-in-range channels = leb 1 channels && leb channels 8
 

@@ -6,9 +6,10 @@ use Prim.Native.Nat.{ℕ, _+_, _*_, _≤_, _<_}
 use lib.IntN.{ℤ, pos, negℤ}
 use lib.ListN.{length, getD}
 use Rattle.numbers.specs.Order.{Within}
-use Rattle.logic.specs.Formula.{Extremum, largest, smallest}
+use Rattle.logic.specs.declared.Extremum.{Extremum}
+use Rattle.logic.specs.declared.Extremum.the-variants.{Largest, Smallest}
 use Rattle.recordings.specs.Distance.{TOP}
-use Rattle.recordings.specs.Accepted.{InRange, Ends}
+use Rattle.recordings.specs.Accepted.{Ends, Values}
 use Rattle.recordings.specs.declared.Predicate.{Predicate}
 
 -- the value of row r at place i
@@ -17,8 +18,8 @@ cell w n r i = getD w (r * n + i) (pos 0)
 
 -- the code's flag for "or", until and eventually against "and", release and always
 abbrev pub extremum-of : Bool → Extremum
-extremum-of true = largest
-extremum-of false = smallest
+extremum-of true = Largest
+extremum-of false = Smallest
 
 -- what a leaf has, or, where it is denied, what its negation has
 abbrev pub signed : Bool → ℤ → ℤ
@@ -39,4 +40,4 @@ pub record Leaf (values : List ℤ) (channels : ℕ) (p : Predicate) (n : ℕ) :
   pub known : p .channel < channels
   pub ends : Ends (p .range)
   pub all-values : n * channels ≤ length values
-  pub in-range : (m : ℕ) → m < length values → InRange (getD values m (pos 0))
+  pub in-range : Values values

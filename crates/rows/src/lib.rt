@@ -7,7 +7,7 @@ ghost use mir.Syntax.{w64};
 ghost use mir.Val.{SFits};
 ghost use lib.ListN.{length, getD};
 ghost use Rattle.lists.specs.Fill.{fill};
-ghost use Rattle.logic.specs.Formula.{smallest};
+ghost use Rattle.logic.specs.declared.Extremum.the-variants.{Smallest};
 ghost use Rattle.logic.specs.Reading.{margin-extreme, margin-nothing};
 ghost use Rattle.recordings.specs.Distance.{TOP, clearance, distance};
 ghost use Rattle.recordings.specs.Accepted.{InRange, Ends};
@@ -96,7 +96,7 @@ fn fill_same(part: &mut [i64], rows: usize, value: i64)
 // The row of true, or of its negation.
 pub fn true_row(work: &mut [i64], rows: usize, affirmed: bool, row: usize)
     requires { ⌜ row * rows + rows ≤ length (now work) ⌝ }
-    ensures { λ _. ⌜ now (work .exit) ≡ fill (row * rows) rows (λ i. signed affirmed (margin-nothing TOP smallest)) (now (work .entry)) ⌝ }
+    ensures { λ _. ⌜ now (work .exit) ≡ fill (row * rows) rows (λ i. signed affirmed (margin-nothing TOP Smallest)) (now (work .entry)) ⌝ }
 {
     let from = row * rows;
     let value = signed_of(affirmed, TOP);

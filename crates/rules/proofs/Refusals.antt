@@ -1,9 +1,8 @@
 -- Number 0 of refusals 3 to 7 says that every table rule and every sentence of `Recorded` holds, and the other way round: each entry of the list by its own law.
 -- Assumes nothing.
 use mathlib.Core.Path.{_≡_}
-use Prim.Native.Nat.{ℕ, zero, suc, _≤_, _<_}
+use Prim.Native.Nat.{ℕ, zero, suc, _<_}
 use native.Mathlib.Omega.{arith}
-use lib.ListN.{length}
 use mir.Facts.{and-yes, yes-and}
 use Rattle.recordings.specs.Card.{Card}
 use Rattle.tables.specs.declared.Table.{Table}
@@ -16,10 +15,9 @@ use Rattle.rules.specs.Refusals.{checks, Sound}
 use Rattle.refusals.proofs.First.{passed, none-fails, refused, first-is}
 use Rattle.rules.proofs.Recording.{lengths-are, lengths-pass, times-are, times-pass, values-are, values-pass}
 
--- sixteen predicates are all there are
-pub exact : (c : Card) (t : Table) → length (c .predicates) ≤ 16 → AllExact (checks c t)
+pub exact : (c : Card) (t : Table) → AllExact (checks c t)
 unfolding requirement-obeys
-exact c t l = (three, λ _. (record { sound = channels-are c l; complete = channels-pass c }, λ _. (record { sound = lengths-are c; complete = lengths-pass c }, λ _. (record { sound = times-are c; complete = times-pass c }, λ _. (record { sound = values-are c; complete = values-pass c }, λ _. tt)))))
+exact c t = (three, λ _. (record { sound = channels-are c; complete = channels-pass c }, λ _. (record { sound = lengths-are c; complete = lengths-pass c }, λ _. (record { sound = times-are c; complete = times-pass c }, λ _. (record { sound = values-are c; complete = values-pass c }, λ _. tt)))))
   where
     three : Exact (check-at (checks c t) 0)
     three = record {
@@ -35,11 +33,11 @@ passed-sound p = record {
   recorded = record { channels = p .each 1 (omega arith); lengths = p .each 2 (omega arith); times = p .each 3 (omega arith); values = p .each 4 (omega arith) };
 }
 
-pub sound : (c : Card) (t : Table) → length (c .predicates) ≤ 16 → first (checks c t) ≡ 0 → Sound c t
-sound c t l e = passed-sound (passed (checks c t) tt (exact c t l) e)
+pub sound : (c : Card) (t : Table) → first (checks c t) ≡ 0 → Sound c t
+sound c t e = passed-sound (passed (checks c t) tt (exact c t) e)
 
-pub sound-passes : (c : Card) (t : Table) → length (c .predicates) ≤ 16 → Sound c t → first (checks c t) ≡ 0
-sound-passes c t l s = none-fails (checks c t) (exact c t l) (record { each = each })
+pub sound-passes : (c : Card) (t : Table) → Sound c t → first (checks c t) ≡ 0
+sound-passes c t s = none-fails (checks c t) (exact c t) (record { each = each })
   where
     each : (j : ℕ) → j < 5 → check-at (checks c t) j .sentence
     each zero h = (s .ruled, s .named)
@@ -50,8 +48,8 @@ sound-passes c t l s = none-fails (checks c t) (exact c t l) (record { each = ea
     each (suc (suc (suc (suc (suc j))))) h = absurd (omega arith)
 
 -- each number, exactly: `refused` and `first-is` of this list
-pub refused-by : (c : Card) (t : Table) → length (c .predicates) ≤ 16 → (first (checks c t) ≡ 0 → ⊥) → Refused (checks c t) (first (checks c t))
-refused-by c t l h = refused (checks c t) (exact c t l) h
+pub refused-by : (c : Card) (t : Table) → (first (checks c t) ≡ 0 → ⊥) → Refused (checks c t) (first (checks c t))
+refused-by c t h = refused (checks c t) (exact c t) h
 
-pub refusal-is : (c : Card) (t : Table) {m : ℕ} → length (c .predicates) ≤ 16 → Refused (checks c t) m → first (checks c t) ≡ m
-refusal-is c t l r = first-is (checks c t) (exact c t l) r
+pub refusal-is : (c : Card) (t : Table) {m : ℕ} → Refused (checks c t) m → first (checks c t) ≡ m
+refusal-is c t r = first-is (checks c t) (exact c t) r

@@ -7,18 +7,19 @@ use lib.Dec.{leb, ltb, eqb}
 use lib.ListN.{length, getD}
 use lib.IntN.{ℤ, pos}
 use Rattle.lists.specs.Fold.{all-below}
+use Rattle.recordings.specs.Accepted.{MOST-ROWS, LATEST}
 use Rattle.predicates.specs.Predicates.{value-obeys}
 
 -- ---- 5: no sample, over 4,096, or values not rows × channels long
 unfoldable pub lengths-obey : ℕ → ℕ → ℕ → Bool
-lengths-obey rows values channels = leb rows 4_096 && (leb 1 rows && eqb values (rows * channels))
+lengths-obey rows values channels = leb rows MOST-ROWS && (leb 1 rows && eqb values (rows * channels))
 
 -- ---- 6: times not rising, or one too large
 unfoldable pub all-rising : List ℕ → ℕ → Bool
 all-rising ts n = all-below (λ i. ltb (getD ts i 0) (getD ts (suc i) 0)) n
 
 unfoldable pub all-early : List ℕ → ℕ → Bool
-all-early ts n = all-below (λ i. leb (getD ts i 0) 2_000_000_000) n
+all-early ts n = all-below (λ i. leb (getD ts i 0) LATEST) n
 
 unfoldable pub times-obey : List ℕ → Bool
 times-obey ts = all-rising ts (length ts - 1) && all-early ts (length ts)

@@ -1,10 +1,7 @@
 -- Refusals 3 to 7, in the order in which they count: what a table and a card are judged by before any margin is taken.
 -- Assumes nothing.
 use mathlib.Core.List.{List, [], _∷_, _++_}
-use Prim.Native.Nat.{ℕ}
 use lib.ListN.{length}
-use lib.IntN.{ℤ}
-use Rattle.recordings.specs.declared.Predicate.{Predicate}
 use Rattle.recordings.specs.Card.{Card, rows}
 use Rattle.recordings.specs.Accepted.{Channels, Lengths, Times, Values, Recorded}
 use Rattle.tables.specs.declared.Table.{Table}
@@ -25,7 +22,7 @@ abbrev pub sample-checks : Card → List Check
 sample-checks c =
     record { number = 5; sentence = Lengths c; passes = lengths-obey (rows c) (length (c .values)) (c .channels) }
     ∷ record { number = 6; sentence = Times c; passes = times-obey (c .times) }
-    ∷ record { number = 7; sentence = Values c; passes = values-obey (c .values) }
+    ∷ record { number = 7; sentence = Values (c .values); passes = values-obey (c .values) }
     ∷ []
 
 abbrev pub checks : Card → Table → List Check

@@ -7,15 +7,18 @@ ghost use Rattle.refusals.specs.First.{first};
 ghost use Rattle.rules.specs.Recording.{lengths-obey, all-rising, all-early, times-obey, values-obey};
 ghost use Rattle.rules.specs.Refusals.{checks};
 ghost use Rattle.recordings.specs.Card.{lent};
+ghost use Rattle.recordings.specs.Accepted.{MOST-CHANNELS};
+use recordings::LATEST;
+use recordings::MOST_ROWS;
 use recordings::Predicate;
 use tables::Table;
 
 // `values` is the count of values.
 fn lengths_obey(rows: usize, values: usize, channels: usize) -> bool
-    requires { ⌜ channels ≤ 8 ⌝ }
+    requires { ⌜ channels ≤ MOST-CHANNELS ⌝ }
     ensures { λ r. ⌜ r ≡ lengths-obey rows values channels ⌝ }
 {
-    if 4_096 < rows {
+    if MOST_ROWS < rows {
         return false;
     }
     (1 <= rows) & (values == rows * channels)
@@ -42,7 +45,7 @@ fn all_early(times: &[u64]) -> bool
     let mut ok = true;
     let mut i = 0;
     while i < times.len() {
-        let early = times[i] <= 2_000_000_000;
+        let early = times[i] <= LATEST;
         ok = ok & early;
         i += 1;
     }

@@ -15,7 +15,7 @@ use Rattle.numbers.proofs.Parts.{le-parts, parts-le, parts-apart, abs-parts, su
 use Rattle.lists.proofs.Below.{same-test, all-at, at-all}
 use Rattle.lists.proofs.Filled.{earlier-row}
 use Rattle.recordings.specs.Card.{Card, rows, time, value}
-use Rattle.recordings.specs.Accepted.{Step, Gapless, Steady, Recorded, Accepted}
+use Rattle.recordings.specs.Accepted.{LONGEST-STEP, LARGEST-DRIFT, Step, Gapless, Steady, Recorded, Accepted}
 use Rattle.tables.specs.declared.Table.{Table}
 use Rattle.refusals.specs.First.{first, Exact, AllExact, check-at}
 use Rattle.rules.specs.Refusals.{checks as recording-checks}
@@ -27,15 +27,15 @@ use Rattle.sampling.specs.Sampling.{step-obeys, all-close, times-close, 
 pub step-is : (step drift : ℕ) → T (step-obeys step drift) → Step step drift
 unfolding step-obeys
 step-is step drift t =
-    let a = and-yes (leb 1 step) (leb step 1_000_000_000 && leb drift 1_000_000_000) t in
-    let b = and-yes (leb step 1_000_000_000) (leb drift 1_000_000_000) (a .1) in
-    record { some-step = leb→le 1 step (a .0); short-step = leb→le step 1_000_000_000 (b .0); small-drift = leb→le drift 1_000_000_000 (b .1) }
+    let a = and-yes (leb 1 step) (leb step LONGEST-STEP && leb drift LARGEST-DRIFT) t in
+    let b = and-yes (leb step LONGEST-STEP) (leb drift LARGEST-DRIFT) (a .1) in
+    record { some-step = leb→le 1 step (a .0); short-step = leb→le step LONGEST-STEP (b .0); small-drift = leb→le drift LARGEST-DRIFT (b .1) }
 
 pub step-passes : (step drift : ℕ) → Step step drift → T (step-obeys step drift)
 unfolding step-obeys
 step-passes step drift r =
-    yes-and (leb 1 step) (leb step 1_000_000_000 && leb drift 1_000_000_000) (le→leb 1 step (r .some-step))
-    (yes-and (leb step 1_000_000_000) (leb drift 1_000_000_000) (le→leb step 1_000_000_000 (r .short-step)) (le→leb drift 1_000_000_000 (r .small-drift)))
+    yes-and (leb 1 step) (leb step LONGEST-STEP && leb drift LARGEST-DRIFT) (le→leb 1 step (r .some-step))
+    (yes-and (leb step LONGEST-STEP) (leb drift LARGEST-DRIFT) (le→leb step LONGEST-STEP (r .short-step)) (le→leb drift LARGEST-DRIFT (r .small-drift)))
 
 -- ---- 10
 pub gapless : (c : Card) (step : ℕ) → T (times-close step (c .times)) → Gapless c step
@@ -100,7 +100,7 @@ steady-passes c drift s l r = at-all (λ m. near drift (getD (c .values) m (pos 
 
 -- ---- all of them
 pub measured : {c : Card} → Recorded c → Measured (c .channels) (c .times) (c .values)
-measured {c} r = record { some-row = r .lengths .some-row; some-values = omega (arith, r .lengths .all-values, mul-le-mul-right (c .channels) (r .lengths .some-row)); in-range = r .values .in-range }
+measured {c} r = record { some-row = r .lengths .some-row; some-values = omega (arith, r .lengths .all-values, mul-le-mul-right (c .channels) (r .lengths .some-row)); in-range = r .values }
 
 pub exact : (c : Card) (step drift : ℕ) → Recorded c → AllExact (checks c step drift)
 exact c step drift r = (record { sound = step-is step drift; complete = step-passes step drift }, λ _. (record { sound = gapless c step; complete = gapless-passes c step }, λ _. (eleven, λ _. tt)))
@@ -124,8 +124,8 @@ accepted-passes c step drift a = none-fails (checks c step drift) (exact c step 
     each (suc (suc (suc j))) h = absurd (omega arith)
 
 -- no number of 3 to 7 and none of 9 to 11: what demand 3 asks
-pub accepted-by : (c : Card) (t : Table) (step drift : ℕ) → length (c .predicates) ≤ 16 → first (recording-checks c t) ≡ 0 → first (checks c step drift) ≡ 0 → Accepted c step drift
-accepted-by c t step drift l e f = accepted c step drift (sound c t l e .recorded) f
+pub accepted-by : (c : Card) (t : Table) (step drift : ℕ) → first (recording-checks c t) ≡ 0 → first (checks c step drift) ≡ 0 → Accepted c step drift
+accepted-by c t step drift e f = accepted c step drift (sound c t e .recorded) f
 
 -- the tests of 9 to 11 do not look at the predicates
 pub first-alone : (c : Card) (step drift : ℕ) → first (checks (samples-alone (c .channels) (c .times) (c .values)) step drift) ≡ first (checks c step drift)

@@ -2,18 +2,18 @@
 -- Assumes nothing.
 use mathlib.Core.Bool.{Bool, _&&_}
 use mathlib.Core.List.{List, [], _∷_}
-use Prim.Native.Nat.{ℕ, suc, _+_, _-_, _*_, _≤_, _<_}
+use Prim.Native.Nat.{ℕ, suc, _+_, _-_, _*_, _≤_}
 use lib.Dec.{leb}
 use lib.ListN.{length, getD}
 use lib.IntN.{ℤ, pos, _-ℤ_, natAbs}
 use Rattle.lists.specs.Fold.{all-below}
 use Rattle.recordings.specs.Card.{Card, card}
-use Rattle.recordings.specs.Accepted.{InRange, Step, Gapless, Steady}
+use Rattle.recordings.specs.Accepted.{LONGEST-STEP, LARGEST-DRIFT, InRange, Values, Step, Gapless, Steady}
 use Rattle.refusals.specs.First.{Check}
 
 -- ---- 9: step or drift out of range
 unfoldable pub step-obeys : ℕ → ℕ → Bool
-step-obeys step drift = leb 1 step && (leb step 1_000_000_000 && leb drift 1_000_000_000)
+step-obeys step drift = leb 1 step && (leb step LONGEST-STEP && leb drift LARGEST-DRIFT)
 
 -- ---- 10: two neighbouring times differ by more than the step
 unfoldable pub all-close : ℕ → List ℕ → ℕ → Bool
@@ -49,14 +49,14 @@ samples-alone channels times values = card channels [] times values
 pub record Comparable (from to : ℤ) (drift : ℕ) : Type 0 where
   pub from-in-range : InRange from
   pub to-in-range : InRange to
-  pub small-drift : drift ≤ 1_000_000_000
+  pub small-drift : drift ≤ LARGEST-DRIFT
 
 pub record Comparables (channels : ℕ) (values : List ℤ) (drift : ℕ) : Type 0 where
   pub some-values : channels ≤ length values
-  pub in-range : (m : ℕ) → m < length values → InRange (getD values m (pos 0))
-  pub small-drift : drift ≤ 1_000_000_000
+  pub in-range : Values values
+  pub small-drift : drift ≤ LARGEST-DRIFT
 
 pub record Measured (channels : ℕ) (times : List ℕ) (values : List ℤ) : Type 0 where
   pub some-row : 1 ≤ length times
   pub some-values : channels ≤ length values
-  pub in-range : (m : ℕ) → m < length values → InRange (getD values m (pos 0))
+  pub in-range : Values values

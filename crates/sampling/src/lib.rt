@@ -7,14 +7,13 @@ ghost use lib.ListN.{length};
 ghost use Rattle.recordings.specs.Accepted.{InRange};
 ghost use Rattle.refusals.specs.First.{first};
 ghost use Rattle.sampling.specs.Sampling.{step-obeys, all-close, times-close, near, Comparable, all-near, values-near, checks, samples-alone, Measured, Comparables};
-
-// The step and the drift go up to this.
-pub const LARGEST: u64 = 1_000_000_000;
+use recordings::LARGEST_DRIFT;
+use recordings::LONGEST_STEP;
 
 fn step_obeys(step: u64, drift: u64) -> bool
     ensures { λ r. ⌜ r ≡ step-obeys step drift ⌝ }
 {
-    (1 <= step) & ((step <= LARGEST) & (drift <= LARGEST))
+    (1 <= step) & ((step <= LONGEST_STEP) & (drift <= LARGEST_DRIFT))
 }
 
 fn close(from: u64, to: u64, step: u64) -> bool

@@ -1,4 +1,5 @@
--- The loops that store (`Storing`), the reader's number (`Numbers`), and the examples.
+-- The loops that store (`Storing`), the reader's number (`Numbers`), what its contract promises (`Promises`), and the examples.
 pub mod Storing
 pub mod Numbers
+pub mod Promises
 pub mod Examples

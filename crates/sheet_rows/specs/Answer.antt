@@ -1,12 +1,13 @@
 -- The row reader's answer and what it leaves in the slices: functions of the text's measured rows and of the count of its filled ones.
 -- Assumes nothing.
-use Prim.Native.Nat.{ℕ, zero, suc, _*_}
-use mathlib.Core.Bool.{Bool, not, cond, _&&_, _||_}
+use Prim.Native.Nat.{ℕ, _*_, _≤_}
+use mathlib.Core.Bool.{Bool, not, _&&_}
 use mathlib.Core.List.{List, [], _∷_, _++_}
 use lib.ListN.{length, drop}
 use lib.IntN.{ℤ}
-use lib.Dec.{ltb}
-use Rattle.row_lines.specs.Form.{Sample}
+use lib.Dec.{leb}
+use Rattle.refusals.specs.First.{Check, first, unless-refused}
+use Rattle.row_lines.specs.Form.{lines, Sample, Rows, AreRows, ChannelsInRange}
 use Rattle.row_lines.specs.Rows.{limit, channels-in-range, Listing, listed, broken, is-broken, rows-of}
 use Rattle.sheet_rows.specs.declared.Answer.{Answer}
 
@@ -18,34 +19,65 @@ abbrev pub filled-of : Listing → ℕ
 filled-of (listed xs k) = k
 filled-of broken = 0
 
--- measured rows exceed 4,096 or the slices
-abbrev pub too-many : ℕ → ℕ → ℕ → ℕ → Bool
-too-many rows channels times values = ltb 4_096 rows || (ltb times rows || ltb values (rows * channels))
+-- measured rows exceed neither 4,096 nor the slices
+pub record RoomFor (rows channels times values : ℕ) : Type 0 where
+  pub few : rows ≤ 4_096
+  pub times-hold : rows ≤ times
+  pub values-hold : rows * channels ≤ values
 
--- the first number whose condition holds, 0 where none does
-abbrev pub first-of : List (ℕ × Bool) → ℕ
-first-of [] = 0
-first-of (c ∷ cs) = cond (c .1) (c .0) (first-of cs)
+abbrev pub has-room : ℕ → ℕ → ℕ → ℕ → Bool
+has-room rows channels times values = leb rows 4_096 && (leb rows times && leb (rows * channels) values)
 
--- 1: the text is too long or a line breaks the form; 4: the channel count, and the rows are then unread; 5: too many measured rows
-abbrev pub refusals : List ℕ → ℕ → ℕ → ℕ → List (ℕ × Bool)
-refusals s channels times values =
-    (1, ltb limit (length s) || (channels-in-range channels && is-broken (rows-of channels s)))
-    ∷ (4, not (channels-in-range channels))
-    ∷ (5, too-many (measured-of (rows-of channels s)) channels times values)
-    ∷ []
+-- 1: a line breaks the text form, or the text exceeds 65,536 bytes; rows are read only where the channels are 1 to 8
+abbrev pub text-check : List ℕ → ℕ → Check
+text-check s channels =
+    record {
+      number = 1;
+      sentence = (length s ≤ limit) × (ChannelsInRange channels → AreRows channels (lines s));
+      passes = leb (length s) limit && not (channels-in-range channels && is-broken (rows-of channels s));
+    }
+
+-- 4: channels not 1 to 8
+abbrev pub channels-check : ℕ → Check
+channels-check channels = record { number = 4; sentence = ChannelsInRange channels; passes = channels-in-range channels }
+
+-- 5: measured rows exceed 4,096 or the slices
+abbrev pub room-check : List ℕ → ℕ → ℕ → ℕ → Check
+room-check s channels times values =
+    record {
+      number = 5;
+      sentence = (samples : List Sample) (filled : ℕ) → Rows channels (lines s) samples filled → RoomFor (length samples) channels times values;
+      passes = has-room (measured-of (rows-of channels s)) channels times values;
+    }
+
+-- the row reader's refusals, in the order in which they count
+abbrev pub row-checks : List ℕ → ℕ → ℕ → ℕ → List Check
+row-checks s channels times values = text-check s channels ∷ channels-check channels ∷ room-check s channels times values ∷ []
+
+abbrev pub refusal : List ℕ → ℕ → ℕ → ℕ → ℕ
+refusal s channels times values = first (row-checks s channels times values)
+
+-- none of them applies
+pub record Readable (s : List ℕ) (channels times values : ℕ) : Type 0 where
+  pub short : length s ≤ limit
+  pub in-range : ChannelsInRange channels
+  pub samples : List Sample
+  pub filled : ℕ
+  pub rows : Rows channels (lines s) samples filled
+  pub room : RoomFor (length samples) channels times values
 
 -- no rows, under a refusal
-abbrev pub none : ℕ → Answer
-none number = record { number = number; rows = 0; filled = 0 }
+abbrev pub no-rows : ℕ → Answer
+no-rows number = record { number = number; rows = 0; filled = 0 }
 
-abbrev pub answered : ℕ → Listing → Answer
-answered zero x = record { number = 0; rows = measured-of x; filled = filled-of x }
-answered (suc n) x = none (suc n)
+-- the counts of measured and of filled rows
+abbrev pub counted : Listing → Answer
+counted x = record { number = 0; rows = measured-of x; filled = filled-of x }
 
 -- the answer to a text, for slices of `times` and `values` places
 abbrev pub answer-of : List ℕ → ℕ → ℕ → ℕ → Answer
-answer-of s channels times values = answered (first-of (refusals s channels times values)) (rows-of channels s)
+answer-of s channels times values =
+    unless-refused (refusal s channels times values) (counted (rows-of channels s)) (no-rows (refusal s channels times values))
 
 -- the times and the values of measured rows, in sheet order: sample i, channel c stands at place i × channels + c
 unfoldable pub times-in : List Sample → List ℕ
@@ -67,8 +99,3 @@ values-of broken = []
 -- a slice with new contents in front; places beyond them keep theirs
 abbrev pub in-front : {A : Type 0} → List A → List A → List A
 in-front new old = new ++ drop (length new) old
-
--- a slice after an answer: a refusal leaves it as it was
-abbrev pub after : {A : Type 0} → ℕ → List A → List A → List A
-after zero new old = in-front new old
-after (suc n) new old = old

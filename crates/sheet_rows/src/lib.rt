@@ -7,8 +7,9 @@ ghost use mathlib.Core.Path.{_≡_};
 ghost use Prim.Native.Nat.{_≤_};
 ghost use lib.ListN.{length};
 ghost use lib.Seq.{sets};
+ghost use Rattle.refusals.specs.First.{unless-refused};
 ghost use Rattle.row_lines.specs.Rows.{values-from, all-of, rows-of};
-ghost use Rattle.sheet_rows.specs.Answer.{too-many, none, answer-of, times-of, values-of, in-front, after};
+ghost use Rattle.sheet_rows.specs.Answer.{has-room, no-rows, answer-of, times-of, values-of, in-front};
 ghost use Rattle.sheet_rows.specs.Room.{Storable, Fitting};
 
 // Document 01's number, 0 where no refusal applies, and the counts of measured and of filled rows.
@@ -19,7 +20,7 @@ pub struct Answer {
 }
 
 fn refused(number: u64) -> Answer
-    ensures { λ r. ⌜ r ≡ none number ⌝ }
+    ensures { λ r. ⌜ r ≡ no-rows number ⌝ }
 {
     Answer {
         number: number,
@@ -28,18 +29,18 @@ fn refused(number: u64) -> Answer
     }
 }
 
-// Whether measured rows are too many for a recording or for the slices.
-fn too_many(rows: usize, channels: usize, times: usize, values: usize) -> bool
+// Whether measured rows exceed neither a recording nor the slices.
+fn has_room(rows: usize, channels: usize, times: usize, values: usize) -> bool
     requires { ⌜ channels ≤ 8 ⌝ }
-    ensures { λ r. ⌜ r ≡ too-many rows channels times values ⌝ }
+    ensures { λ r. ⌜ r ≡ has-room rows channels times values ⌝ }
 {
     if 4_096 < rows {
-        return true;
+        return false;
     }
     if times < rows {
-        return true;
+        return false;
     }
-    values < rows * channels
+    rows * channels <= values
 }
 
 // Stores the values of a measured row from a place of the slice on.
@@ -88,8 +89,8 @@ fn store_rows(s: &[u8], channels: usize, times: &mut [u64], values: &mut [i64])
 // Reads the rows of a text, all of it. Times and values are stored from the slices' front on; places beyond the measured rows keep their contents.
 pub fn read_rows(s: &[u8], channels: usize, times: &mut [u64], values: &mut [i64]) -> Answer
     ensures answer { λ r. ⌜ r ≡ answer-of (now (s .entry)) channels (length (now (times .entry))) (length (now (values .entry))) ⌝ }
-    ensures times { λ r. ⌜ now (times .exit) ≡ after (r .number) (times-of (rows-of channels (now (s .entry)))) (now (times .entry)) ⌝ }
-    ensures values { λ r. ⌜ now (values .exit) ≡ after (r .number) (values-of (rows-of channels (now (s .entry)))) (now (values .entry)) ⌝ }
+    ensures times { λ r. ⌜ now (times .exit) ≡ unless-refused (r .number) (in-front (times-of (rows-of channels (now (s .entry)))) (now (times .entry))) (now (times .entry)) ⌝ }
+    ensures values { λ r. ⌜ now (values .exit) ≡ unless-refused (r .number) (in-front (values-of (rows-of channels (now (s .entry)))) (now (values .entry))) (now (values .entry)) ⌝ }
 {
     if row_lines::LIMIT < s.len() {
         return refused(1);
@@ -100,7 +101,7 @@ pub fn read_rows(s: &[u8], channels: usize, times: &mut [u64], values: &mut [i64
     let Counts::Rows(rows, filled) = row_lines::count_rows(s, channels) else {
         return refused(1);
     };
-    if too_many(rows, channels, times.len(), values.len()) {
+    if !has_room(rows, channels, times.len(), values.len()) {
         return refused(5);
     }
     store_rows(s, channels, times, values);

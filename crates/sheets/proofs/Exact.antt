@@ -17,11 +17,11 @@ use Rattle.text.specs.Mark.{prefix-of}
 use Rattle.text.specs.declared.Field.the-variants.{Number}
 use Rattle.text.proofs.Tests.{false-true, test-case}
 use Rattle.text.proofs.Fields.{number-case}
-use Rattle.row_lines.specs.Form.{lines, size, Sample, Rows, Row as Form·Row}
-use Rattle.row_lines.specs.Rows.{limit, channels-in-range, Listing, listed, broken, is-broken, rows-of}
+use Rattle.row_lines.specs.Form.{lines, size, AreRows, Row as Form·Row}
+use Rattle.row_lines.specs.Rows.{limit, channels-in-range, is-broken, rows-of}
 use Rattle.row_lines.specs.Same.{Alike, none, same, filled, SameButFilled}
 use Rattle.row_lines.proofs.Lines.{count, Fed, lines-split, lines-clear}
-use Rattle.row_lines.proofs.Exact.{fed-lines, rows-exact, alike-sym, alike-rows}
+use Rattle.row_lines.proofs.Exact.{fed-lines, unbroken-rows, rows-unbroken, alike-sym, alike-rows}
 use Rattle.head_lines.specs.Form.{NumberLine}
 use Rattle.head_lines.specs.Lines.{number-at, requirement-at, after-requirement}
 use Rattle.recordings.specs.declared.Predicate.{Predicate}
@@ -40,18 +40,18 @@ use Rattle.sheets.proofs.Chain.{chain-read, chain-behind}
 -- ---- the rows behind the head
 
 kept-listed : (ch : ℕ) (s : List ℕ) (at : ℕ) → rows-kept s at ch ≡ true → channels-in-range ch ≡ true
-    → (xs : List Sample) × (k : ℕ) × Rows ch (lines (drop at s)) xs k
-kept-listed ch s at h w = go (rows-of ch (drop at s)) refl (rw w at h)
+    → AreRows ch (lines (drop at s))
+kept-listed ch s at h w = unbroken-rows ch (drop at s) (go (is-broken (rows-of ch (drop at s))) (rw w at h))
   where
-    go : (x : Listing) → rows-of ch (drop at s) ≡ x → not (true && is-broken (rows-of ch (drop at s))) ≡ true → (xs : List Sample) × (k : ℕ) × Rows ch (lines (drop at s)) xs k
-    go (listed xs k) e g = (xs, k, rows-exact ch (drop at s) xs k .0 e)
-    go broken e g = absurd (false-true (rw e at g))
+    go : (b : Bool) → not (true && b) ≡ true → b ≡ false
+    go true e = absurd (false-true e)
+    go false e = refl
 
-listed-kept : (ch : ℕ) (s : List ℕ) (at : ℕ) → (channels-in-range ch ≡ true → (xs : List Sample) × (k : ℕ) × Rows ch (lines (drop at s)) xs k) → rows-kept s at ch ≡ true
+listed-kept : (ch : ℕ) (s : List ℕ) (at : ℕ) → (channels-in-range ch ≡ true → AreRows ch (lines (drop at s))) → rows-kept s at ch ≡ true
 listed-kept ch s at h = go (channels-in-range ch) refl
   where
     go : (t : Bool) → channels-in-range ch ≡ t → rows-kept s at ch ≡ true
-    go true e = let r = h e in rw (e, rows-exact ch (drop at s) (r .0) (r .1) .1 (r .2))
+    go true e = rw (e, rows-unbroken ch (drop at s) (h e))
     go false e = rw e
 
 -- ---- sound
@@ -159,7 +159,7 @@ predicates-stage s a {qs} {ps} {l} ls form step e =
     (t .0, t .1, t .2, predicates-place s a (t .0) qs ps (l ∷ ls) (t .1) e (t .2))
 
 requirement-stage : (s : List ℕ) (d ch : ℕ) (w : List ℕ) (rows : List (List ℕ)) → lines (drop d s) ≡ (bytes "req=" ++ w ++ bytes "\n") ∷ rows
-    → (channels-in-range ch ≡ true → (xs : List Sample) × (k : ℕ) × Rows ch rows xs k)
+    → (channels-in-range ch ≡ true → AreRows ch rows)
     → (n : ℕ) × (requirement-at s d ≡ At (d + 4) (d + 4 + length w) n) × (n ≡ d + 4 + length w + 1) × (rows-kept s n ch ≡ true)
 unfolding count
 requirement-stage s d ch w rows h has =

@@ -73,3 +73,16 @@ accepted =
     ∷ parts "chan=9\n" "" "step=1\n" "drift=2\n" "req=p0\n" "req=p1\n"
     ∷ parts "chan=2\n" "" "step=1\n" "drift=2\n" "req=p0\n" "t=9 src=f v0=-2147483647 v1=0\nt=4294967295 src=f v0=7 v1=2147483647\nt=0 src=m v0=1 v1=-1\n"
     ∷ []
+
+-- document 01's sheet with another third row
+abbrev pub with-third : String → List ℕ
+with-third row =
+    parts "chan=1\n" "p=0 ch=0 lo=5 hi=*\n" "step=1\n" "drift=2\n" "req=G[0,2]p0\n" "t=0 src=m v0=10\nt=1 src=m v0=11\n"
+    ++ bytes row ++ bytes "t=3 src=m v0=9\nt=4 src=m v0=10\n"
+
+-- that row filled, and filled with another time, another value and other counts of digits
+abbrev pub filled-row : String
+filled-row = "t=2 src=f v0=10\n"
+
+abbrev pub other-filled-row : String
+other-filled-row = "t=40 src=f v0=-250\n"

@@ -6,7 +6,7 @@ use mathlib.Core.Bool.{true}
 use mathlib.Core.List.{List, _∷_, _++_}
 use lib.ListN.{length}
 use Rattle.text.specs.Bytes.{bytes}
-use Rattle.row_lines.specs.Form.{lines, size, Sample, Rows}
+use Rattle.row_lines.specs.Form.{lines, size, AreRows}
 use Rattle.row_lines.specs.Rows.{limit, channels-in-range}
 use Rattle.head_lines.specs.Form.{NumberLine}
 use Rattle.predicate_lines.specs.Form.{unset, Lines}
@@ -31,7 +31,7 @@ pub record Form (text : List ℕ) (sheet : Sheet) : Type 0 where
   pub to : sheet .to ≡ sheet .from + length requirement
   pub behind : sheet .rows ≡ sheet .to + 1
   -- rows are read only where the channels are 1 to 8
-  pub listed : channels-in-range (sheet .channels) ≡ true → (samples : List Sample) × (filled : ℕ) × Rows (sheet .channels) rows samples filled
+  pub listed : channels-in-range (sheet .channels) ≡ true → AreRows (sheet .channels) rows
   pub number : sheet .number ≡ 0
 
 -- no sheet

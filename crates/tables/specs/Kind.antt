@@ -3,7 +3,9 @@
 use mathlib.Core.List.{List, [], _∷_}
 use Prim.Native.Nat.{ℕ}
 use lib.ListN.{getD}
-use Rattle.logic.specs.Formula.{Extremum, largest, smallest, Direction, future}
+use Rattle.logic.specs.declared.Extremum.{Extremum}
+use Rattle.logic.specs.declared.Extremum.the-variants.{Largest, Smallest}
+use Rattle.logic.specs.Formula.{Direction, future}
 
 -- what a kind asks for: nothing, a predicate's number, one operand, two; the temporal ones a window too
 pub data Operator : Type 0 where
@@ -18,12 +20,12 @@ kinds =
     constant
     ∷ named
     ∷ negated
-    ∷ joined smallest
-    ∷ joined largest
-    ∷ binary future largest
-    ∷ binary future smallest
-    ∷ unary future largest
-    ∷ unary future smallest
+    ∷ joined Smallest
+    ∷ joined Largest
+    ∷ binary future Largest
+    ∷ binary future Smallest
+    ∷ unary future Largest
+    ∷ unary future Smallest
     ∷ []
 
 abbrev pub operator : ℕ → Operator

@@ -5,8 +5,11 @@ use mathlib.Core.List.{List, [], _∷_, _++_}
 use Prim.Native.Nat.{ℕ, zero, suc, _-_}
 use lib.Dec.{eqb}
 use lib.ListN.{getD}
-use Rattle.logic.specs.Window.{Window, endless, before}
-use Rattle.logic.specs.Formula.{Formula, truth, atom, negation, junction, temporal, Extremum, largest, smallest}
+use Rattle.logic.specs.declared.Stop.the-variants.{Endless, Before}
+use Rattle.logic.specs.declared.Window.{Window}
+use Rattle.logic.specs.declared.Extremum.{Extremum}
+use Rattle.logic.specs.declared.Extremum.the-variants.{Largest, Smallest}
+use Rattle.logic.specs.Formula.{Formula, truth, atom, negation, junction, temporal}
 use Rattle.tables.specs.declared.Node.{Node}
 use Rattle.tables.specs.declared.Table.{Table}
 use Rattle.tables.specs.Kind.{Operator, constant, named, negated, unknown, joined, binary, unary, operator}
@@ -20,12 +23,12 @@ NO-END = 4_294_967_295
 
 -- the window from lo to hi, both counted
 abbrev pub window : Node → Window
-window n = record { from = n .lo; stop = cond (eqb (n .hi) NO-END) endless (before (suc (n .hi))) }
+window n = record { from = n .lo; stop = cond (eqb (n .hi) NO-END) Endless (Before (suc (n .hi))) }
 
 -- what stands left of a single operand: eventually is until from true, always is release from false
 abbrev pub unary-left : Extremum → Formula ℕ
-unary-left largest = truth
-unary-left smallest = negation truth
+unary-left Largest = truth
+unary-left Smallest = negation truth
 
 -- a node over the requirements of earlier nodes
 abbrev pub formula : Operator → Node → (ℕ → Formula ℕ) → Formula ℕ

@@ -9,8 +9,11 @@ use lib.Dec.{leb}
 use lib.IntN.{ℤ}
 use borrow.Author.Tests.{le-leb, lt-leb, lt-ltb, le-ltb}
 use Rattle.numbers.specs.Order.{Within}
-use Rattle.logic.specs.Window.{Window, before, inside}
-use Rattle.logic.specs.Formula.{Extremum, dual}
+use Rattle.logic.specs.declared.Stop.the-variants.{Before}
+use Rattle.logic.specs.declared.Window.{Window}
+use Rattle.logic.specs.Window.{inside}
+use Rattle.logic.specs.declared.Extremum.{Extremum}
+use Rattle.logic.specs.Formula.{dual}
 use Rattle.logic.specs.Reading.{extremum, along, margins, margin-extreme, margin-nothing}
 use Rattle.logic.proofs.Beaten.{nothing-moves, nothing-carried, along-outside, along-settled}
 use Rattle.rows.specs.Cells.{extremum-of}
@@ -30,7 +33,7 @@ module _ (top : ℕ) (e : Extremum) (l : ℕ → ℤ) (i j : ℕ) (h : i ≤ j) 
 -- the window of the places from `first` up to, not including, `end`
 module _ (first end : ℕ) where
   abbrev pub between : Window
-  between = record { from = first; stop = before end }
+  between = record { from = first; stop = Before end }
 
   pub not-yet : (j : ℕ) → j < first → inside between j ≡ false
   not-yet j h = rw (lt-leb first j h) refl

@@ -10,15 +10,18 @@ use native.Mathlib.Decide.{decLt}
 use lib.Dec.{leb, ltb}
 use lib.ListN.{length, getD}
 use borrow.Author.Tests.{lt-ltb, le-ltb, lt-leb, le-leb, ltb-true}
-use Rattle.logic.specs.Window.{Window, Stop, endless, before, reaches, inside}
+use Rattle.logic.specs.declared.Stop.{Stop}
+use Rattle.logic.specs.declared.Stop.the-variants.{Endless, Before}
+use Rattle.logic.specs.declared.Window.{Window}
+use Rattle.logic.specs.Window.{reaches, inside}
 use Rattle.logic.proofs.Line.{climbs}
 use Rattle.temporal.specs.Reading.{Rising}
 use Rattle.temporal.specs.Edges.{Reached, Edge}
 use Rattle.temporal.proofs.Along.{between}
 
 reaches-less : (s : Stop) (c d : ℕ) → c ≤ d → reaches s d ≡ true → reaches s c ≡ true
-reaches-less endless c d h e = refl
-reaches-less (before n) c d h e = lt-ltb c n (omega (arith, ltb-true d n e))
+reaches-less Endless c d h e = refl
+reaches-less (Before n) c d h e = lt-ltb c n (omega (arith, ltb-true d n e))
 
 leb-not : (a b : ℕ) → leb a b ≡ not (ltb b a)
 leb-not a b =
@@ -38,7 +41,7 @@ module _ {times : List ℕ} where
   pub reached-from : (s : Stop) (i r : ℕ) → i < length times → Reached times s i r → Reached times s i (max i r)
   reached-from s i r h k = record { in-times = omega (arith, k .in-times); reached = λ j a b. k .reached j a (omega arith) }
 
-  pub reached-more : (apart i j : ℕ) → j < length times → getD times j 0 - getD times i 0 < apart → Reached times (before apart) i j → Reached times (before apart) i (j + 1)
+  pub reached-more : (apart i j : ℕ) → j < length times → getD times j 0 - getD times i 0 < apart → Reached times (Before apart) i j → Reached times (Before apart) i (j + 1)
   reached-more apart i j h g k = record {
     in-times = omega arith;
     reached = λ m a b. elim (decLt m j) [
@@ -47,7 +50,7 @@ module _ {times : List ℕ} where
     ];
   }
 
-  pub edge-found : Rising times → (apart i j : ℕ) → i ≤ j → apart ≤ getD times j 0 - getD times i 0 → Reached times (before apart) i j → Edge times (before apart) i j
+  pub edge-found : Rising times → (apart i j : ℕ) → i ≤ j → apart ≤ getD times j 0 - getD times i 0 → Reached times (Before apart) i j → Edge times (Before apart) i j
   edge-found R apart i j h g k = record {
     from = h;
     short = k;
@@ -57,8 +60,8 @@ module _ {times : List ℕ} where
   pub edge-none : (s : Stop) (i r : ℕ) → i ≤ r → length times ≤ r → Reached times s i r → Edge times s i r
   edge-none s i r h g k = record { from = h; short = k; past = λ m a b. absurd (omega arith) }
 
-  pub edge-endless : (i : ℕ) → i < length times → Edge times endless i (length times)
-  edge-endless i h = edge-none endless i (length times) (omega arith) (omega arith) (record { in-times = omega arith; reached = λ j a b. refl })
+  pub edge-endless : (i : ℕ) → i < length times → Edge times Endless i (length times)
+  edge-endless i h = edge-none Endless i (length times) (omega arith) (omega arith) (record { in-times = omega arith; reached = λ j a b. refl })
 
   -- ---- from one place to the next
   pub reached-next : Rising times → (s : Stop) (i r : ℕ) → Reached times s i r → Reached times s (i + 1) r
@@ -75,6 +78,6 @@ module _ {times : List ℕ} where
         | no q ↦ let p : r ≤ j = omega arith in E .past j p b ∙ sym (le-ltb j r p)
       ]
 
-  pub edges-inside : (w : Window) (i first end : ℕ) → Edge times (before (w .from)) i first → Edge times (w .stop) i end → (j : ℕ) → i ≤ j → j < length times → inside (between first end) j ≡ inside w (getD times j 0 - getD times i 0)
+  pub edges-inside : (w : Window) (i first end : ℕ) → Edge times (Before (w .from)) i first → Edge times (w .stop) i end → (j : ℕ) → i ≤ j → j < length times → inside (between first end) j ≡ inside w (getD times j 0 - getD times i 0)
   edges-inside w i first end F E j a b =
-      rw (leb-not first j, leb-not (w .from) (getD times j 0 - getD times i 0), edge-test (before (w .from)) i first F j a b, edge-test (w .stop) i end E j a b) refl
+      rw (leb-not first j, leb-not (w .from) (getD times j 0 - getD times i 0), edge-test (Before (w .from)) i first F j a b, edge-test (w .stop) i end E j a b) refl

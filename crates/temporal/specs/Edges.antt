@@ -5,7 +5,8 @@ use mathlib.Core.Bool.{true, false}
 use mathlib.Core.List.{List}
 use Prim.Native.Nat.{ℕ, _-_, _≤_, _<_}
 use lib.ListN.{length, getD}
-use Rattle.logic.specs.Window.{Stop, reaches}
+use Rattle.logic.specs.declared.Stop.{Stop}
+use Rattle.logic.specs.Window.{reaches}
 
 -- no place from i up to, not including, r is past the stop of i
 pub record Reached (times : List ℕ) (stop : Stop) (i r : ℕ) : Type 0 where

@@ -4,24 +4,14 @@ use mathlib.Core.List.{List}
 use Prim.Native.Nat.{ℕ, suc, _+_, _*_, _≤_, _<_}
 use lib.IntN.{ℤ}
 use lib.ListN.{length, getD}
-use Rattle.logic.specs.Window.{Window, Stop, endless, before}
-use Rattle.logic.specs.Formula.{Extremum, dual, Direction}
+use Rattle.logic.specs.declared.Window.{Window}
+use Rattle.logic.specs.declared.Extremum.{Extremum}
+use Rattle.logic.specs.Formula.{dual, Direction}
 use Rattle.logic.specs.Reading.{Places, place, count, offset, along, margins, margin-nothing}
 use Rattle.recordings.specs.Distance.{TOP}
 use Rattle.rows.specs.Cells.{cell}
-use Rattle.temporal.specs.declared.Window.{Window as Span}
-use Rattle.temporal.specs.declared.Stop.{Stop as End}
-use Rattle.temporal.specs.declared.Stop.the-variants.{Endless, Before}
 use Rattle.temporal.specs.declared.Left.{Left}
 use Rattle.temporal.specs.declared.Left.the-variants.{Row, Absent}
-
--- the code's windows are the logic's
-abbrev pub stop-of : End → Stop
-stop-of Endless = endless
-stop-of (Before e) = before e
-
-abbrev pub window-of : Span → Window
-window-of w = record { from = w .from; stop = stop-of (w .stop) }
 
 -- one place for each time
 abbrev pub places : List ℕ → Places

@@ -5,26 +5,16 @@ ghost use mathlib.Core.Bool.{true};
 ghost use Prim.Native.Nat.{ℕ, _+_, _*_, _-_, _≤_, _<_, max};
 ghost use lib.ListN.{length, getD};
 ghost use Rattle.lists.specs.Fill.{fill};
-ghost use Rattle.logic.specs.Window.{before};
+ghost use Rattle.logic.specs.declared.Stop.the-variants.{Before};
 ghost use Rattle.logic.specs.Formula.{dual, future};
 ghost use Rattle.logic.specs.Reading.{extremum, along, margins, margin-extreme};
 ghost use Rattle.recordings.specs.Distance.{TOP};
 ghost use Rattle.rows.specs.Cells.{cell, extremum-of, Bounded};
-ghost use Rattle.temporal.specs.Reading.{stop-of, window-of, places, left-at, temporal-at, Rising, LeftInside, LeftEarlier};
+ghost use Rattle.temporal.specs.Reading.{places, left-at, temporal-at, Rising, LeftInside, LeftEarlier};
 ghost use Rattle.temporal.specs.Edges.{Reached, Edge};
 ghost use Rattle.temporal.specs.Asks.{PlaceAsks, RowAsks};
-
-// The end of a window: none, or the first second past it.
-pub enum Stop {
-    Endless,
-    Before(u64),
-}
-
-// The seconds from `from` on that stand before `stop`, counted from a place's time.
-pub struct Window {
-    pub from: u64,
-    pub stop: Stop,
-}
+use logic::Stop;
+use logic::Window;
 
 // The left operand: a row, or none for eventually and always.
 pub enum Left {
@@ -42,8 +32,8 @@ fn later(a: usize, b: usize) -> usize
 // The first place from i on that is at least `apart` seconds after i. None from i up to `at` is.
 fn first_apart(times: &[u64], i: usize, at: usize, apart: u64) -> usize
     requires { ⌜ Rising (now times) ⌝ }
-    requires { ⌜ (i < length (now times)) × Reached (now times) (before apart) i at ⌝ }
-    ensures { λ r. ⌜ Edge (now (times .entry)) (before apart) i r ⌝ }
+    requires { ⌜ (i < length (now times)) × Reached (now times) (Before apart) i at ⌝ }
+    ensures { λ r. ⌜ Edge (now (times .entry)) (Before apart) i r ⌝ }
 {
     let start = times[i];
     let mut j = later(i, at);
@@ -59,8 +49,8 @@ fn first_apart(times: &[u64], i: usize, at: usize, apart: u64) -> usize
 // The first place from i on that is past the stop of i. None from i up to `at` is.
 fn edge(times: &[u64], i: usize, at: usize, stop: Stop) -> usize
     requires { ⌜ Rising (now times) ⌝ }
-    requires { ⌜ (i < length (now times)) × Reached (now times) (stop-of stop) i at ⌝ }
-    ensures { λ r. ⌜ Edge (now (times .entry)) (stop-of stop) i r ⌝ }
+    requires { ⌜ (i < length (now times)) × Reached (now times) stop i at ⌝ }
+    ensures { λ r. ⌜ Edge (now (times .entry)) stop i r ⌝ }
 {
     match stop {
         Stop::Endless => times.len(),
@@ -113,7 +103,7 @@ fn bound_at(
     end: usize,
 ) -> i64
     requires { ⌜ PlaceAsks (now cells) rows right i first end × (left * rows + rows ≤ length (now cells)) ⌝ }
-    ensures { λ r. ⌜ r ≡ along (margins TOP) (extremum-of largest) (record { from = first; stop = before end }) (λ m. i + m) (λ m. cell (now (cells .entry)) rows left (i + m)) (λ m. cell (now (cells .entry)) rows right (i + m)) (rows - i) ⌝ }
+    ensures { λ r. ⌜ r ≡ along (margins TOP) (extremum-of largest) (record { from = first; stop = Before end }) (λ m. i + m) (λ m. cell (now (cells .entry)) rows left (i + m)) (λ m. cell (now (cells .entry)) rows right (i + m)) (rows - i) ⌝ }
 {
     let other = !largest;
     let mut best = rows::over_nothing(largest);
@@ -148,7 +138,7 @@ fn at_place(
 ) -> i64
     requires { ⌜ PlaceAsks (now cells) rows right i first end × LeftInside (length (now cells)) rows left ⌝ }
     requires { ⌜ Bounded (now cells) rows right ⌝ }
-    ensures { λ r. ⌜ r ≡ along (margins TOP) (extremum-of largest) (record { from = first; stop = before end }) (λ m. i + m) (λ m. left-at (extremum-of largest) (now (cells .entry)) rows left (i + m)) (λ m. cell (now (cells .entry)) rows right (i + m)) (rows - i) ⌝ }
+    ensures { λ r. ⌜ r ≡ along (margins TOP) (extremum-of largest) (record { from = first; stop = Before end }) (λ m. i + m) (λ m. left-at (extremum-of largest) (now (cells .entry)) rows left (i + m)) (λ m. cell (now (cells .entry)) rows right (i + m)) (rows - i) ⌝ }
 {
     match left {
         Left::Row(operand) => bound_at(cells, rows, largest, operand, right, i, first, end),
@@ -167,7 +157,7 @@ pub fn temporal_row(
     row: usize,
 )
     requires { ⌜ RowAsks (now work) (now times) left right row ⌝ }
-    ensures { λ _. ⌜ now (work .exit) ≡ fill (row * length (now (times .entry))) (length (now (times .entry))) (temporal-at future (extremum-of largest) (window-of window) (places (now (times .entry))) (left-at (extremum-of largest) (now (work .entry)) (length (now (times .entry))) left) (cell (now (work .entry)) (length (now (times .entry))) right)) (now (work .entry)) ⌝ }
+    ensures { λ _. ⌜ now (work .exit) ≡ fill (row * length (now (times .entry))) (length (now (times .entry))) (temporal-at future (extremum-of largest) window (places (now (times .entry))) (left-at (extremum-of largest) (now (work .entry)) (length (now (times .entry))) left) (cell (now (work .entry)) (length (now (times .entry))) right)) (now (work .entry)) ⌝ }
 {
     let rows = times.len();
     let base = row * rows;

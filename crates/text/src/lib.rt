@@ -12,7 +12,7 @@ ghost use Rattle.text.specs.Number.{is-digit, in-form, number-at, field-
 // The largest number of a field without a sign, and of one with a sign.
 pub const LARGEST: u64 = 4_294_967_295;
 
-pub const LARGEST_SIGNED: u64 = 2_147_483_647;
+const LARGEST_SIGNED: u64 = 2_147_483_647;
 
 // What a number field holds and the place after it.
 pub enum Field {
@@ -27,7 +27,7 @@ pub enum Mark {
 }
 
 // The byte at a place, 0 past the end.
-pub fn byte_at(s: &[u8], at: usize) -> u8
+fn byte_at(s: &[u8], at: usize) -> u8
     ensures { λ r. ⌜ r ≡ getD (now (s .entry)) at 0 ⌝ }
 {
     if at < s.len() { s[at] } else { 0 }

@@ -31,11 +31,11 @@ use Rattle.verdicts.specs.Answer.{room-check, verdict-checks, refusal, j
 use Rattle.verdicts.proofs.Rows.{row-value-of}
 use Rattle.verdicts.proofs.Entry.{after-room}
 
-module _ (c : Card) (t : Table) (step drift size : ℕ) (few : length (c .predicates) ≤ 16) where
+module _ (c : Card) (t : Table) (step drift size : ℕ) where
   -- number 0: refusals 3 to 11 do not apply, so the recording, requirement, step and drift are accepted
   pub number-sound : judged c t step drift size .number ≡ 0 → Sound c t
   unfolding judged refusal
-  number-sound e = sound c t few (first-of-whole (checks c t) (room-check c t size ∷ sampling-checks c step drift) tt e .0)
+  number-sound e = sound c t (first-of-whole (checks c t) (room-check c t size ∷ sampling-checks c step drift) tt e .0)
 
   pub number-room : judged c t step drift size .number ≡ 0 → (2 * t .count * rows c ≤ size) × (first (sampling-checks c step drift) ≡ 0)
   unfolding judged refusal
@@ -67,7 +67,7 @@ module _ (c : Card) (t : Table) (step drift size : ℕ) (few : length (c .predic
 
   -- a number m is answered exactly when its condition applies and no earlier one does
   pub exact-checks : AllExact (verdict-checks c t step drift size)
-  exact-checks = exact-append (checks c t) (room-check c t size ∷ sampling-checks c step drift) (exact c t few) (λ p. (record { sound = leb→le _ _; complete = le→leb _ _ }, λ _. sampling-exact c step drift (passed-sound p .recorded)))
+  exact-checks = exact-append (checks c t) (room-check c t size ∷ sampling-checks c step drift) (exact c t) (λ p. (record { sound = leb→le _ _; complete = le→leb _ _ }, λ _. sampling-exact c step drift (passed-sound p .recorded)))
 
   pub number-refused : (judged c t step drift size .number ≡ 0 → ⊥) → Refused (verdict-checks c t step drift size) (judged c t step drift size .number)
   unfolding judged refusal
@@ -102,10 +102,10 @@ module _ (c : Card) (t : Table) (step drift : ℕ) (w : List ℤ) where
   cells-are e = rw e refl
 
   -- row 2k has node k's strengthened margins (at true), row 2k + 1 those of its negation (at false)
-  pub cell-is : length (c .predicates) ≤ 16 → judged c t step drift (length w) .number ≡ 0 → (b : Bool) (k i : ℕ) → k < t .count → i < rows c → getD (cells-after c t step drift w) (row-of b k * rows c + i) (pos 0) ≡ margin c (strengthened step b (tree (t .nodes) k)) i
+  pub cell-is : judged c t step drift (length w) .number ≡ 0 → (b : Bool) (k i : ℕ) → k < t .count → i < rows c → getD (cells-after c t step drift w) (row-of b k * rows c + i) (pos 0) ≡ margin c (strengthened step b (tree (t .nodes) k)) i
   unfolding strong
-  cell-is l e b k i h g =
-      rw (cells-are e) (rows-in (rows c) (row-value c step (t .nodes)) (2 * t .count) w (row-of b k) i (pos 0) (inside b) g (number-room c t step drift (length w) l e .0))
+  cell-is e b k i h g =
+      rw (cells-are e) (rows-in (rows c) (row-value c step (t .nodes)) (2 * t .count) w (row-of b k) i (pos 0) (inside b) g (number-room c t step drift (length w) e .0))
       ∙ row-value-of c step (t .nodes) b k i
     where
       inside : (b : Bool) → row-of b k < 2 * t .count

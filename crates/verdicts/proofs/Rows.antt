@@ -10,8 +10,10 @@ use lib.Dec.{eqb}
 use borrow.Author.Tests.{eq-eqb, ne-eqb}
 use lib.IntN.{ℤ}
 use lib.ListN.{length}
-use Rattle.logic.specs.Window.{Window, endless, before}
-use Rattle.logic.specs.Formula.{Extremum, smallest}
+use Rattle.logic.specs.declared.Stop.the-variants.{Endless, Before}
+use Rattle.logic.specs.declared.Window.{Window}
+use Rattle.logic.specs.declared.Extremum.{Extremum}
+use Rattle.logic.specs.declared.Extremum.the-variants.{Smallest}
 use Rattle.logic.specs.Negation.{turn}
 use Rattle.recordings.specs.Card.{Card, rows}
 use Rattle.lists.specs.Fill.{fill, fill-rows}
@@ -32,7 +34,7 @@ use Rattle.verdicts.specs.Cells.{sign-of-row, strong, row-value}
 use Rattle.verdicts.proofs.Strong.{strong-node, strong-bounded}
 
 -- until and eventually alone contract their windows
-pub no-contraction : (k : ℕ) → (k ≡ 5 → ⊥) → (k ≡ 7 → ⊥) → smallest ≡ window-extremum (operator k)
+pub no-contraction : (k : ℕ) → (k ≡ 5 → ⊥) → (k ≡ 7 → ⊥) → Smallest ≡ window-extremum (operator k)
 no-contraction zero h g = refl
 no-contraction (suc zero) h g = refl
 no-contraction (suc (suc zero)) h g = refl
@@ -102,7 +104,7 @@ short n k r =
     let e = ends-short (timed (operator (n .kind))) (n .lo) (n .hi) (r .ends) in
     (record { from = e .0; stop = stop (eqb (n .hi) NO-END) (e .1) }, e .1)
   where
-    stop : (t : Bool) → n .hi ≤ NO-END → ShortStop (cond t endless (before (suc (n .hi))))
+    stop : (t : Bool) → n .hi ≤ NO-END → ShortStop (cond t Endless (Before (suc (n .hi))))
     stop true h = tt
     stop false h = omega arith
 

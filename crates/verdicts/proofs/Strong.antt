@@ -5,7 +5,8 @@ use mathlib.Core.Bool.{Bool, true, false}
 use mathlib.Core.List.{List}
 use Prim.Native.Nat.{ℕ}
 use Rattle.numbers.specs.Order.{Within}
-use Rattle.logic.specs.Formula.{Formula, largest, smallest}
+use Rattle.logic.specs.declared.Extremum.the-variants.{Largest, Smallest}
+use Rattle.logic.specs.Formula.{Formula}
 use Rattle.logic.specs.Strengthening.{strengthened}
 use Rattle.recordings.specs.Card.{Card}
 use Rattle.recordings.specs.Distance.{TOP}
@@ -34,10 +35,10 @@ module _ (c : Card) (step : ℕ) where
   by-kind unknown false n sub i = refl
   by-kind (joined e) b n sub i = refl
   by-kind (binary d e) b n sub i = refl
-  by-kind (unary d largest) true n sub i = refl
-  by-kind (unary d largest) false n sub i = refl
-  by-kind (unary d smallest) true n sub i = refl
-  by-kind (unary d smallest) false n sub i = refl
+  by-kind (unary d Largest) true n sub i = refl
+  by-kind (unary d Largest) false n sub i = refl
+  by-kind (unary d Smallest) true n sub i = refl
+  by-kind (unary d Smallest) false n sub i = refl
 
   pub strong-node : (ns : List Node) (b : Bool) (k : ℕ) → NodeRules (node-at ns k) k → (i : ℕ) → strong c step ns b k i ≡ node-value c b (strong-window b step (operator (node-at ns k .kind)) (node-at ns k)) (operator (node-at ns k .kind)) (node-at ns k) (strong c step ns (left-sign b (operator (node-at ns k .kind))) (node-at ns k .left)) (strong c step ns b (node-at ns k .right)) i
   unfolding strong

@@ -6,8 +6,9 @@ use mathlib.Core.List.{List}
 use Prim.Native.Nat.{ℕ, _+_, _*_, _≤_, _<_}
 use lib.ListN.{length}
 use lib.IntN.{ℤ}
-use Rattle.logic.specs.Window.{Window}
-use Rattle.logic.specs.Formula.{Extremum, smallest}
+use Rattle.logic.specs.declared.Window.{Window}
+use Rattle.logic.specs.declared.Extremum.{Extremum}
+use Rattle.logic.specs.declared.Extremum.the-variants.{Smallest}
 use Rattle.logic.specs.Negation.{turn}
 use Rattle.logic.specs.Strengthening.{strengthen-window}
 use Rattle.recordings.specs.Card.{Card, rows}
@@ -21,11 +22,11 @@ use Rattle.verdicts.specs.Cells.{row-value}
 
 -- until and eventually contract their windows, release and always expand them; the others have none
 abbrev pub window-extremum : Operator → Extremum
-window-extremum constant = smallest
-window-extremum named = smallest
-window-extremum negated = smallest
-window-extremum unknown = smallest
-window-extremum (joined e) = smallest
+window-extremum constant = Smallest
+window-extremum named = Smallest
+window-extremum negated = Smallest
+window-extremum unknown = Smallest
+window-extremum (joined e) = Smallest
 window-extremum (binary d e) = e
 window-extremum (unary d e) = e
 

@@ -9,16 +9,15 @@ ghost use Rattle.recordings.specs.Verdict.{decide};
 ghost use Rattle.rows.specs.Cells.{extremum-of};
 ghost use Rattle.tables.specs.Kind.{operator};
 ghost use Rattle.tables.specs.Rules.{NodeRules};
-ghost use Rattle.temporal.specs.Reading.{window-of};
 ghost use Rattle.verdicts.specs.Cells.{row-value, cells};
 ghost use Rattle.verdicts.specs.Rows.{window-extremum, strong-window, left-sign, row-of, Ready, Filled};
 ghost use Rattle.verdicts.specs.Answer.{outcome, judged, cells-after};
 ghost use Rattle.recordings.specs.Card.{lent};
+use logic::Window;
 use recordings::Predicate;
 use recordings::Verdict;
 use tables::Node;
 use tables::Table;
-use temporal::Window;
 
 // What the verdict hands back: the verdict with hold and fail, or the number of a refusal.
 pub enum Answer {
@@ -47,7 +46,7 @@ fn contracts(kind: u64) -> bool
 // The node's window, strengthened; in the negation it is that of the dual operator.
 fn row_window(node: Node, k: usize, affirmed: bool, step: u64) -> Window
     requires { ⌜ NodeRules node k × (step ≤ 1_000_000_000) ⌝ }
-    ensures { λ r. ⌜ window-of r ≡ strong-window affirmed step (operator (node .kind)) node ⌝ }
+    ensures { λ r. ⌜ r ≡ strong-window affirmed step (operator (node .kind)) node ⌝ }
 {
     let own = contracts(node.kind);
     let plain = windows::plain(node);

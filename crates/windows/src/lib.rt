@@ -3,17 +3,16 @@ ghost use mathlib.Core.Path.{_≡_};
 ghost use Prim.Native.Nat.{_-_, _≤_};
 ghost use Rattle.logic.specs.Strengthening.{contraction, expansion, strengthen-window};
 ghost use Rattle.rows.specs.Cells.{extremum-of};
-ghost use Rattle.temporal.specs.Reading.{window-of};
 ghost use Rattle.tables.specs.Tree.{NO-END, window};
 ghost use Rattle.windows.specs.Bounds.{Short};
+use logic::Stop;
+use logic::Window;
 use tables::Node;
-use temporal::Stop;
-use temporal::Window;
 
 // The window from lo to hi, both counted.
 pub fn plain(node: Node) -> Window
     requires { ⌜ node .hi ≤ NO-END ⌝ }
-    ensures { λ r. ⌜ window-of r ≡ window node ⌝ }
+    ensures { λ r. ⌜ r ≡ window node ⌝ }
 {
     let lo = node.lo;
     let hi = node.hi;
@@ -38,8 +37,8 @@ fn less(a: u64, b: u64) -> u64
 
 // The source's contraction: where the step is longer than the window, nothing is left.
 fn contracted(step: u64, w: Window) -> Window
-    requires { ⌜ Short (window-of w) × (step ≤ NO-END) ⌝ }
-    ensures { λ r. ⌜ window-of r ≡ contraction step (window-of w) ⌝ }
+    requires { ⌜ Short w × (step ≤ NO-END) ⌝ }
+    ensures { λ r. ⌜ r ≡ contraction step w ⌝ }
 {
     let from = w.from + step;
     let stop = w.stop;
@@ -57,8 +56,8 @@ fn contracted(step: u64, w: Window) -> Window
 
 // The source's expansion, not below 0.
 fn expanded(step: u64, w: Window) -> Window
-    requires { ⌜ Short (window-of w) × (step ≤ NO-END) ⌝ }
-    ensures { λ r. ⌜ window-of r ≡ expansion step (window-of w) ⌝ }
+    requires { ⌜ Short w × (step ≤ NO-END) ⌝ }
+    ensures { λ r. ⌜ r ≡ expansion step w ⌝ }
 {
     let from = less(w.from, step);
     let stop = w.stop;
@@ -76,8 +75,8 @@ fn expanded(step: u64, w: Window) -> Window
 
 // Until and eventually contract their windows, release and always expand them.
 pub fn strengthened(largest: bool, step: u64, w: Window) -> Window
-    requires { ⌜ Short (window-of w) × (step ≤ NO-END) ⌝ }
-    ensures { λ r. ⌜ window-of r ≡ strengthen-window (extremum-of largest) step (window-of w) ⌝ }
+    requires { ⌜ Short w × (step ≤ NO-END) ⌝ }
+    ensures { λ r. ⌜ r ≡ strengthen-window (extremum-of largest) step w ⌝ }
 {
     if largest {
         contracted(step, w)

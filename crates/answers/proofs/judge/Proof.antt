@@ -1,8 +1,6 @@
 -- The verdict's number decides; where it is 0 the margin is taken too.
 -- Assumes nothing.
 use mathlib.Core.Path.{_≡_, sym, ap, _∙_}
-use Prim.Native.Nat.{_≤_}
-use native.Mathlib.Nat.{le-of-eq}
 use lib.ListN.{length}
 use Rattle.numbers.proofs.Bits.{back-ok}
 use Rattle.recordings.specs.Card.{Card, card}
@@ -69,8 +67,7 @@ returns-2 c =
     let v : outcome (c .before .before .before .before .before .before .before .before .before .before .verdict .result) ≡ judged (card-of s) (s .args .table) (s .args .step) (s .args .drift) CELLS = c .before .before .before .before .before .before .before .before .before .before .verdict .ensures .0 in
     let l : length (c .before .before .before .before .before .before .before .before .before .before .verdict .last .1 .1 .1 .1 .1 .1 .1 .0) ≡ CELLS = search needs in
     let m : margin-outcome (c .before .before .before .before .before .margin .result) ≡ margin-judged (card-of s) (s .args .table) CELLS = c .before .before .before .before .before .margin .ensures .0 ∙ ap (margin-judged (card-of s) (s .args .table)) l in
-    let few : length (s .args .predicates) ≤ 16 = search (needs, le-of-eq) in
-    judge-accepted (card-of s) (s .args .table) (s .args .step) (s .args .drift) (s .args .filled) few
+    judge-accepted (card-of s) (s .args .table) (s .args .step) (s .args .drift) (s .args .filled)
     (sym (c .before .before .before .before .before .before .before .before .number-of .ensures ∙ ap (λ (o : Outcome). o .number) v) ∙ c .before .before .before .before .before .before .before .if1 .left)
     _ _ _ _
     (back-ok _ (c .before .before .before .margin-of .ok) ∙ (c .before .before .before .margin-of .ensures ∙ ap (λ (o : MarginOutcome). o .margin) m))

@@ -1,8 +1,7 @@
 -- `building::read_leaf` meets its contract: each branch of the code is a case of the definition.
 -- Assumes nothing.
 use mathlib.Core.Path.{sym, _∙_}
-use Rattle.building.specs.declared.Step.the-variants.{Refused}
-use Rattle.building.proofs.Stores.{true-done, predicate-done, leaf-refused}
+use Rattle.building.proofs.Stores.{true-stored, predicate-stored, leaf-refused}
 use borrow.Author.Needs.{needs}
 use Rattle.building.proofs.read_leaf.Statement.{statement}
 use Rattle.building.proofs.read_leaf.Tie as tie
@@ -23,7 +22,7 @@ push-requires c κs = search needs
 
 returns : tie.Need-returns
 returns c =
-    true-done _ _ _ _ _ _ _ (sym (c .before .before .before .before .before .read-letter .ensures) ∙ c .before .before .before .next .given .1) (c .push .ensures .0) (c .push .ensures .1)
+    true-stored _ _ _ _ _ _ _ (sym (c .before .before .before .before .before .read-letter .ensures) ∙ c .before .before .before .next .given .1) (c .push .ensures .0) (c .push .ensures .1)
 
 enum-told : tie.Need-enum-told
 enum-told c = search needs
@@ -42,7 +41,7 @@ enum-told-2 c = search needs
 
 returns-2 : tie.Need-returns-2
 returns-2 c =
-    leaf-refused _ _ _ Refused _ _ (sym (c .before .before .before .before .before .before .read-letter .ensures) ∙ c .before .before .before .before .enum-told .given .1)
+    leaf-refused _ _ _ _ (sym (c .before .before .before .before .before .before .read-letter .ensures) ∙ c .before .before .before .before .enum-told .given .1)
     (sym (c .before .before .read-field .ensures) ∙ c .enum-told2 .given .1)
 
 push-requires-2 : tie.Need-push-requires-2
@@ -50,7 +49,7 @@ push-requires-2 c κs = search needs
 
 returns-3 : tie.Need-returns-3
 returns-3 c =
-    predicate-done _ _ _ _ _ _ _ _ (sym (c .before .before .before .before .before .before .before .before .before .read-letter .ensures) ∙ c .before .before .before .before .before .before .before .enum-told .given .1)
+    predicate-stored _ _ _ _ _ _ _ _ (sym (c .before .before .before .before .before .before .before .before .before .read-letter .ensures) ∙ c .before .before .before .before .before .before .before .enum-told .given .1)
     (sym (c .before .before .before .before .before .read-field .ensures) ∙ c .before .before .before .value .given .1) (c .push2 .ensures .0) (c .push2 .ensures .1)
 
 pub read-leaf-spec : {M : Type 1} → statement M

@@ -3,7 +3,6 @@
 use mathlib.Core.Path.{sym, _∙_}
 use Prim.Native.Nat.{_+_, _*_, _-_, _≤_, _<_}
 use native.Mathlib.Omega.{arith}
-use native.Mathlib.Nat.{le-of-eq}
 use borrow.Author.Needs.{needs}
 use lib.ListN.{length}
 use Rattle.numbers.proofs.Bits.{back-ok}
@@ -21,7 +20,7 @@ card-of s = card (s .args .channels) (s .args .predicates) (s .args .times .now)
 fine : (c : tie.Else1) → Sound (card-of (c .before .before .before)) (c .before .before .before .args .table) × (c .before .before .before .args .table .count * length (c .before .before .before .args .times .now) ≤ length (c .before .before .before .args .work .now))
 fine c =
     let s = c .before .before .before in
-    accepted (card-of s) (s .args .table) (length (s .args .work .now)) (search (needs, le-of-eq)) (sym (c .before .refusal-of .ensures) ∙ c .if1 .left)
+    accepted (card-of s) (s .args .table) (length (s .args .work .now)) (sym (c .before .refusal-of .ensures) ∙ c .if1 .left)
 
 refusal-of-requires : tie.Need-refusal-of-requires
 refusal-of-requires c κs = search needs

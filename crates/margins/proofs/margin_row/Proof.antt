@@ -7,7 +7,7 @@ use native.Mathlib.Omega.{arith}
 use borrow.Author.Needs.{needs}
 use lib.ListN.{length}
 use Rattle.lists.specs.Fill.{fill}
-use Rattle.logic.specs.Window.{Window}
+use Rattle.logic.specs.declared.Window.{Window}
 use Rattle.recordings.specs.Card.{Card, card}
 use Rattle.tables.specs.Kind.{operator}
 use Rattle.tables.specs.Rules.{Used, left-use, right-use, timed}

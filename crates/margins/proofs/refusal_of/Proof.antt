@@ -2,7 +2,6 @@
 -- Assumes nothing.
 use mathlib.Core.Path.{sym, _∙_}
 use native.Mathlib.Omega.{arith}
-use native.Mathlib.Nat.{le-of-eq}
 use borrow.Author.Needs.{needs}
 use Rattle.recordings.specs.Card.{Card, card}
 use Rattle.rules.proofs.Refusals.{sound}
@@ -24,7 +23,7 @@ returns c =
 mul-if2 : tie.Need-mul-if2
 mul-if2 c =
     let s = c .before .before .before in
-    let f = few-cells (sound (card-of s) (s .args .table) (search (needs, le-of-eq)) (sym (c .before .refusal .ensures) ∙ c .if1 .left)) in
+    let f = few-cells (sound (card-of s) (s .args .table) (sym (c .before .refusal .ensures) ∙ c .if1 .left)) in
     omega arith
 
 returns-2 : tie.Need-returns-2

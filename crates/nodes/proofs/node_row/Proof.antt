@@ -4,7 +4,7 @@ use mathlib.Core.Path.{refl}
 use native.Mathlib.Omega.{arith}
 use borrow.Author.Needs.{needs}
 use Rattle.temporal.specs.declared.Left.the-variants.{Row, Absent}
-use Rattle.logic.specs.Formula.{largest, smallest}
+use Rattle.logic.specs.declared.Extremum.the-variants.{Largest, Smallest}
 use Rattle.nodes.proofs.Rows.{turn-largest, turn-smallest, left-before, right-before, above, row-asks, leaf, last-kind, true-arm, predicate-arm, not-arm, joined-arm, binary-arm, unary-arm}
 use Rattle.nodes.proofs.node_row.Statement.{statement}
 use Rattle.nodes.proofs.node_row.Tie as tie
@@ -73,31 +73,31 @@ same-length-4 : tie.Need-same-length-4
 same-length-4 c = search needs
 
 returns-4 : tie.Need-returns-4
-returns-4 c = joined-arm _ _ _ _ _ _ _ _ (c .before .before .before .before .before .args .affirmed) 3 smallest refl (c .before .before .before .match .keys4) _ (turn-smallest (c .before .before .before .before .before .args .affirmed)) (c .before .joined-row .ensures)
+returns-4 c = joined-arm _ _ _ _ _ _ _ _ (c .before .before .before .before .before .args .affirmed) 3 Smallest refl (c .before .before .before .match .keys4) _ (turn-smallest (c .before .before .before .before .before .args .affirmed)) (c .before .joined-row .ensures)
 
 same-length-5 : tie.Need-same-length-5
 same-length-5 c = search needs
 
 returns-5 : tie.Need-returns-5
-returns-5 c = joined-arm _ _ _ _ _ _ _ _ (c .before .before .before .before .before .args .affirmed) 4 largest refl (c .before .before .before .match .keys5) _ (turn-largest (c .before .before .before .before .before .args .affirmed)) (c .before .joined-row2 .ensures)
+returns-5 c = joined-arm _ _ _ _ _ _ _ _ (c .before .before .before .before .before .args .affirmed) 4 Largest refl (c .before .before .before .match .keys5) _ (turn-largest (c .before .before .before .before .before .args .affirmed)) (c .before .joined-row2 .ensures)
 
 same-length-6 : tie.Need-same-length-6
 same-length-6 c = search needs
 
 returns-6 : tie.Need-returns-6
-returns-6 c = binary-arm _ _ _ _ _ _ _ _ (c .before .before .before .before .before .args .affirmed) 5 largest refl (c .before .before .before .match .keys6) _ (turn-largest (c .before .before .before .before .before .args .affirmed)) (c .before .temporal-row .ensures)
+returns-6 c = binary-arm _ _ _ _ _ _ _ _ (c .before .before .before .before .before .args .affirmed) 5 Largest refl (c .before .before .before .match .keys6) _ (turn-largest (c .before .before .before .before .before .args .affirmed)) (c .before .temporal-row .ensures)
 
 same-length-7 : tie.Need-same-length-7
 same-length-7 c = search needs
 
 returns-7 : tie.Need-returns-7
-returns-7 c = binary-arm _ _ _ _ _ _ _ _ (c .before .before .before .before .before .args .affirmed) 6 smallest refl (c .before .before .before .match .keys7) _ (turn-smallest (c .before .before .before .before .before .args .affirmed)) (c .before .temporal-row2 .ensures)
+returns-7 c = binary-arm _ _ _ _ _ _ _ _ (c .before .before .before .before .before .args .affirmed) 6 Smallest refl (c .before .before .before .match .keys7) _ (turn-smallest (c .before .before .before .before .before .args .affirmed)) (c .before .temporal-row2 .ensures)
 
 same-length-8 : tie.Need-same-length-8
 same-length-8 c = search needs
 
 returns-8 : tie.Need-returns-8
-returns-8 c = unary-arm _ _ _ _ _ _ _ _ (c .before .before .before .before .before .args .affirmed) 7 largest refl (c .before .before .before .match .keys8) _ (turn-largest (c .before .before .before .before .before .args .affirmed)) (c .before .temporal-row3 .ensures)
+returns-8 c = unary-arm _ _ _ _ _ _ _ _ (c .before .before .before .before .before .args .affirmed) 7 Largest refl (c .before .before .before .match .keys8) _ (turn-largest (c .before .before .before .before .before .args .affirmed)) (c .before .temporal-row3 .ensures)
 
 same-length-9 : tie.Need-same-length-9
 same-length-9 c = search needs
@@ -105,7 +105,7 @@ same-length-9 c = search needs
 returns-9 : tie.Need-returns-9
 returns-9 c =
     let r = c .before .before .before .match .rest in
-    unary-arm _ _ _ _ _ _ _ _ (c .before .before .before .before .before .args .affirmed) 8 smallest refl (last-kind _ (c .before .before .before .before .before .pre .known) (r .0 .0 .0 .0 .0 .0 .0 .1) (r .0 .0 .0 .0 .0 .0 .1) (r .0 .0 .0 .0 .0 .1) (r .0 .0 .0 .0 .1) (r .0 .0 .0 .1) (r .0 .0 .1) (r .0 .1) (r .1)) _ (turn-smallest (c .before .before .before .before .before .args .affirmed)) (c .before .temporal-row4 .ensures)
+    unary-arm _ _ _ _ _ _ _ _ (c .before .before .before .before .before .args .affirmed) 8 Smallest refl (last-kind _ (c .before .before .before .before .before .pre .known) (r .0 .0 .0 .0 .0 .0 .0 .1) (r .0 .0 .0 .0 .0 .0 .1) (r .0 .0 .0 .0 .0 .1) (r .0 .0 .0 .0 .1) (r .0 .0 .0 .1) (r .0 .0 .1) (r .0 .1) (r .1)) _ (turn-smallest (c .before .before .before .before .before .args .affirmed)) (c .before .temporal-row4 .ensures)
 
 pub node-row-spec : {M : Type 1} → statement M
 node-row-spec =

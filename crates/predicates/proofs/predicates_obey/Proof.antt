@@ -4,6 +4,7 @@ use mathlib.Core.Path.{_≡_, refl}
 use Prim.Native.Nat.{_≤_, _-_}
 use native.Mathlib.Omega.{arith}
 use native.Mathlib.Numerals.{add-one}
+use lib.ListN.{length}
 use borrow.Author.Needs.{needs}
 use Rattle.predicates.specs.Predicates.{predicates-obey}
 use Rattle.predicates.proofs.predicates_obey.Statement.{statement}
@@ -39,7 +40,10 @@ unfolding predicates-obey
 loop-again c = (omega arith, rw (add-one, c .before .before .before .loop .inv .1, c .predicate-obeys .ensures))
 
 returns : tie.Need-returns Inv-loop μ-loop
-returns c = let e : c .before .loop .p ≡ 16 = omega arith in rw e at (c .before .loop .inv .1)
+returns c =
+    let l : length (c .before .before .args .t1) ≡ 16 = search needs in
+    let e : c .before .loop .p ≡ length (c .before .before .args .t1) = omega arith in
+    rw e at (c .before .loop .inv .1)
 
 pub predicates-obey-spec : {M : Type 1} → statement M
 predicates-obey-spec =

@@ -8,7 +8,7 @@ use lib.ListN.{length}
 use Rattle.grammar.specs.Operators.{and-kind, or-kind}
 use Rattle.grammar.specs.Reading.{bind-at, conjunction-at, unary-by}
 use Rattle.building.specs.Storing.{Done}
-use Rattle.building.proofs.Stores.{step-none, refused-done, done-as, one-done, close-done}
+use Rattle.building.proofs.Stores.{step-none, refused-done, done-as, one-done, close-done, stored-done}
 use Rattle.requirements.proofs.Readers.{Turning, bytes-left, turning-start, turning-refused, turning-over, turning-past, turning-turn, turning-less, unary-leaf, unary-enclosed, unary-operator, mark-onward, prefix-onward, bind-onward, conjunction-onward, bind-refused, bind-past, bind-alone, bind-bad, bind-joined}
 use Prim.Native.Nat.{ℕ, _<_}
 use borrow.Fn.Kinds.{In}
@@ -270,7 +270,7 @@ read-unary-read-leaf-requires : (t : ℕ) → read-unary-lts.Need-read-leaf-requ
 read-unary-read-leaf-requires t c κs = search needs
 
 read-unary-returns : (t : ℕ) → read-unary-lts.Need-returns (read-unary-claims t) (read-unary-at t) read-unary.Post
-read-unary-returns t c = done-as _ _ _ _ _ _ (unary-leaf _ _ _ (c .before .before .if1 .taken)) (c .read-leaf .ensures)
+read-unary-returns t c = done-as _ _ _ _ _ _ (unary-leaf _ _ _ (c .before .before .if1 .taken)) (stored-done _ _ _ _ _ (c .read-leaf .ensures .0) (c .read-leaf .ensures .1))
 
 read-unary-slice-aggregate-read-mark : (t : ℕ) → read-unary-lts.Need-slice-aggregate-read-mark (read-unary-claims t) (read-unary-at t) read-unary.Post
 read-unary-slice-aggregate-read-mark t c = search needs
@@ -326,7 +326,7 @@ read-unary-returns-3 : (t : ℕ) → read-unary-lts.Need-returns-3 (read-unary-c
 unfolding unary-by
 read-unary-returns-3 t c =
     done-as _ _ _ _ _ _ (unary-operator _ _ _ (c .before .before .before .before .before .before .before .before .before .if1 .left) (sym (c .before .before .before .before .before .before .before .read-mark .ensures) ∙ c .before .before .before .before .before .enum-told .given .1) _ (sym (c .before .before .before .before .read-prefix .ensures) ∙ c .before .before .enum-told2 .given .1))
-    (c .read-leaf2 .ensures)
+    (stored-done _ _ _ _ _ (c .read-leaf2 .ensures .0) (c .read-leaf2 .ensures .1))
 
 read-unary-returns-4 : (t : ℕ) → read-unary-lts.Need-returns-4 (read-unary-claims t) (read-unary-at t) read-unary.Post
 unfolding unary-by

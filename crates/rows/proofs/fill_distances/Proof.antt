@@ -32,7 +32,7 @@ place : (c : tie.In-loop Inv-loop μ-loop) → c .before .loop .i * c .before .b
 place c = omega (arith, mul-le-mul-right (c .before .before .args .channels) (c .loop-test .taken))
 
 value : (c : tie.In-loop Inv-loop μ-loop) → InRange (getD (c .before .before .args .values .now) (c .before .loop .i * c .before .before .args .channels + c .before .before .args .predicate .channel) (pos 0))
-value c = c .before .before .pre .1 .in-range _ (place c)
+value c = c .before .before .pre .1 .in-range .each _ (place c)
 
 -- its distance
 far : (c : tie.After-distance-of Inv-loop μ-loop) → back (c .distance-of .result) ≡ distance TOP (c .before .before .before .before .args .predicate .range) (getD (c .before .before .before .before .args .values .now) (c .before .before .before .loop .i * c .before .before .before .before .args .channels + c .before .before .before .before .args .predicate .channel) (pos 0))

@@ -3,20 +3,21 @@
 use native.Mathlib.Omega.{arith}
 use native.Mathlib.Nat.{mul-le-mul-right}
 use borrow.Author.Tests.{le-leb, lt-leb}
+use Rattle.recordings.specs.Accepted.{MOST-ROWS}
 use Rattle.rules.specs.Recording.{lengths-obey}
 use Rattle.rules.proofs.lengths_obey.Statement.{statement}
 use Rattle.rules.proofs.lengths_obey.Tie as tie
 
 returns : tie.Need-returns
 unfolding lengths-obey
-returns c = rw (lt-leb (c .before .args .rows) 4_096 (c .if1 .taken))
+returns c = rw (lt-leb (c .before .args .rows) MOST-ROWS (c .if1 .taken))
 
 mul-result : tie.Need-mul-result
 mul-result c = omega (arith, mul-le-mul-right (c .before .args .channels) (c .if1 .left))
 
 returns-2 : tie.Need-returns-2
 unfolding lengths-obey
-returns-2 c = rw (le-leb (c .before .args .rows) 4_096 (c .if1 .left))
+returns-2 c = rw (le-leb (c .before .args .rows) MOST-ROWS (c .if1 .left))
 
 pub lengths-obey-spec : {M : Type 1} → statement M
 lengths-obey-spec = tie.close (tie.spec returns mul-result returns-2)

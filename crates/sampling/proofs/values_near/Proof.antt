@@ -44,8 +44,8 @@ near-requires c κs =
     let s = c .before .before .before .before in
     let m : ℕ = c .before .before .before .loop .m in
     record {
-      from-in-range = rw (back-ok _ (c .before .near-arg .given)) (s .pre .in-range m (omega arith));
-      to-in-range = rw (back-ok _ (c .near-arg2 .given)) (s .pre .in-range (m + s .args .channels) (omega arith));
+      from-in-range = rw (back-ok _ (c .before .near-arg .given)) (s .pre .in-range .each m (omega arith));
+      to-in-range = rw (back-ok _ (c .near-arg2 .given)) (s .pre .in-range .each (m + s .args .channels) (omega arith));
       small-drift = s .pre .small-drift;
     }
 

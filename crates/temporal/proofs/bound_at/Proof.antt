@@ -13,7 +13,7 @@ use mir.Val.{toZ}
 use Rattle.numbers.proofs.Bits.{back, back-ok}
 use Rattle.recordings.specs.Distance.{TOP}
 use Rattle.rows.specs.Cells.{cell, extremum-of}
-use Rattle.logic.specs.Formula.{Extremum}
+use Rattle.logic.specs.declared.Extremum.{Extremum}
 use Rattle.logic.specs.Reading.{extremum, margins, margin-extreme, margin-nothing}
 use Rattle.temporal.proofs.Along.{dual-of, best, run as carry, best-first, best-empty, best-end, best-settled, turn-run, turn-best}
 use Rattle.temporal.proofs.bound_at.Statement.{statement}

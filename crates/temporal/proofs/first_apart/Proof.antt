@@ -4,14 +4,14 @@ use Prim.Native.Nat.{_-_, _≤_}
 use native.Mathlib.Omega.{arith}
 use borrow.Author.Needs.{needs}
 use lib.ListN.{length}
-use Rattle.logic.specs.Window.{before}
+use Rattle.logic.specs.declared.Stop.the-variants.{Before}
 use Rattle.temporal.specs.Edges.{Reached}
 use Rattle.temporal.proofs.Edges.{rises, reached-from, reached-more, edge-found, edge-none}
 use Rattle.temporal.proofs.first_apart.Statement.{statement}
 use Rattle.temporal.proofs.first_apart.Tie as tie
 
 abbrev Inv-loop : tie.InvT-loop
-Inv-loop times i at apart start j₀ j = (i ≤ j) × Reached times (before apart) i j
+Inv-loop times i at apart start j₀ j = (i ≤ j) × Reached times (Before apart) i j
 
 abbrev μ-loop : tie.MeasureT-loop
 μ-loop times i at apart start j₀ j = length times - j

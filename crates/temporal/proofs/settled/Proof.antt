@@ -6,7 +6,7 @@ use lib.Signed.{leZ}
 use borrow.Author.Needs.{needs}
 use mir.Facts.{toZ-ofZ}
 use Rattle.numbers.proofs.Parts.{holds, le-parts}
-use Rattle.logic.specs.Formula.{largest, smallest}
+use Rattle.logic.specs.declared.Extremum.the-variants.{Largest, Smallest}
 use Rattle.logic.proofs.Beaten.{beaten-stays}
 use Rattle.temporal.proofs.settled.Statement.{statement}
 use Rattle.temporal.proofs.settled.Tie as tie
@@ -24,7 +24,7 @@ returns c =
     let fb = s .fits .best in
     let fr = s .fits .run in
     let e : leZ (s .args .run) (s .args .best) ≡ true = sym (simp toZ-ofZ at (c .at-most .ensures)) ∙ t in
-    rw (c .before .if1 .taken) (beaten-stays largest (s .args .best) (s .args .run) (le-parts (s .args .run) (s .args .best) (holds e)))
+    rw (c .before .if1 .taken) (beaten-stays Largest (s .args .best) (s .args .run) (le-parts (s .args .run) (s .args .best) (holds e)))
 
 returns-2 : tie.Need-returns-2
 returns-2 c =
@@ -33,7 +33,7 @@ returns-2 c =
     let fb = s .fits .best in
     let fr = s .fits .run in
     let e : leZ (s .args .best) (s .args .run) ≡ true = sym (simp toZ-ofZ at (c .at-most2 .ensures)) ∙ t in
-    rw (c .before .if1 .left) (beaten-stays smallest (s .args .best) (s .args .run) (le-parts (s .args .best) (s .args .run) (holds e)))
+    rw (c .before .if1 .left) (beaten-stays Smallest (s .args .best) (s .args .run) (le-parts (s .args .best) (s .args .run) (holds e)))
 
 pub settled-spec : {M : Type 1} → statement M
 settled-spec = tie.close (tie.spec at-most-requires at-most-requires-2 returns returns-2)

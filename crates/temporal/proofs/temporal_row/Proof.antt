@@ -7,10 +7,10 @@ use lib.ListN.{length, length-set}
 use Rattle.numbers.proofs.Bits.{back-ok}
 use Rattle.lists.specs.Fill.{fill}
 use Rattle.lists.proofs.Filled.{fill-none, fill-next, fill-to, earlier-row}
-use Rattle.logic.specs.Window.{before}
+use Rattle.logic.specs.declared.Stop.the-variants.{Before}
 use Rattle.logic.specs.Formula.{future}
 use Rattle.rows.specs.Cells.{cell, extremum-of}
-use Rattle.temporal.specs.Reading.{stop-of, places, left-at, temporal-at}
+use Rattle.temporal.specs.Reading.{places, left-at, temporal-at}
 use Rattle.temporal.specs.Edges.{Reached}
 use Rattle.temporal.proofs.Edges.{reached-none, reached-next}
 use Rattle.temporal.proofs.Row.{left-inside, bounded-kept, place-value}
@@ -20,10 +20,10 @@ use Rattle.temporal.proofs.temporal_row.Tie as tie
 abbrev Inv-loop : tie.InvT-loop
 Inv-loop work₀ times largest left right row rows base from begin stop first₀ end₀ i₀ work first end i =
     (i ≤ rows)
-    × (work ≡ fill (row * rows) i (temporal-at future (extremum-of largest) (record { from = from; stop = stop-of stop }) (places times) (left-at (extremum-of largest) work₀ rows left) (cell work₀ rows right)) work₀)
+    × (work ≡ fill (row * rows) i (temporal-at future (extremum-of largest) (record { from = from; stop = stop }) (places times) (left-at (extremum-of largest) work₀ rows left) (cell work₀ rows right)) work₀)
     × (length work ≡ length work₀)
-    × Reached times (before from) i first
-    × Reached times (stop-of stop) i end
+    × Reached times (Before from) i first
+    × Reached times stop i end
 
 abbrev μ-loop : tie.MeasureT-loop
 μ-loop work₀ times largest left right row rows base from begin stop first₀ end₀ i₀ work first end i = rows - i

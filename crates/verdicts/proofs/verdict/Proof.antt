@@ -5,7 +5,6 @@ use mathlib.Core.Path.{_≡_, sym, ap₂, _∙_}
 use mathlib.Core.Bool.{true, false}
 use Prim.Native.Nat.{ℕ, _-_, _≤_}
 use native.Mathlib.Omega.{arith}
-use native.Mathlib.Nat.{le-of-eq}
 use lib.ListN.{length}
 use borrow.Author.Needs.{needs}
 use Rattle.numbers.proofs.Bits.{back-ok}
@@ -34,7 +33,7 @@ early-zero : (c : tie.Else1) → first (checks (card-of (c .before .before .befo
 early-zero c = sym (c .before .refusal .ensures) ∙ c .if1 .left
 
 sound-at : (c : tie.Else1) → Sound (card-of (c .before .before .before)) (c .before .before .before .args .table)
-sound-at c = sound (card-of (c .before .before .before)) (c .before .before .before .args .table) (search (needs, le-of-eq)) (early-zero c)
+sound-at c = sound (card-of (c .before .before .before)) (c .before .before .before .args .table) (early-zero c)
 
 -- past the third refusals 9 to 11 do not either
 late-zero : (c : tie.Else3) → first (sampling-checks (card-of (c .before .before .before .before .before .before)) (c .before .before .before .before .before .before .args .step) (c .before .before .before .before .before .before .args .drift)) ≡ 0

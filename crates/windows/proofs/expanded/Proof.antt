@@ -2,8 +2,7 @@
 -- Assumes nothing.
 use mathlib.Core.Path.{refl, subst}
 use native.Mathlib.Omega.{arith}
-use Rattle.temporal.specs.declared.Stop.{Stop}
-use Rattle.temporal.specs.Reading.{stop-of}
+use Rattle.logic.specs.declared.Stop.{Stop}
 use Rattle.windows.specs.Bounds.{ShortStop}
 use borrow.Author.Needs.{needs}
 use Rattle.windows.proofs.expanded.Statement.{statement}
@@ -19,7 +18,7 @@ enum-known-stop : tie.Need-enum-known-stop
 enum-known-stop c = search needs
 
 add-t8 : tie.Need-add-t8
-add-t8 c = omega (arith, subst (λ (x : Stop). ShortStop (stop-of x)) (c .before .stop .given .1) (c .before .before .before .before .pre .0 .stop), c .before .before .before .before .pre .1)
+add-t8 c = omega (arith, subst (λ (x : Stop). ShortStop x) (c .before .stop .given .1) (c .before .before .before .before .pre .0 .stop), c .before .before .before .before .pre .1)
 
 returns : tie.Need-returns
 returns c = rw (c .enum-told .given .1, c .before .before .less .ensures) refl
