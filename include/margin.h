@@ -9,7 +9,9 @@
  * No function keeps a pointer, allocates, or has a state: calls on several threads are
  * independent, and equal inputs give equal answers.
  *
- * A refusal is its number below, 0 for none. Of several that apply, the lowest is returned.
+ * A refusal is its number below, 0 for none. Of several that apply, the first in that list is
+ * returned. Under a refusal nothing is written: every slice keeps its contents. (varmityep_answer
+ * alone returns no number: its line says it.)
  */
 #ifndef MARGIN_H
 #define MARGIN_H
@@ -44,7 +46,7 @@ extern "C" {
 #define MARGIN_ANSWER_ROWS 2048
 #define MARGIN_ANSWER_CELLS 8192
 
-/* Refusals. */
+/* Refusals, in the order in which they count. */
 enum {
     MARGIN_ACCEPTED = 0,
     MARGIN_TEXT = 1,        /* a line breaks the text form or is missing, or over 65,536 bytes */
@@ -93,7 +95,7 @@ size_t varmityep_answer(const uint8_t *text, size_t text_len, uint8_t *line, siz
 /*
  * Reads a sheet: refusal 0 or 1. The whole text is judged, its rows too where channels is 1 to 8.
  * Writes numbers (MARGIN_NUMBERS), ranges (MARGIN_RANGES) and ends (MARGIN_ENDS); an end that a
- * range does not have is 0, and so is an unset predicate's channel. Under refusal 1 all are 0.
+ * range does not have is 0, and so is an unset predicate's channel.
  */
 uint64_t varmityep_sheet(const uint8_t *text, size_t text_len,
                          uint64_t *numbers, size_t numbers_len,
@@ -102,7 +104,7 @@ uint64_t varmityep_sheet(const uint8_t *text, size_t text_len,
 
 /*
  * Reads requirement text: refusal 0 or 2. Writes nodes (MARGIN_NODES), 0 beyond the last node, and
- * their count at count[0]. Under refusal 2 all are 0.
+ * their count at count[0].
  */
 uint64_t varmityep_requirement(const uint8_t *text, size_t text_len,
                                uint64_t *nodes, size_t nodes_len,
@@ -112,8 +114,7 @@ uint64_t varmityep_requirement(const uint8_t *text, size_t text_len,
  * Reads rows, the part of a sheet's text from MARGIN_SHEET_ROWS on: refusal 0, 1, 4 (channels) or
  * 5 (more measured rows than 4,096, than times, or than values has room for). Fills times, one for
  * each measured row, and values, channels for each, in order; later places keep their contents.
- * Writes counts (MARGIN_COUNTS). With no measured row it succeeds with 0. Under a refusal times and
- * values keep their contents and counts are 0.
+ * Writes counts (MARGIN_COUNTS). With no measured row it succeeds with 0.
  */
 uint64_t varmityep_rows(const uint8_t *text, size_t text_len, uint64_t channels,
                         uint64_t *times, size_t times_len,
@@ -123,8 +124,7 @@ uint64_t varmityep_rows(const uint8_t *text, size_t text_len, uint64_t channels,
 /*
  * The margin of a recording: refusal 0 or 3 to 8. The recording has times_len rows; values has
  * times_len x channels. work needs count x times_len cells: cell k x times_len + i ends as node k's
- * margin at sample i; later cells keep their contents. Writes the margin at result[0]. Under a
- * refusal work keeps its contents and result[0] is 0.
+ * margin at sample i; later cells keep their contents. Writes the margin at result[0].
  */
 uint64_t varmityep_margin(const uint64_t *nodes, size_t nodes_len, uint64_t count,
                           const uint64_t *ranges, size_t ranges_len,
@@ -138,8 +138,7 @@ uint64_t varmityep_margin(const uint64_t *nodes, size_t nodes_len, uint64_t coun
 /*
  * The verdict on a recording: refusal 0 or 3 to 11. work needs 2 x count x times_len cells: row 2k
  * has node k's strengthened margins, row 2k + 1 those of its negation; later cells keep their
- * contents. Writes result (MARGIN_RESULT): the verdict, hold, fail. Under a refusal work keeps its
- * contents and result is MARGIN_NOT_SHOWN, 0, 0.
+ * contents. Writes result (MARGIN_RESULT): the verdict, hold, fail.
  */
 uint64_t varmityep_verdict(const uint64_t *nodes, size_t nodes_len, uint64_t count,
                            const uint64_t *ranges, size_t ranges_len,
