@@ -1,6 +1,6 @@
 //! Document 01's example, whole and by its parts, and every refusal number.
 
-use margin::{
+use varmityep::{
     answer, margin, read_requirement, read_rows, read_sheet, verdict, Counts, Judgement, Node,
     Predicate, Predicates, Range, Recording, Refusal, Table, Verdict,
 };

@@ -1,10 +1,10 @@
 -- A refusal is handed back at once, and the reader has left its slices as they were. Else what was read is what is written.
 -- Assumes nothing.
 use mathlib.Core.Path.{sym}
-use Rattle.exports.proofs.Handed.{kept}
+use Rattle.varmityep.proofs.Handed.{kept}
 use borrow.Author.Needs.{needs}
-use Rattle.exports.proofs.varmityep_rows.Statement.{statement}
-use Rattle.exports.proofs.varmityep_rows.Tie as tie
+use Rattle.varmityep.proofs.varmityep_rows.Statement.{statement}
+use Rattle.varmityep.proofs.varmityep_rows.Tie as tie
 
 read-rows-requires : tie.Need-read-rows-requires
 read-rows-requires c κs = search needs

@@ -1,5 +1,5 @@
 // The library for C and Rust: every function takes and hands back flat numbers and slices, and the number of the refusal, 0 for none; `varmityep_answer` prints it. Nothing is asked of a caller
-// but that each slice is a pointer and a length that belong together. include/margin.h has the declarations in C.
+// but that each slice is a pointer and a length that belong together. include/varmityep.h has the declarations in C.
 use recordings::Verdict;
 ghost use mathlib.Core.Path.{_≡_};
 ghost use mathlib.Core.List.{[], _∷_};
@@ -17,7 +17,7 @@ ghost use Rattle.margins.specs.Answers.{outcome as margin-outcome, judged as ma
 ghost use Rattle.verdicts.specs.Answer.{outcome as verdict-outcome, judged as verdict-judged, cells-after as verdict-cells};
 ghost use Rattle.answers.specs.Answers.{answer-of-text};
 ghost use Rattle.answers.specs.Printed.{line-of};
-ghost use Rattle.exports.specs.Places.{sheet-places, row-places, card-from, handed, margin-handed, verdict-number, verdict-handed};
+ghost use Rattle.varmityep.specs.Places.{sheet-places, row-places, card-from, handed, margin-handed, verdict-number, verdict-handed};
 
 // The printed line of the answer to a whole text, and its length.
 #[no_mangle]

@@ -20,7 +20,7 @@ use Rattle.sheet_rows.specs.Answer.{in-front}
 use Rattle.flat.specs.Written.{written}
 use Rattle.flat.specs.Tables.{table-from}
 use Rattle.flat.specs.Predicates.{ranges-of, ends-of, predicates-from}
-use Rattle.exports.specs.Places.{handed}
+use Rattle.varmityep.specs.Places.{handed}
 use Rattle.flat.proofs.Back.{predicates-back, table-read-back}
 
 -- under a refusal a slice keeps what it held

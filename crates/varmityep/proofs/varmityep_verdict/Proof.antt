@@ -1,9 +1,9 @@
 -- The flat numbers are the table and the predicates that the verdict is asked of; its answer is what is written.
 -- Assumes nothing.
 use borrow.Author.Needs.{needs}
-use Rattle.exports.specs.Places.{card-from}
-use Rattle.exports.proofs.varmityep_verdict.Statement.{statement}
-use Rattle.exports.proofs.varmityep_verdict.Tie as tie
+use Rattle.varmityep.specs.Places.{card-from}
+use Rattle.varmityep.proofs.varmityep_verdict.Statement.{statement}
+use Rattle.varmityep.proofs.varmityep_verdict.Tie as tie
 
 table-from-requires : tie.Need-table-from-requires
 table-from-requires c κs = search needs

@@ -1,10 +1,10 @@
 -- Under number 0 the places are written; else the slice is left as it is.
 -- Assumes nothing.
 use mathlib.Core.Path.{refl}
-use Rattle.exports.proofs.Handed.{kept}
+use Rattle.varmityep.proofs.Handed.{kept}
 use borrow.Author.Needs.{needs}
-use Rattle.exports.proofs.hand.Statement.{statement}
-use Rattle.exports.proofs.hand.Tie as tie
+use Rattle.varmityep.proofs.hand.Statement.{statement}
+use Rattle.varmityep.proofs.hand.Tie as tie
 
 write-values-requires : tie.Need-write-values-requires
 write-values-requires c κs = search needs

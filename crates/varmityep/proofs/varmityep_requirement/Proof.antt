@@ -1,10 +1,10 @@
 -- A refusal is handed back at once. Else what was read is what is written, its table as flat numbers.
 -- Assumes nothing.
 use mathlib.Core.Path.{refl}
-use Rattle.exports.proofs.Handed.{kept}
+use Rattle.varmityep.proofs.Handed.{kept}
 use borrow.Author.Needs.{needs}
-use Rattle.exports.proofs.varmityep_requirement.Statement.{statement}
-use Rattle.exports.proofs.varmityep_requirement.Tie as tie
+use Rattle.varmityep.proofs.varmityep_requirement.Statement.{statement}
+use Rattle.varmityep.proofs.varmityep_requirement.Tie as tie
 
 read-requirement-requires : tie.Need-read-requirement-requires
 read-requirement-requires c κs = search needs
