@@ -1,4 +1,4 @@
-//! Tables and predicates of plain Rust as the library's flat numbers (`include/margin.h`).
+//! Tables and predicates of plain Rust as the library's flat numbers (`include/varmityep.h`).
 
 use crate::plain::{Node, Predicate, Range};
 

@@ -1,10 +1,10 @@
 //! Links the proved static library: the file that PROVED_LIBRARY names, or the one that
-//! `rt staticlib exports` writes.
+//! `rt staticlib varmityep` writes.
 
 use std::env;
 use std::path::{Path, PathBuf};
 
-const BUILT: &str = "../target/staticlib/libexports.a";
+const BUILT: &str = "../target/staticlib/libvarmityep.a";
 
 fn main() {
     println!("cargo:rerun-if-env-changed=PROVED_LIBRARY");
@@ -17,7 +17,7 @@ fn main() {
             println!("cargo:rustc-link-lib=static={name}");
         }
         // Checking and documenting need no library, so this is left to the linker to refuse.
-        None => println!("cargo:warning=no library {}: rt staticlib exports", file.display()),
+        None => println!("cargo:warning=no library {}: rt staticlib varmityep", file.display()),
     }
 }
 

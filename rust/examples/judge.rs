@@ -3,9 +3,9 @@
 //!
 //! `cargo run --example judge -- ../examples/booster-turn-up.sheet`
 
-use margin::{Counts, Judgement, Recording, Refusal};
 use std::process::ExitCode;
 use std::{env, fs};
+use varmityep::{Counts, Judgement, Recording, Refusal};
 
 /// What is printed when nothing is refused.
 struct Figures {
@@ -15,26 +15,26 @@ struct Figures {
 }
 
 fn figures(text: &[u8]) -> Result<Figures, Refusal> {
-    let sheet = margin::read_sheet(text)?;
-    let table = margin::read_requirement(sheet.requirement)?;
+    let sheet = varmityep::read_sheet(text)?;
+    let table = varmityep::read_requirement(sheet.requirement)?;
 
-    let mut times = vec![0; margin::ANSWER_ROWS];
-    let mut values = vec![0; 8 * margin::ANSWER_ROWS];
+    let mut times = vec![0; varmityep::ANSWER_ROWS];
+    let mut values = vec![0; 8 * varmityep::ANSWER_ROWS];
     // Rows that are unread or too many leave a recording without a sample: that is 4 or 5 again,
     // and a table broken by 3 still goes first.
-    let counts =
-        margin::read_rows(sheet.rows, sheet.channels, &mut times, &mut values).unwrap_or_default();
+    let counts = varmityep::read_rows(sheet.rows, sheet.channels, &mut times, &mut values)
+        .unwrap_or_default();
     let recording = Recording {
         channels: sheet.channels,
         times: &times[..counts.measured],
         values: &values[..counts.measured * sheet.channels as usize],
     };
 
-    let mut work = vec![0; margin::ANSWER_CELLS];
+    let mut work = vec![0; varmityep::ANSWER_CELLS];
     let predicates = &sheet.predicates;
     let judgement =
-        margin::verdict(&table, predicates, &recording, sheet.step, sheet.drift, &mut work)?;
-    let margin = margin::margin(&table, predicates, &recording, &mut work)?;
+        varmityep::verdict(&table, predicates, &recording, sheet.step, sheet.drift, &mut work)?;
+    let margin = varmityep::margin(&table, predicates, &recording, &mut work)?;
     Ok(Figures { counts, margin, judgement })
 }
 
@@ -57,7 +57,7 @@ fn main() -> ExitCode {
                 return ExitCode::FAILURE;
             }
         };
-        print!("{}", margin::answer(&text));
+        print!("{}", varmityep::answer(&text));
         print_figures(&text);
     }
     ExitCode::SUCCESS

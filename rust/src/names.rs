@@ -1,6 +1,6 @@
 //! The library's C names, as functions on slices. Nothing checks these declarations against the
 //! library's source, so they are few, flat, and stand in this file alone, with all `unsafe`.
-//! `include/margin.h` says what each place holds.
+//! `include/varmityep.h` says what each place holds.
 
 extern "C" {
     fn varmityep_answer(text: *const u8, text_len: usize, line: *mut u8, line_len: usize) -> usize;

@@ -3,8 +3,8 @@
 use std::error::Error;
 use std::fmt;
 
-/// Why an input is refused. Of several reasons the lowest number is given.
-#[derive(Clone, Copy, PartialEq, Eq, PartialOrd, Ord, Hash, Debug)]
+/// Why an input is refused. Of several reasons the first of this list is given.
+#[derive(Clone, Copy, PartialEq, Eq, Hash, Debug)]
 pub enum Refusal {
     Text = 1,
     Requirement = 2,
@@ -20,7 +20,7 @@ pub enum Refusal {
 }
 
 impl Refusal {
-    /// Every refusal, by rising number.
+    /// Every refusal, in the order in which they count.
     pub const ALL: [Refusal; 11] = [
         Refusal::Text,
         Refusal::Requirement,
@@ -35,7 +35,7 @@ impl Refusal {
         Refusal::Jump,
     ];
 
-    /// Document 01's number, 1 to 11.
+    /// Document 01's number.
     pub fn number(self) -> u64 {
         self as u64
     }
@@ -43,12 +43,13 @@ impl Refusal {
     /// Nothing, or the refusal of that number.
     ///
     /// # Panics
-    /// For a number above 11, which the library never returns.
+    /// For a number that no refusal has, which the library never returns.
     pub(crate) fn check(number: u64) -> Result<(), Refusal> {
-        match number {
-            0 => Ok(()),
-            _ => Err(Refusal::ALL[number as usize - 1]),
+        if number == 0 {
+            return Ok(());
         }
+        let refusal = Refusal::ALL.into_iter().find(|refusal| refusal.number() == number);
+        Err(refusal.expect("a number of the library's list"))
     }
 }
 

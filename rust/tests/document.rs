@@ -1,6 +1,6 @@
 //! Document 01's example, whole and by its parts, and every refusal number.
 
-use margin::{
+use varmityep::{
     answer, margin, read_requirement, read_rows, read_sheet, verdict, Counts, Judgement, Node,
     Predicate, Predicates, Range, Recording, Refusal, Table, Verdict,
 };
@@ -132,7 +132,8 @@ fn every_refusal_of_margin_and_verdict() {
         let mut call = whole();
         break_it(&mut call);
         // The margin knows neither step nor drift.
-        let plain = Some(refusal).filter(|refusal| refusal.number() <= 8);
+        let late = [Refusal::StepOrDrift, Refusal::Gap, Refusal::Jump].contains(&refusal);
+        let plain = Some(refusal).filter(|_| !late);
         assert_eq!(refusals(&call), (plain, Some(refusal)));
     }
     // Between the two needs of cells, the margin has room and the verdict has not.
@@ -155,7 +156,7 @@ fn every_refusal_of_the_readers() {
 }
 
 #[test]
-fn refusals_count_from_one() {
-    let numbers: Vec<u64> = Refusal::ALL.iter().map(|refusal| refusal.number()).collect();
-    assert_eq!(numbers, (1..=11).collect::<Vec<u64>>());
+fn refusals_have_the_papers_numbers() {
+    let numbers = Refusal::ALL.map(Refusal::number);
+    assert_eq!(numbers, [1, 2, 3, 4, 5, 6, 7, 8, 9, 10, 11]);
 }

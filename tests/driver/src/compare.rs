@@ -1,7 +1,7 @@
 //! One input put to each implementation at hand, and the answers compared.
 
 use crate::flat::{flat_predicates, flat_table, Peer};
-use crate::library::{FlatCall, Library};
+use crate::library::{FlatCall, FlatPredicates, FlatSheet, FlatTable, Library};
 use crate::program::Program;
 use peer::generate::calls::Call;
 use std::fmt::Debug;
@@ -44,27 +44,45 @@ pub fn program(others: &Others, text: &[u8], printed: &[u8]) -> Result<(), Strin
     }
 }
 
-pub fn sheets(others: &Others, text: &[u8]) -> Result<(), String> {
-    let Some(library) = &others.library else { return Ok(()) };
-    let (ours, theirs) = (Peer.sheet(text), library.sheet(text));
-    if ours.0 != theirs.0 || (ours.0 == 0 && ours.1 != theirs.1) {
-        return Err(differ("sheet", ours, theirs));
+/// What stands in every place before a call: what is not written is seen, and so is what is
+/// written under a refusal.
+const NOISE: u64 = 0x5A5A_5A5A;
+const SIGNED_NOISE: i64 = -0x5A5A_5A5A;
+
+/// What the peer gives and leaves in the lent places, which the library must give and leave too.
+fn same<T: PartialEq + Debug>(
+    others: &Others,
+    what: &str,
+    ask: impl Fn(&dyn Library) -> T,
+) -> Result<T, String> {
+    let ours = ask(&Peer);
+    if let Some(library) = &others.library {
+        let theirs = ask(library.as_ref());
+        if ours != theirs {
+            return Err(differ(what, ours, theirs));
+        }
     }
-    Ok(())
+    Ok(ours)
+}
+
+pub fn sheets(others: &Others, text: &[u8]) -> Result<(), String> {
+    let read = |library: &dyn Library| {
+        let predicates = FlatPredicates { ranges: [NOISE; 32], ends: [SIGNED_NOISE; 32] };
+        let mut sheet = FlatSheet { numbers: [NOISE; 6], predicates };
+        (library.sheet(text, &mut sheet), sheet)
+    };
+    same(others, "sheet", read).map(|_| ())
 }
 
 pub fn requirements(others: &Others, text: &[u8]) -> Result<u64, String> {
-    let ours = Peer.requirement(text);
-    if let Some(library) = &others.library {
-        let theirs = library.requirement(text);
-        if ours != theirs {
-            return Err(differ("requirement", ours, theirs));
-        }
-    }
-    Ok(ours.0)
+    let read = |library: &dyn Library| {
+        let mut table = FlatTable { count: NOISE, nodes: [NOISE; 320] };
+        (library.requirement(text, &mut table), table)
+    };
+    Ok(same(others, "requirement", read)?.0)
 }
 
-/// The row reader, with slices of the given lengths that hold noise.
+/// The row reader, with slices of the given lengths.
 pub fn rows(
     others: &Others,
     text: &[u8],
@@ -72,18 +90,12 @@ pub fn rows(
     lengths: (usize, usize),
 ) -> Result<u64, String> {
     let read = |library: &dyn Library| {
-        let (mut times, mut values) = (vec![77; lengths.0], vec![-77; lengths.1]);
-        let handed = library.rows(text, channels, &mut times, &mut values);
-        (handed, times, values)
+        let (mut times, mut values) = (vec![NOISE; lengths.0], vec![SIGNED_NOISE; lengths.1]);
+        let mut counts = [NOISE; 2];
+        let number = library.rows(text, channels, &mut times, &mut values, &mut counts);
+        (number, counts, times, values)
     };
-    let ours = read(&Peer);
-    if let Some(library) = &others.library {
-        let theirs = read(library.as_ref());
-        if ours != theirs {
-            return Err(differ("rows", ours, theirs));
-        }
-    }
-    Ok(ours.0 .0)
+    Ok(same(others, "rows", read)?.0)
 }
 
 /// Refusal numbers of margin and verdict.
@@ -100,18 +112,13 @@ pub fn calls(others: &Others, call: &Call) -> Result<(u64, u64), String> {
         times: &call.recording.times,
         values: &call.recording.values,
     };
-    let ask = |library: &dyn Library| {
-        let (mut plain, mut strengthened) = (call.work.clone(), call.work.clone());
-        let margin = library.margin(&flat, &mut plain);
-        let verdict = library.verdict(&flat, call.step, call.drift, &mut strengthened);
-        (margin, verdict, plain, strengthened)
-    };
-    let ours = ask(&Peer);
-    if let Some(library) = &others.library {
-        let theirs = ask(library.as_ref());
-        if ours != theirs {
-            return Err(differ("margin, verdict and work", ours, theirs));
-        }
-    }
-    Ok((ours.0 .0, ours.1 .0))
+    let margin = same(others, "margin", |library| {
+        let (mut work, mut result) = (call.work.clone(), [SIGNED_NOISE]);
+        (library.margin(&flat, &mut work, &mut result), result, work)
+    })?;
+    let verdict = same(others, "verdict", |library| {
+        let (mut work, mut result) = (call.work.clone(), [SIGNED_NOISE; 3]);
+        (library.verdict(&flat, call.step, call.drift, &mut work, &mut result), result, work)
+    })?;
+    Ok((margin.0, verdict.0))
 }

@@ -6,7 +6,7 @@ use peer::recording::Recording;
 use peer::refusal::Refusal;
 use peer::sheet::Sheet;
 use peer::table::{Node, Table};
-use peer::verdict::Verdict;
+use peer::verdict::{Judgement, Verdict};
 
 pub fn flat_table(table: &Table) -> FlatTable {
     let mut nodes = [0; 320];
@@ -76,8 +76,15 @@ fn recording(call: &FlatCall) -> Recording {
     Recording { channels: call.channels, times: call.times.to_vec(), values: call.values.to_vec() }
 }
 
-fn number<T>(result: &Result<T, Refusal>) -> u64 {
-    result.as_ref().err().map_or(0, |refusal| refusal.number())
+/// The number of a refusal; where there is none, what was found is put in its place.
+fn hand<T, F>(found: Result<T, Refusal>, flat: impl Fn(T) -> F, place: &mut F) -> u64 {
+    match found {
+        Ok(found) => {
+            *place = flat(found);
+            0
+        }
+        Err(refusal) => refusal.number(),
+    }
 }
 
 /// The peer.
@@ -90,15 +97,12 @@ impl Library for Peer {
         printed.len()
     }
 
-    fn sheet(&self, text: &[u8]) -> (u64, FlatSheet) {
-        let sheet = peer::sheet::read_sheet(text);
-        let blank = FlatSheet { numbers: [0; 6], predicates: flat_predicates(&[UNSET; 16]) };
-        (number(&sheet), sheet.map_or(blank, |sheet| flat_sheet(&sheet)))
+    fn sheet(&self, text: &[u8], sheet: &mut FlatSheet) -> u64 {
+        hand(peer::sheet::read_sheet(text), |read| flat_sheet(&read), sheet)
     }
 
-    fn requirement(&self, text: &[u8]) -> (u64, FlatTable) {
-        let table = peer::grammar::read_requirement(text);
-        (number(&table), flat_table(&table.unwrap_or_default()))
+    fn requirement(&self, text: &[u8], table: &mut FlatTable) -> u64 {
+        hand(peer::grammar::read_requirement(text), |read| flat_table(&read), table)
     }
 
     fn rows(
@@ -107,30 +111,37 @@ impl Library for Peer {
         channels: u64,
         times: &mut [u64],
         values: &mut [i64],
-    ) -> (u64, [u64; 2]) {
-        let counts = peer::rows::read_rows(text, channels, times, values);
-        let flat = counts.map_or([0, 0], |counts| [counts.measured as u64, counts.filled as u64]);
-        (number(&counts), flat)
+        counts: &mut [u64; 2],
+    ) -> u64 {
+        let read = peer::rows::read_rows(text, channels, times, values);
+        hand(read, |read| [read.measured as u64, read.filled as u64], counts)
     }
 
-    fn margin(&self, call: &FlatCall, work: &mut [i64]) -> (u64, i64) {
+    fn margin(&self, call: &FlatCall, work: &mut [i64], result: &mut [i64; 1]) -> u64 {
         let (table, predicates) = (table(call.table), predicates(call.predicates));
         let margin = peer::margin::margin(&table, &predicates, &recording(call), work);
-        (number(&margin), margin.unwrap_or(0))
+        hand(margin, |margin| [margin], result)
     }
 
-    fn verdict(&self, call: &FlatCall, step: u64, drift: u64, work: &mut [i64]) -> (u64, [i64; 3]) {
+    fn verdict(
+        &self,
+        call: &FlatCall,
+        step: u64,
+        drift: u64,
+        work: &mut [i64],
+        result: &mut [i64; 3],
+    ) -> u64 {
         let (table, predicates) = (table(call.table), predicates(call.predicates));
         let judgement =
             peer::verdict::verdict(&table, &predicates, &recording(call), step, drift, work);
-        let flat = judgement.map_or([0, 0, 0], |judgement| {
+        let flat = |judgement: Judgement| {
             let verdict = match judgement.verdict {
                 Verdict::NotShown => 0,
                 Verdict::Holds => 1,
                 Verdict::Fails => 2,
             };
             [verdict, judgement.hold, judgement.fail]
-        });
-        (number(&judgement), flat)
+        };
+        hand(judgement, flat, result)
     }
 }

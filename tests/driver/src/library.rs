@@ -1,8 +1,8 @@
 //! The library as the driver calls it: flat numbers and slices, the same for the proved static
 //! library and for the peer in its place.
 //!
-//! A refusal is its number, 0 for none. Places named "handed back" are written in every case,
-//! with what document 01 hands back on refusal; slices named "lent" change as document 01 says.
+//! A refusal is its number, 0 for none. Whatever is lent is written under 0 alone and keeps its
+//! contents under every other number.
 
 use peer::limits::{MOST_NODES, PREDICATES};
 
@@ -48,28 +48,35 @@ pub struct FlatSheet {
 }
 
 pub trait Library {
-    /// The whole answer: the printed line's length. Lent: line, of which the rest keeps its bytes.
+    /// The whole answer: the printed line's length. A refusal is a line too.
     fn answer(&self, text: &[u8], line: &mut [u8]) -> usize;
 
-    /// Refusal 0 or 1. The sheet counts only under 0.
-    fn sheet(&self, text: &[u8]) -> (u64, FlatSheet);
+    /// Refusal 0 or 1.
+    fn sheet(&self, text: &[u8], sheet: &mut FlatSheet) -> u64;
 
-    /// Refusal 0 or 2 and the table; the empty one, all 0, under 2.
-    fn requirement(&self, text: &[u8]) -> (u64, FlatTable);
+    /// Refusal 0 or 2.
+    fn requirement(&self, text: &[u8], table: &mut FlatTable) -> u64;
 
-    /// Refusal 0, 1, 4 or 5; measured and filled rows, 0 and 0 under a refusal. Lent: times, values.
+    /// Refusal 0, 1, 4 or 5; measured and filled rows in counts.
     fn rows(
         &self,
         text: &[u8],
         channels: u64,
         times: &mut [u64],
         values: &mut [i64],
-    ) -> (u64, [u64; 2]);
+        counts: &mut [u64; 2],
+    ) -> u64;
 
-    /// Refusal 0 or 3 to 8; the margin, 0 under a refusal. Lent: work.
-    fn margin(&self, call: &FlatCall, work: &mut [i64]) -> (u64, i64);
+    /// Refusal 0 or 3 to 8; the margin in result.
+    fn margin(&self, call: &FlatCall, work: &mut [i64], result: &mut [i64; 1]) -> u64;
 
-    /// Refusal 0 or 3 to 11; verdict (0 not shown, 1 holds, 2 fails), hold and fail, all 0 under
-    /// a refusal. Lent: work.
-    fn verdict(&self, call: &FlatCall, step: u64, drift: u64, work: &mut [i64]) -> (u64, [i64; 3]);
+    /// Refusal 0 or 3 to 11; verdict (0 not shown, 1 holds, 2 fails), hold and fail in result.
+    fn verdict(
+        &self,
+        call: &FlatCall,
+        step: u64,
+        drift: u64,
+        work: &mut [i64],
+        result: &mut [i64; 3],
+    ) -> u64;
 }

@@ -5,9 +5,6 @@ use crate::library::{FlatCall, FlatPredicates, FlatSheet, FlatTable, Library};
 #[path = "../../../rust/src/names.rs"]
 mod names;
 
-/// Noise that every place handed back must lose.
-const NOISE: u64 = 0x5A5A_5A5A;
-
 pub struct Proved;
 
 fn flat<'a>(call: &FlatCall<'a>) -> names::Call<'a> {
@@ -27,18 +24,13 @@ impl Library for Proved {
         names::answer(text, line)
     }
 
-    fn sheet(&self, text: &[u8]) -> (u64, FlatSheet) {
-        let mut numbers = [NOISE; 6];
-        let mut predicates = FlatPredicates { ranges: [NOISE; 32], ends: [NOISE as i64; 32] };
-        let (ranges, ends) = (&mut predicates.ranges, &mut predicates.ends);
-        let refusal = names::sheet(text, &mut numbers, ranges, ends);
-        (refusal, FlatSheet { numbers, predicates })
+    fn sheet(&self, text: &[u8], sheet: &mut FlatSheet) -> u64 {
+        let FlatSheet { numbers, predicates: FlatPredicates { ranges, ends } } = sheet;
+        names::sheet(text, numbers, ranges, ends)
     }
 
-    fn requirement(&self, text: &[u8]) -> (u64, FlatTable) {
-        let (mut nodes, mut count) = ([NOISE; 320], [NOISE]);
-        let refusal = names::requirement(text, &mut nodes, &mut count);
-        (refusal, FlatTable { count: count[0], nodes })
+    fn requirement(&self, text: &[u8], table: &mut FlatTable) -> u64 {
+        names::requirement(text, &mut table.nodes, std::slice::from_mut(&mut table.count))
     }
 
     fn rows(
@@ -47,21 +39,23 @@ impl Library for Proved {
         channels: u64,
         times: &mut [u64],
         values: &mut [i64],
-    ) -> (u64, [u64; 2]) {
-        let mut counts = [NOISE; 2];
-        let refusal = names::rows(text, channels, times, values, &mut counts);
-        (refusal, counts)
+        counts: &mut [u64; 2],
+    ) -> u64 {
+        names::rows(text, channels, times, values, counts)
     }
 
-    fn margin(&self, call: &FlatCall, work: &mut [i64]) -> (u64, i64) {
-        let mut result = [NOISE as i64];
-        let refusal = names::margin(&flat(call), work, &mut result);
-        (refusal, result[0])
+    fn margin(&self, call: &FlatCall, work: &mut [i64], result: &mut [i64; 1]) -> u64 {
+        names::margin(&flat(call), work, result)
     }
 
-    fn verdict(&self, call: &FlatCall, step: u64, drift: u64, work: &mut [i64]) -> (u64, [i64; 3]) {
-        let mut result = [NOISE as i64; 3];
-        let refusal = names::verdict(&flat(call), step, drift, work, &mut result);
-        (refusal, result)
+    fn verdict(
+        &self,
+        call: &FlatCall,
+        step: u64,
+        drift: u64,
+        work: &mut [i64],
+        result: &mut [i64; 3],
+    ) -> u64 {
+        names::verdict(&flat(call), step, drift, work, result)
     }
 }

@@ -1,9 +1,15 @@
 //! The peer behind the proved library's C names: so that the declarations and the flat numbers
-//! are tried where no proved library is at hand. Also what an exports crate is to look like.
+//! are tried where no proved library is at hand. It takes slices of the whole lengths alone, where
+//! the proved library takes any.
 
 use crate::flat::Peer;
-use crate::library::{FlatCall, FlatPredicates, FlatTable, Library};
+use crate::library::{FlatCall, FlatPredicates, FlatSheet, FlatTable, Library};
 use std::slice::{from_raw_parts, from_raw_parts_mut};
+
+/// A slice that is lent whole, as an array in its place.
+unsafe fn whole<'a, T, const N: usize>(place: *mut T, len: usize) -> &'a mut [T; N] {
+    from_raw_parts_mut(place, len).try_into().expect("a slice of the whole length")
+}
 
 #[no_mangle]
 unsafe extern "C" fn varmityep_answer(
@@ -26,10 +32,12 @@ unsafe extern "C" fn varmityep_sheet(
     ends: *mut i64,
     ends_len: usize,
 ) -> u64 {
-    let (refusal, sheet) = Peer.sheet(from_raw_parts(text, text_len));
-    from_raw_parts_mut(numbers, numbers_len).copy_from_slice(&sheet.numbers);
-    from_raw_parts_mut(ranges, ranges_len).copy_from_slice(&sheet.predicates.ranges);
-    from_raw_parts_mut(ends, ends_len).copy_from_slice(&sheet.predicates.ends);
+    let (numbers, ranges) = (whole(numbers, numbers_len), whole(ranges, ranges_len));
+    let ends = whole(ends, ends_len);
+    let predicates = FlatPredicates { ranges: *ranges, ends: *ends };
+    let mut sheet = FlatSheet { numbers: *numbers, predicates };
+    let refusal = Peer.sheet(from_raw_parts(text, text_len), &mut sheet);
+    (*numbers, *ranges, *ends) = (sheet.numbers, sheet.predicates.ranges, sheet.predicates.ends);
     refusal
 }
 
@@ -42,9 +50,10 @@ unsafe extern "C" fn varmityep_requirement(
     count: *mut u64,
     count_len: usize,
 ) -> u64 {
-    let (refusal, table) = Peer.requirement(from_raw_parts(text, text_len));
-    from_raw_parts_mut(nodes, nodes_len).copy_from_slice(&table.nodes);
-    from_raw_parts_mut(count, count_len).copy_from_slice(&[table.count]);
+    let (nodes, [count]) = (whole(nodes, nodes_len), whole(count, count_len));
+    let mut table = FlatTable { count: *count, nodes: *nodes };
+    let refusal = Peer.requirement(from_raw_parts(text, text_len), &mut table);
+    (*count, *nodes) = (table.count, table.nodes);
     refusal
 }
 
@@ -62,14 +71,13 @@ unsafe extern "C" fn varmityep_rows(
 ) -> u64 {
     let times = from_raw_parts_mut(times, times_len);
     let values = from_raw_parts_mut(values, values_len);
-    let (refusal, handed) = Peer.rows(from_raw_parts(text, text_len), channels, times, values);
-    from_raw_parts_mut(counts, counts_len).copy_from_slice(&handed);
-    refusal
+    let counts = whole(counts, counts_len);
+    Peer.rows(from_raw_parts(text, text_len), channels, times, values, counts)
 }
 
 /// Margin and verdict are handed the same; the verdict its step and drift, too.
 macro_rules! judging {
-    ($name:ident, [$($number:ident),*], $ask:expr) => {
+    ($name:ident, [$($number:ident),*], $ask:ident) => {
         #[no_mangle]
         unsafe extern "C" fn $name(
             nodes: *const u64,
@@ -101,21 +109,13 @@ macro_rules! judging {
                 values: from_raw_parts(values, values_len),
             };
             let work = from_raw_parts_mut(work, work_len);
-            let (refusal, handed) = $ask(&call, $($number,)* work);
-            from_raw_parts_mut(result, result_len).copy_from_slice(&handed);
-            refusal
+            Peer.$ask(&call, $($number,)* work, whole(result, result_len))
         }
     };
 }
 
-judging!(varmityep_margin, [], |call: &FlatCall, work| {
-    let (refusal, margin) = Peer.margin(call, work);
-    (refusal, [margin])
-});
-
-judging!(varmityep_verdict, [step, drift], |call: &FlatCall, step, drift, work| {
-    Peer.verdict(call, step, drift, work)
-});
+judging!(varmityep_margin, [], margin);
+judging!(varmityep_verdict, [step, drift], verdict);
 
 #[test]
 fn the_peer_behind_the_c_names_agrees_with_itself() {

@@ -33,6 +33,19 @@ impl Refusal {
     }
 }
 
+/// The numbers in the order in which they count, which need not be that of their size.
+pub const ORDER: [u64; 11] = [1, 2, 3, 4, 5, 6, 7, 8, 9, 10, 11];
+
+/// The one of these numbers that counts first, 0 where there is none.
+pub fn first_of(numbers: &[u64]) -> u64 {
+    ORDER.into_iter().find(|number| numbers.contains(number)).unwrap_or(0)
+}
+
+/// These numbers, each once, the one that counts first at the end.
+pub fn last_to_first(numbers: &[u64]) -> Vec<u64> {
+    ORDER.into_iter().rev().filter(|number| numbers.contains(number)).collect()
+}
+
 /// Refuses when the condition holds. Conditions are written down in the order in which they win.
 pub fn when(condition: bool, refusal: Refusal) -> Result<(), Refusal> {
     if condition {

@@ -6,6 +6,7 @@ use super::requirements::Taste;
 use crate::limits::{LARGEST_VALUE, LAST_TIME, NO_END};
 use crate::predicate::{Predicate, Predicates, Range, UNSET};
 use crate::recording::Recording;
+use crate::refusal::{first_of, last_to_first};
 use crate::table::{kind, Node, Table};
 
 /// What margin and verdict are given.
@@ -30,27 +31,28 @@ pub struct Foretold {
 
 pub fn call(rng: &mut Prng) -> Foretold {
     let mut call = sound(rng);
-    let mut faults: Vec<u64> = if rng.once_in(2) {
+    let faults: Vec<u64> = if rng.once_in(2) {
         Vec::new()
     } else {
         (0..1 + rng.below(2)).map(|_| rng.pick(&[3, 4, 5, 6, 7, 9, 10, 11])).collect()
     };
-    // A fault of a lower number may undo one of a higher number, and wins anyway.
-    faults.sort_unstable_by(|one, other| other.cmp(one));
-    faults.dedup();
+    // A fault may undo one that counts later, and wins anyway.
+    let faults = last_to_first(&faults);
     for &fault in &faults {
         put(rng, &mut call, fault);
     }
     let cells = call.table.count() * call.recording.rows();
     let length = lent(rng, cells);
     call.work = (0..length).map(|_| rng.word() as i64).collect();
-    let first = |mut numbers: Vec<u64>, short: bool, least: u64, most: u64| {
+    let first = |mut numbers: Vec<u64>, short: bool| {
         numbers.extend(short.then_some(8));
-        numbers.into_iter().filter(|number| (least..=most).contains(number)).min().unwrap_or(0)
+        first_of(&numbers)
     };
+    // The margin knows neither step nor drift.
+    let plain = faults.iter().copied().filter(|fault| ![9, 10, 11].contains(fault)).collect();
     Foretold {
-        margin: first(faults.clone(), length < cells, 3, 8),
-        verdict: first(faults, length < 2 * cells, 3, 11),
+        margin: first(plain, length < cells),
+        verdict: first(faults, length < 2 * cells),
         call,
     }
 }

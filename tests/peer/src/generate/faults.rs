@@ -7,15 +7,16 @@ use super::sheets::{filled, sound};
 use crate::limits::{
     LARGEST_SIGNED, LARGEST_STEP, LARGEST_UNSIGNED, LARGEST_VALUE, LAST_TIME, MOST_BYTES,
 };
+use crate::refusal::{first_of, last_to_first, ORDER};
 use crate::rows::Row;
 
 /// A sheet with one to three faults, and the number that it must be refused by.
 pub fn faulty(rng: &mut Prng) -> (Vec<u8>, u64) {
     let mut draft = sound(rng).draft;
-    let mut numbers: Vec<u64> = (0..1 + rng.below(3)).map(|_| rng.between(1, 11) as u64).collect();
-    // A fault of a higher number goes in first: a lower one may undo it, and wins anyway.
-    numbers.sort_unstable_by(|one, other| other.cmp(one));
-    numbers.dedup();
+    let numbers: Vec<u64> = (0..1 + rng.below(3)).map(|_| rng.pick(&ORDER)).collect();
+    // A fault that counts later goes in earlier: one that counts before it may undo it, and wins
+    // anyway.
+    let numbers = last_to_first(&numbers);
     // Cells run out by many rows and nodes, which later faults keep.
     if numbers.contains(&8) {
         too_many_cells(rng, &mut draft);
@@ -23,9 +24,8 @@ pub fn faulty(rng: &mut Prng) -> (Vec<u8>, u64) {
     for &number in &numbers {
         put(rng, &mut draft, number);
     }
-    let least = numbers[numbers.len() - 1];
-    let text = if least == 1 { broken_text(rng, &draft) } else { draft.text() };
-    (text, least)
+    let text = if numbers.contains(&1) { broken_text(rng, &draft) } else { draft.text() };
+    (text, first_of(&numbers))
 }
 
 fn put(rng: &mut Prng, draft: &mut Draft, number: u64) {

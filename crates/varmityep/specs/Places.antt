@@ -6,19 +6,25 @@ use lib.IntN.{ℤ, pos}
 use Rattle.recordings.specs.declared.Verdict.{Verdict}
 use Rattle.recordings.specs.declared.Verdict.the-variants.{Holds, Fails, NotShown}
 use Rattle.recordings.specs.Card.{Card, card}
+use Rattle.refusals.specs.First.{unless-refused}
 use Rattle.margins.specs.Answers.{Outcome as Margin}
 use Rattle.verdicts.specs.Answer.{Outcome as Judgement}
 use Rattle.sheets.specs.declared.Sheet.{Sheet}
 use Rattle.sheet_rows.specs.declared.Answer.{Answer as Rows}
 use Rattle.flat.specs.Predicates.{predicates-from}
+use Rattle.flat.specs.Written.{written}
 
 -- what a requirement is read against: predicates in flat numbers, and a recording
 unfoldable pub card-from : List ℕ → List ℤ → ℕ → List ℕ → List ℤ → Card
 card-from ranges ends channels times values = card channels (predicates-from ranges ends) times values
 
+-- what a slice holds afterwards: new contents in front, and under a refusal what it held before
+abbrev pub handed : {X : Type 0} → ℕ → List X → List X → List X
+handed number new old = unless-refused number (written new old) old
+
 -- the margin
-abbrev pub margin-places : Margin → List ℤ
-margin-places m = m .margin ∷ []
+abbrev pub margin-handed : Margin → List ℤ → List ℤ
+margin-handed m old = handed (m .number) (m .margin ∷ []) old
 
 -- the verdict, hold and fail
 abbrev pub verdict-number : Verdict → ℤ
@@ -26,8 +32,8 @@ verdict-number NotShown = pos 0
 verdict-number Holds = pos 1
 verdict-number Fails = pos 2
 
-abbrev pub verdict-places : Judgement → List ℤ
-verdict-places j = verdict-number (j .verdict) ∷ j .hold ∷ j .fail ∷ []
+abbrev pub verdict-handed : Judgement → List ℤ → List ℤ
+verdict-handed j old = handed (j .number) (verdict-number (j .verdict) ∷ j .hold ∷ j .fail ∷ []) old
 
 -- channels, step, drift, the requirement's first place, the place behind its last, the rows' first place
 abbrev pub sheet-places : Sheet → List ℕ

@@ -1,5 +1,5 @@
 // The library for C and Rust: every function takes and hands back flat numbers and slices, and the number of the refusal, 0 for none; `varmityep_answer` prints it. Nothing is asked of a caller
-// but that each slice is a pointer and a length that belong together. include/margin.h has the declarations in C.
+// but that each slice is a pointer and a length that belong together. include/varmityep.h has the declarations in C.
 use recordings::Verdict;
 ghost use mathlib.Core.Path.{_≡_};
 ghost use mathlib.Core.List.{[], _∷_};
@@ -18,7 +18,7 @@ ghost use Rattle.margins.specs.Answers.{outcome as margin-outcome, judged as ma
 ghost use Rattle.verdicts.specs.Answer.{outcome as verdict-outcome, judged as verdict-judged, cells-after as verdict-cells};
 ghost use Rattle.answers.specs.Answers.{answer-of-text};
 ghost use Rattle.answers.specs.Printed.{LINE, line-of};
-ghost use Rattle.exports.specs.Places.{sheet-places, row-places, card-from, margin-places, verdict-number, verdict-places};
+ghost use Rattle.varmityep.specs.Places.{sheet-places, row-places, card-from, handed, margin-handed, verdict-number, verdict-handed};
 
 // The printed line of the answer to a whole text, and its length.
 #[no_mangle]
@@ -33,7 +33,7 @@ pub extern "C" fn varmityep_answer(text: &[u8], line: &mut [u8]) -> usize
     len
 }
 
-// The head of a sheet. Under refusal 1 the blank sheet is written.
+// The head of a sheet. Like every function below, it writes nothing under a refusal.
 #[no_mangle]
 pub extern "C" fn varmityep_sheet(
     text: &[u8],
@@ -42,11 +42,14 @@ pub extern "C" fn varmityep_sheet(
     ends: &mut [i64],
 ) -> u64
     ensures number { λ r. ⌜ r ≡ sheet-of (now (text .entry)) .number ⌝ }
-    ensures numbers { λ _. ⌜ now (numbers .exit) ≡ written (sheet-places (sheet-of (now (text .entry)))) (now (numbers .entry)) ⌝ }
-    ensures ranges { λ _. ⌜ now (ranges .exit) ≡ written (ranges-of (sheet-of (now (text .entry)) .predicates)) (now (ranges .entry)) ⌝ }
-    ensures ends { λ _. ⌜ now (ends .exit) ≡ written (ends-of (sheet-of (now (text .entry)) .predicates)) (now (ends .entry)) ⌝ }
+    ensures numbers { λ _. ⌜ now (numbers .exit) ≡ handed (sheet-of (now (text .entry)) .number) (sheet-places (sheet-of (now (text .entry)))) (now (numbers .entry)) ⌝ }
+    ensures ranges { λ _. ⌜ now (ranges .exit) ≡ handed (sheet-of (now (text .entry)) .number) (ranges-of (sheet-of (now (text .entry)) .predicates)) (now (ranges .entry)) ⌝ }
+    ensures ends { λ _. ⌜ now (ends .exit) ≡ handed (sheet-of (now (text .entry)) .number) (ends-of (sheet-of (now (text .entry)) .predicates)) (now (ends .entry)) ⌝ }
 {
     let sheet = sheets::read_sheet(text);
+    if sheet.number != 0 {
+        return sheet.number;
+    }
     let places = [
         sheet.channels as u64,
         sheet.step,
@@ -58,24 +61,27 @@ pub extern "C" fn varmityep_sheet(
     flat::write_numbers(&places, numbers);
     let predicates = sheet.predicates;
     flat::write_predicates(predicates, ranges, ends);
-    sheet.number
+    0
 }
 
-// The table of a requirement text; the empty one under refusal 2.
+// The table of a requirement text.
 #[no_mangle]
 pub extern "C" fn varmityep_requirement(text: &[u8], nodes: &mut [u64], count: &mut [u64]) -> u64
     ensures number { λ r. ⌜ r ≡ requirement-of (now (text .entry)) .refusal ⌝ }
-    ensures nodes { λ _. ⌜ now (nodes .exit) ≡ written (cells-of (requirement-of (now (text .entry)) .table .nodes)) (now (nodes .entry)) ⌝ }
-    ensures count { λ _. ⌜ now (count .exit) ≡ written (requirement-of (now (text .entry)) .table .count ∷ []) (now (count .entry)) ⌝ }
+    ensures nodes { λ _. ⌜ now (nodes .exit) ≡ handed (requirement-of (now (text .entry)) .refusal) (cells-of (requirement-of (now (text .entry)) .table .nodes)) (now (nodes .entry)) ⌝ }
+    ensures count { λ _. ⌜ now (count .exit) ≡ handed (requirement-of (now (text .entry)) .refusal) (requirement-of (now (text .entry)) .table .count ∷ []) (now (count .entry)) ⌝ }
 {
     let requirement = requirements::read_requirement(text);
+    if requirement.refusal != 0 {
+        return requirement.refusal;
+    }
     let table = requirement.table;
     let read = table.nodes;
     let cells = flat::cells_of(read);
     flat::write_numbers(&cells, nodes);
     let places = [table.count as u64];
     flat::write_numbers(&places, count);
-    requirement.refusal
+    0
 }
 
 // The measured rows of a text, and the counts of measured and filled rows.
@@ -90,28 +96,39 @@ pub extern "C" fn varmityep_rows(
     ensures number { λ r. ⌜ r ≡ answer-of (now (text .entry)) channels (length (now (times .entry))) (length (now (values .entry))) .number ⌝ }
     ensures times { λ r. ⌜ now (times .exit) ≡ unless-refused r (in-front (times-of (rows-of channels (now (text .entry)))) (now (times .entry))) (now (times .entry)) ⌝ }
     ensures values { λ r. ⌜ now (values .exit) ≡ unless-refused r (in-front (values-of (rows-of channels (now (text .entry)))) (now (values .entry))) (now (values .entry)) ⌝ }
-    ensures counts { λ _. ⌜ now (counts .exit) ≡ written (row-places (answer-of (now (text .entry)) channels (length (now (times .entry))) (length (now (values .entry))))) (now (counts .entry)) ⌝ }
+    ensures counts { λ r. ⌜ now (counts .exit) ≡ handed r (row-places (answer-of (now (text .entry)) channels (length (now (times .entry))) (length (now (values .entry))))) (now (counts .entry)) ⌝ }
 {
     let answer = sheet_rows::read_rows(text, channels as usize, times, values);
+    if answer.number != 0 {
+        return answer.number;
+    }
     let places = [answer.rows as u64, answer.filled as u64];
     flat::write_numbers(&places, counts);
-    answer.number
+    0
 }
 
-fn write_margin(answer: margins::Answer, result: &mut [i64]) -> u64
+fn hand(number: u64, places: &[i64], result: &mut [i64]) -> u64
+    ensures number { λ r. ⌜ r ≡ number ⌝ }
+    ensures result { λ _. ⌜ now (result .exit) ≡ handed number (now (places .entry)) (now (result .entry)) ⌝ }
+{
+    if number == 0 {
+        flat::write_values(places, result);
+    }
+    number
+}
+
+fn hand_margin(answer: margins::Answer, result: &mut [i64]) -> u64
     ensures number { λ r. ⌜ r ≡ margin-outcome answer .number ⌝ }
-    ensures result { λ _. ⌜ now (result .exit) ≡ written (margin-places (margin-outcome answer)) (now (result .entry)) ⌝ }
+    ensures result { λ _. ⌜ now (result .exit) ≡ margin-handed (margin-outcome answer) (now (result .entry)) ⌝ }
 {
     match answer {
         margins::Answer::Margin(margin) => {
             let places = [margin];
-            flat::write_values(&places, result);
-            0
+            hand(0, &places, result)
         }
         margins::Answer::Refused(number) => {
             let places = [0i64];
-            flat::write_values(&places, result);
-            number
+            hand(number, &places, result)
         }
     }
 }
@@ -131,12 +148,12 @@ pub extern "C" fn varmityep_margin(
 ) -> u64
     ensures number { λ r. ⌜ r ≡ margin-judged (card-from (now (ranges .entry)) (now (ends .entry)) channels (now (times .entry)) (now (values .entry))) (table-from (now (nodes .entry)) count) (length (now (work .entry))) .number ⌝ }
     ensures work { λ _. ⌜ now (work .exit) ≡ margin-cells (card-from (now (ranges .entry)) (now (ends .entry)) channels (now (times .entry)) (now (values .entry))) (table-from (now (nodes .entry)) count) (now (work .entry)) ⌝ }
-    ensures result { λ _. ⌜ now (result .exit) ≡ written (margin-places (margin-judged (card-from (now (ranges .entry)) (now (ends .entry)) channels (now (times .entry)) (now (values .entry))) (table-from (now (nodes .entry)) count) (length (now (work .entry))))) (now (result .entry)) ⌝ }
+    ensures result { λ _. ⌜ now (result .exit) ≡ margin-handed (margin-judged (card-from (now (ranges .entry)) (now (ends .entry)) channels (now (times .entry)) (now (values .entry))) (table-from (now (nodes .entry)) count) (length (now (work .entry)))) (now (result .entry)) ⌝ }
 {
     let table = flat::table_from(nodes, count);
     let predicates = flat::predicates_from(ranges, ends);
     let answer = margins::margin(table, predicates, channels as usize, times, values, work);
-    write_margin(answer, result)
+    hand_margin(answer, result)
 }
 
 fn verdict_number(verdict: Verdict) -> i64
@@ -149,20 +166,18 @@ fn verdict_number(verdict: Verdict) -> i64
     }
 }
 
-fn write_verdict(answer: verdicts::Answer, result: &mut [i64]) -> u64
+fn hand_verdict(answer: verdicts::Answer, result: &mut [i64]) -> u64
     ensures number { λ r. ⌜ r ≡ verdict-outcome answer .number ⌝ }
-    ensures result { λ _. ⌜ now (result .exit) ≡ written (verdict-places (verdict-outcome answer)) (now (result .entry)) ⌝ }
+    ensures result { λ _. ⌜ now (result .exit) ≡ verdict-handed (verdict-outcome answer) (now (result .entry)) ⌝ }
 {
     match answer {
         verdicts::Answer::Judged(verdict, hold, fail) => {
-            let places = [verdict_number(verdict), fail, hold];
-            flat::write_values(&places, result);
-            0
+            let places = [verdict_number(verdict), hold, fail];
+            hand(0, &places, result)
         }
         verdicts::Answer::Refused(number) => {
             let places = [0i64; 3];
-            flat::write_values(&places, result);
-            number
+            hand(number, &places, result)
         }
     }
 }
@@ -184,7 +199,7 @@ pub extern "C" fn varmityep_verdict(
 ) -> u64
     ensures number { λ r. ⌜ r ≡ verdict-judged (card-from (now (ranges .entry)) (now (ends .entry)) channels (now (times .entry)) (now (values .entry))) (table-from (now (nodes .entry)) count) step drift (length (now (work .entry))) .number ⌝ }
     ensures work { λ _. ⌜ now (work .exit) ≡ verdict-cells (card-from (now (ranges .entry)) (now (ends .entry)) channels (now (times .entry)) (now (values .entry))) (table-from (now (nodes .entry)) count) step drift (now (work .entry)) ⌝ }
-    ensures result { λ _. ⌜ now (result .exit) ≡ written (verdict-places (verdict-judged (card-from (now (ranges .entry)) (now (ends .entry)) channels (now (times .entry)) (now (values .entry))) (table-from (now (nodes .entry)) count) step drift (length (now (work .entry))))) (now (result .entry)) ⌝ }
+    ensures result { λ _. ⌜ now (result .exit) ≡ verdict-handed (verdict-judged (card-from (now (ranges .entry)) (now (ends .entry)) channels (now (times .entry)) (now (values .entry))) (table-from (now (nodes .entry)) count) step drift (length (now (work .entry)))) (now (result .entry)) ⌝ }
 {
     let table = flat::table_from(nodes, count);
     let predicates = flat::predicates_from(ranges, ends);
@@ -198,5 +213,5 @@ pub extern "C" fn varmityep_verdict(
         drift,
         work,
     );
-    write_verdict(answer, result)
+    hand_verdict(answer, result)
 }

@@ -1,8 +1,9 @@
--- What the readers write into slices with room stands in front of them, and is what the margin and the verdict take up: the table of the text, the predicates of the sheet.
+-- What the readers write into slices with room stands in front of them, and is what the margin and the verdict take up: the table of the text, the predicates of the sheet. Under a refusal
+-- every slice keeps what it held.
 -- Assumes nothing.
-use mathlib.Core.Path.{_≡_}
+use mathlib.Core.Path.{_≡_, refl}
 use mathlib.Core.List.{List}
-use Prim.Native.Nat.{ℕ, _≤_}
+use Prim.Native.Nat.{ℕ, zero, suc, _≤_}
 use lib.IntN.{ℤ}
 use lib.ListN.{length}
 use lib.Seq.{take-all}
@@ -19,7 +20,13 @@ use Rattle.sheet_rows.specs.Answer.{in-front}
 use Rattle.flat.specs.Written.{written}
 use Rattle.flat.specs.Tables.{table-from}
 use Rattle.flat.specs.Predicates.{ranges-of, ends-of, predicates-from}
+use Rattle.varmityep.specs.Places.{handed}
 use Rattle.flat.proofs.Back.{predicates-back, table-read-back}
+
+-- under a refusal a slice keeps what it held
+pub kept : {X : Type 0} (n : ℕ) (new old : List X) → (n ≡ 0 → ⊥) → old ≡ handed n new old
+kept zero new old h = absurd (h refl)
+kept (suc n) new old h = refl
 
 -- as the row reader's rows do
 pub written-in-front : {X : Type 0} (new old : List X) → length new ≤ length old → written new old ≡ in-front new old
@@ -27,13 +34,13 @@ unfolding written
 written-in-front new old r = rw (take-all (length old) new r)
 
 pub table-handed : (s : List ℕ) → requirement-of s .refusal ≡ 0 → (nodes : List ℕ) → 320 ≤ length nodes
-    → table-from (written (cells-of (requirement-of s .table .nodes)) nodes) (requirement-of s .table .count) ≡ requirement-of s .table
+    → table-from (handed (requirement-of s .refusal) (cells-of (requirement-of s .table .nodes)) nodes) (requirement-of s .table .count) ≡ requirement-of s .table
 table-handed s h nodes r =
     let x = answer-sound s h in
     let a = x .0 in
     let few = required-rules s a (x .1) .few-nodes in
-    rw (x .2) (rw (length-nodes 0 a) at (table-read-back (nodes-of 0 a) (rw (length-nodes 0 a) few) nodes r))
+    rw (h, x .2) (rw (length-nodes 0 a) at (table-read-back (nodes-of 0 a) (rw (length-nodes 0 a) few) nodes r))
 
 pub predicates-handed : (s : List ℕ) → sheet-of s .number ≡ 0 → (ranges : List ℕ) (ends : List ℤ) → 32 ≤ length ranges → 32 ≤ length ends
-    → predicates-from (written (ranges-of (sheet-of s .predicates)) ranges) (written (ends-of (sheet-of s .predicates)) ends) ≡ sheet-of s .predicates
-predicates-handed s h ranges ends = predicates-back (sheet-of s .predicates) (lines-keep (sheet-sound s h .predicates)) ranges ends
+    → predicates-from (handed (sheet-of s .number) (ranges-of (sheet-of s .predicates)) ranges) (handed (sheet-of s .number) (ends-of (sheet-of s .predicates)) ends) ≡ sheet-of s .predicates
+predicates-handed s h ranges ends wide long = rw h (predicates-back (sheet-of s .predicates) (lines-keep (sheet-sound s h .predicates)) ranges ends wide long)

@@ -1,9 +1,9 @@
 -- The flat numbers are the table and the predicates that the verdict is asked of; its answer is what is written.
 -- Assumes nothing.
 use borrow.Author.Needs.{needs}
-use Rattle.exports.specs.Places.{card-from}
-use Rattle.exports.proofs.varmityep_verdict.Statement.{statement}
-use Rattle.exports.proofs.varmityep_verdict.Tie as tie
+use Rattle.varmityep.specs.Places.{card-from}
+use Rattle.varmityep.proofs.varmityep_verdict.Statement.{statement}
+use Rattle.varmityep.proofs.varmityep_verdict.Tie as tie
 
 table-from-requires : tie.Need-table-from-requires
 table-from-requires c κs = search needs
@@ -14,8 +14,8 @@ predicates-from-requires c κs = search needs
 verdict-requires : tie.Need-verdict-requires
 verdict-requires c κs = search needs
 
-write-verdict-requires : tie.Need-write-verdict-requires
-write-verdict-requires c κs = search needs
+hand-verdict-requires : tie.Need-hand-verdict-requires
+hand-verdict-requires c κs = search needs
 
 same-length : tie.Need-same-length
 same-length c = search needs
@@ -31,7 +31,7 @@ returns c =
     let p = m .before .before in
     let t = p .before in
     let e = rw (t .table-from .ensures, p .predicates-from .ensures) at (m .verdict .ensures .0) in
-    (rw (w .write-verdict .ensures .0, e), (rw (t .table-from .ensures, p .predicates-from .ensures) at (m .verdict .ensures .1), rw e at (w .write-verdict .ensures .1)))
+    (rw (w .hand-verdict .ensures .0, e), (rw (t .table-from .ensures, p .predicates-from .ensures) at (m .verdict .ensures .1), rw e at (w .hand-verdict .ensures .1)))
 
 pub varmityep-verdict-spec : {M : Type 1} → statement M
 varmityep-verdict-spec =
@@ -40,7 +40,7 @@ varmityep-verdict-spec =
     table-from-requires
     predicates-from-requires
     verdict-requires
-    write-verdict-requires
+    hand-verdict-requires
     same-length
     same-length-2
     returns)

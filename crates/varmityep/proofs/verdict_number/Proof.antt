@@ -1,8 +1,8 @@
 -- Each verdict has its number.
 -- Assumes nothing.
 use borrow.Author.Needs.{needs}
-use Rattle.exports.proofs.verdict_number.Statement.{statement}
-use Rattle.exports.proofs.verdict_number.Tie as tie
+use Rattle.varmityep.proofs.verdict_number.Statement.{statement}
+use Rattle.varmityep.proofs.verdict_number.Tie as tie
 
 enum-told : tie.Need-enum-told
 enum-told c = search needs

@@ -1,11 +1,19 @@
--- What was read is what is written, its table as flat numbers.
+-- A refusal is handed back at once. Else what was read is what is written, its table as flat numbers.
 -- Assumes nothing.
+use mathlib.Core.Path.{refl}
+use Rattle.varmityep.proofs.Handed.{kept}
 use borrow.Author.Needs.{needs}
-use Rattle.exports.proofs.varmityep_requirement.Statement.{statement}
-use Rattle.exports.proofs.varmityep_requirement.Tie as tie
+use Rattle.varmityep.proofs.varmityep_requirement.Statement.{statement}
+use Rattle.varmityep.proofs.varmityep_requirement.Tie as tie
 
 read-requirement-requires : tie.Need-read-requirement-requires
 read-requirement-requires c κs = search needs
+
+returns : tie.Need-returns
+returns c =
+    let s = c .before .before .read-requirement .ensures in
+    let n = rw s at (c .if1 .taken) in
+    (rw s, (kept _ _ _ n, kept _ _ _ n))
 
 cells-of-requires : tie.Need-cells-of-requires
 cells-of-requires c κs = search needs
@@ -28,19 +36,21 @@ same-length c = search needs
 same-length-2 : tie.Need-same-length-2
 same-length-2 c = search needs
 
-returns : tie.Need-returns
-returns c =
+returns-2 : tie.Need-returns-2
+returns-2 c =
     let w = c .before .before in
     let v = w .before .before .before .before .before in
     let k = v .before .before .before in
-    let s = k .before .before .before .read-requirement .ensures in
-    (rw s, (rw (k .cells-of .ensures, s) at (v .write-numbers .ensures), rw s at (w .write-numbers2 .ensures)))
+    let z = k .before .before .before in
+    let s = z .before .before .read-requirement .ensures in
+    rw (rw s at (z .if1 .left)) (refl, (rw (k .cells-of .ensures, s) at (v .write-numbers .ensures), rw s at (w .write-numbers2 .ensures)))
 
 pub varmityep-requirement-spec : {M : Type 1} → statement M
 varmityep-requirement-spec =
     tie.close
     (tie.spec
     read-requirement-requires
+    returns
     cells-of-requires
     slice-aggregate-write-numbers
     write-numbers-requires
@@ -48,4 +58,4 @@ varmityep-requirement-spec =
     write-numbers-requires-2
     same-length
     same-length-2
-    returns)
+    returns-2)

@@ -1,9 +1,9 @@
 -- The flat numbers are the table and the predicates that the margin is asked of; its answer is what is written.
 -- Assumes nothing.
 use borrow.Author.Needs.{needs}
-use Rattle.exports.specs.Places.{card-from}
-use Rattle.exports.proofs.varmityep_margin.Statement.{statement}
-use Rattle.exports.proofs.varmityep_margin.Tie as tie
+use Rattle.varmityep.specs.Places.{card-from}
+use Rattle.varmityep.proofs.varmityep_margin.Statement.{statement}
+use Rattle.varmityep.proofs.varmityep_margin.Tie as tie
 
 table-from-requires : tie.Need-table-from-requires
 table-from-requires c κs = search needs
@@ -14,8 +14,8 @@ predicates-from-requires c κs = search needs
 margin-requires : tie.Need-margin-requires
 margin-requires c κs = search needs
 
-write-margin-requires : tie.Need-write-margin-requires
-write-margin-requires c κs = search needs
+hand-margin-requires : tie.Need-hand-margin-requires
+hand-margin-requires c κs = search needs
 
 same-length : tie.Need-same-length
 same-length c = search needs
@@ -31,7 +31,7 @@ returns c =
     let p = m .before .before in
     let t = p .before in
     let e = rw (t .table-from .ensures, p .predicates-from .ensures) at (m .margin .ensures .0) in
-    (rw (w .write-margin .ensures .0, e), (rw (t .table-from .ensures, p .predicates-from .ensures) at (m .margin .ensures .1), rw e at (w .write-margin .ensures .1)))
+    (rw (w .hand-margin .ensures .0, e), (rw (t .table-from .ensures, p .predicates-from .ensures) at (m .margin .ensures .1), rw e at (w .hand-margin .ensures .1)))
 
 pub varmityep-margin-spec : {M : Type 1} → statement M
 varmityep-margin-spec =
@@ -40,7 +40,7 @@ varmityep-margin-spec =
     table-from-requires
     predicates-from-requires
     margin-requires
-    write-margin-requires
+    hand-margin-requires
     same-length
     same-length-2
     returns)

@@ -7,10 +7,10 @@ use lib.Seq.{length-take-le}
 use Rattle.printing.proofs.Printed.{place-inside, front-says}
 use Rattle.answers.specs.Printed.{LINE}
 use borrow.Author.Needs.{needs}
-use Rattle.exports.proofs.varmityep_answer.Statement.{statement}
-use Rattle.exports.proofs.varmityep_answer.Tie as tie
-use Rattle.exports.proofs.varmityep_answer.Reads as reads
-use Rattle.exports.proofs.varmityep_answer.Lts as lts
+use Rattle.varmityep.proofs.varmityep_answer.Statement.{statement}
+use Rattle.varmityep.proofs.varmityep_answer.Tie as tie
+use Rattle.varmityep.proofs.varmityep_answer.Reads as reads
+use Rattle.varmityep.proofs.varmityep_answer.Lts as lts
 use Rattle.answers.proofs.printed.answer_line.Reads as answer-line-reads
 use Rattle.flat.proofs.write_bytes.Reads as write-bytes-reads
 

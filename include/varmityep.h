@@ -1,0 +1,157 @@
+/*
+ * Margins and verdicts of amplifier recordings: the proved library's C names.
+ *
+ * A slice is a pointer and then the count of its elements. Every function takes slices of any
+ * length: a place that a slice does not have reads as 0, and what has no place is not written, so
+ * the lengths named here are what loses nothing. The caller owns every slice. A pointer must be
+ * valid for its count, and a slice that is written must share no place with another of the call.
+ *
+ * No function keeps a pointer, allocates, or has a state: calls on several threads are
+ * independent, and equal inputs give equal answers.
+ *
+ * A refusal is its number below, 0 for none. Of several that apply, the first in that list is
+ * returned. Under a refusal nothing is written: every slice keeps its contents. (varmityep_answer
+ * alone returns no number: its line says it.)
+ */
+#ifndef VARMITYEP_H
+#define VARMITYEP_H
+
+#include <stddef.h>
+#include <stdint.h>
+
+#ifdef __cplusplus
+extern "C" {
+#endif
+
+/* Lengths that lose nothing, in elements. */
+#define VARMITYEP_NODES 320  /* nodes: kind, left, right, lo, hi of each of 64 */
+#define VARMITYEP_RANGES 32  /* ranges: range and channel of each of 16 predicates */
+#define VARMITYEP_ENDS 32    /* ends: lo and hi of each of 16 predicates */
+#define VARMITYEP_NUMBERS 6  /* numbers of a sheet, see VARMITYEP_SHEET_.. */
+#define VARMITYEP_COUNTS 2   /* counts of rows: measured, filled */
+#define VARMITYEP_RESULT 3   /* result of a verdict: verdict, hold, fail */
+#define VARMITYEP_LINE 160   /* line: no printed line is longer */
+
+/* Limits of what is accepted. */
+#define VARMITYEP_MOST_BYTES 65536
+#define VARMITYEP_MOST_ROWS 4096
+#define VARMITYEP_MOST_CHANNELS 8
+#define VARMITYEP_MOST_NODES 64
+#define VARMITYEP_PREDICATES 16
+#define VARMITYEP_NODE_NUMBERS 5
+#define VARMITYEP_NO_END UINT64_C(4294967295) /* hi of a window without end */
+#define VARMITYEP_TOP INT64_C(4000000000)     /* margin of what cannot be missed */
+
+/* What varmityep_answer, and with it the program, has room for. */
+#define VARMITYEP_ANSWER_ROWS 2048
+#define VARMITYEP_ANSWER_CELLS 8192
+
+/* Refusals, in the order in which they count. */
+enum {
+    VARMITYEP_ACCEPTED = 0,
+    VARMITYEP_TEXT = 1,        /* a line breaks the text form or is missing, or over 65,536 bytes */
+    VARMITYEP_REQUIREMENT = 2, /* requirement text outside the grammar or its limits */
+    VARMITYEP_TABLE = 3,       /* a table rule broken, or a predicate named unset or above 15 */
+    VARMITYEP_PREDICATE = 4,   /* channels not 1 to 8, or a set predicate's channel or ends */
+    VARMITYEP_SAMPLES = 5,     /* no sample, over 4,096, or values not rows x channels long */
+    VARMITYEP_TIMES = 6,       /* times not rising, or one above 2,000,000,000 */
+    VARMITYEP_VALUES = 7,      /* a value beyond 1,000,000,000, either sign */
+    VARMITYEP_WORK = 8,        /* work too short */
+    VARMITYEP_STEP_DRIFT = 9,  /* step not 1 to 1,000,000,000, or drift above 1,000,000,000 */
+    VARMITYEP_GAP = 10,        /* two neighbouring times differ by more than the step */
+    VARMITYEP_JUMP = 11        /* neighbouring values of a channel differ by more than 2 x drift */
+};
+
+/* Ranges of a predicate, at ranges[2p]; its channel is at ranges[2p + 1]. */
+enum {
+    VARMITYEP_UNSET = 0,
+    VARMITYEP_FREE = 1,
+    VARMITYEP_AT_LEAST = 2, /* lo at ends[2p] */
+    VARMITYEP_AT_MOST = 3,  /* hi at ends[2p + 1] */
+    VARMITYEP_BETWEEN = 4   /* both */
+};
+
+/* Verdicts, at result[0]. */
+enum { VARMITYEP_NOT_SHOWN = 0, VARMITYEP_HOLDS = 1, VARMITYEP_FAILS = 2 };
+
+/* Places of a sheet's numbers. The last three are places in its text. */
+enum {
+    VARMITYEP_SHEET_CHANNELS = 0,
+    VARMITYEP_SHEET_STEP = 1,
+    VARMITYEP_SHEET_DRIFT = 2,
+    VARMITYEP_SHEET_REQ_FROM = 3, /* the requirement's first byte */
+    VARMITYEP_SHEET_REQ_TO = 4,   /* the place behind its last byte */
+    VARMITYEP_SHEET_ROWS = 5      /* the rows' first byte */
+};
+
+/*
+ * The line that the program prints for a sheet's text, its line feed included; a refusal is a line
+ * too. It stands in line from its first byte on, without a closing 0; bytes behind it keep their
+ * contents. Returns its length. Give VARMITYEP_LINE bytes. Its own arrays are on the stack: leave
+ * it 512 KiB (a run was measured to need less than 260).
+ */
+size_t varmityep_answer(const uint8_t *text, size_t text_len, uint8_t *line, size_t line_len);
+
+/*
+ * Reads a sheet: refusal 0 or 1. The whole text is judged, its rows too where channels is 1 to 8.
+ * Writes numbers (VARMITYEP_NUMBERS), ranges (VARMITYEP_RANGES) and ends (VARMITYEP_ENDS); an end
+ * that a range does not have is 0, and so is an unset predicate's channel.
+ */
+uint64_t varmityep_sheet(const uint8_t *text, size_t text_len,
+                         uint64_t *numbers, size_t numbers_len,
+                         uint64_t *ranges, size_t ranges_len,
+                         int64_t *ends, size_t ends_len);
+
+/*
+ * Reads requirement text: refusal 0 or 2. Writes nodes (VARMITYEP_NODES), 0 beyond the last node,
+ * and their count at count[0].
+ */
+uint64_t varmityep_requirement(const uint8_t *text, size_t text_len,
+                               uint64_t *nodes, size_t nodes_len,
+                               uint64_t *count, size_t count_len);
+
+/*
+ * Reads rows, the part of a sheet's text from VARMITYEP_SHEET_ROWS on: refusal 0, 1, 4 (channels)
+ * or 5 (more measured rows than 4,096, than times, or than values has room for). Fills times, one
+ * for each measured row, and values, channels for each, in order; later places keep their contents.
+ * Writes counts (VARMITYEP_COUNTS). With no measured row it succeeds with 0.
+ */
+uint64_t varmityep_rows(const uint8_t *text, size_t text_len, uint64_t channels,
+                        uint64_t *times, size_t times_len,
+                        int64_t *values, size_t values_len,
+                        uint64_t *counts, size_t counts_len);
+
+/*
+ * The margin of a recording: refusal 0 or 3 to 8. The recording has times_len rows; values has
+ * times_len x channels. work needs count x times_len cells: cell k x times_len + i ends as node k's
+ * margin at sample i; later cells keep their contents. Writes the margin at result[0].
+ */
+uint64_t varmityep_margin(const uint64_t *nodes, size_t nodes_len, uint64_t count,
+                          const uint64_t *ranges, size_t ranges_len,
+                          const int64_t *ends, size_t ends_len,
+                          uint64_t channels,
+                          const uint64_t *times, size_t times_len,
+                          const int64_t *values, size_t values_len,
+                          int64_t *work, size_t work_len,
+                          int64_t *result, size_t result_len);
+
+/*
+ * The verdict on a recording: refusal 0 or 3 to 11. work needs 2 x count x times_len cells: row 2k
+ * has node k's strengthened margins, row 2k + 1 those of its negation; later cells keep their
+ * contents. Writes result (VARMITYEP_RESULT): the verdict, hold, fail.
+ */
+uint64_t varmityep_verdict(const uint64_t *nodes, size_t nodes_len, uint64_t count,
+                           const uint64_t *ranges, size_t ranges_len,
+                           const int64_t *ends, size_t ends_len,
+                           uint64_t channels,
+                           const uint64_t *times, size_t times_len,
+                           const int64_t *values, size_t values_len,
+                           uint64_t step, uint64_t drift,
+                           int64_t *work, size_t work_len,
+                           int64_t *result, size_t result_len);
+
+#ifdef __cplusplus
+}
+#endif
+
+#endif
