@@ -48,11 +48,11 @@ front-taken new old n e = rw e (take-append-seam new (drop (length new) old))
 
 -- ---- channels out of range refuse the predicates too
 
-wide : (ch : ℕ) (ps : List Predicate) → channels-in-range ch ≡ false → channels-obey ch ps ≡ false
+wide : (ch : ℕ) (ps : List Predicate) → channels-in-range ch ≡ false → channels-obey ps ch ≡ false
 unfolding channels-obey
 wide ch ps h = go (leb 1 ch) (leb ch 8) h
   where
-    go : (a b : Bool) → a && b ≡ false → a && (b && predicates-obey ch ps (length ps)) ≡ false
+    go : (a b : Bool) → a && b ≡ false → a && (b && predicates-obey ps ch) ≡ false
     go true true h = absurd (false-true (sym h))
     go true false h = refl
     go false b h = refl
@@ -102,7 +102,7 @@ module _ (s : List ℕ) (x : Sheet) (p : Checked s (x .channels)) where
     narrow : x .channels ≤ 8
     narrow = channels-are (x .channels) w .1
 
-  pub rows-refused : (answer .number ≡ 0 → ⊥) → (channels-obey (x .channels) (x .predicates) ≡ false) ⊎ (suc ROWS ≤ measured-of (listing x s))
+  pub rows-refused : (answer .number ≡ 0 → ⊥) → (channels-obey (x .predicates) (x .channels) ≡ false) ⊎ (suc ROWS ≤ measured-of (listing x s))
   rows-refused h = by-test (channels-in-range (x .channels))
       (λ w. by-test (has-room (measured-of (listing x s)) (x .channels) ROWS VALUES)
       (λ m. absurd (h (ap (λ (a : Answer). a .number) (none w m))))

@@ -36,7 +36,7 @@ module _ (c : Card) (t : Table) (step drift : ℕ) where
   run-fits h = first-without (table-checks c t) (rows-check c) (sample-checks c ++ (room-check c t CELLS ∷ sampling-checks c step drift)) (le-leb (rows c) ROWS h)
 
   -- without the rows, the table, the channels and the predicates are judged as with them; and no sample is 5 too
-  pub run-wide : channels-obey (c .channels) (c .predicates) ≡ false → first (checks (card (c .channels) (c .predicates) [] []) t) ≡ first (table-run c t step drift)
+  pub run-wide : channels-obey (c .predicates) (c .channels) ≡ false → first (checks (card (c .channels) (c .predicates) [] []) t) ≡ first (table-run c t step drift)
   unfolding first
   run-wide h = rw h refl
 
@@ -47,4 +47,4 @@ module _ (c : Card) (t : Table) (step drift : ℕ) where
   -- and something is refused
   pub none-refused : first (checks (card (c .channels) (c .predicates) [] []) t) ≡ 0 → ⊥
   unfolding first lengths-obey
-  none-refused h = early-some (requirement-obeys t (c .predicates)) (channels-obey (c .channels) (c .predicates)) h
+  none-refused h = early-some (requirement-obeys t (c .predicates)) (channels-obey (c .predicates) (c .channels)) h

@@ -10,8 +10,8 @@ use Rattle.tables.specs.Tree.{trees, tree}
 use Rattle.tables.specs.Rules.{node-obeys, nodes-obey, table-obeys}
 use Rattle.predicates.specs.Predicates.{names-set, all-named, requirement-obeys, value-obeys, predicate-obeys, predicates-obey, channels-obey}
 use Rattle.refusals.specs.First.{first}
-use Rattle.rules.specs.Recording.{lengths-obey, all-rising, all-early, times-obey, all-in-range, values-obey}
-use Rattle.sampling.specs.Sampling.{step-obeys, all-close, times-close, near, all-near, values-near}
+use Rattle.rules.specs.Recording.{lengths-obey, all-rising, all-early, times-obey, values-obey}
+use Rattle.sampling.specs.Sampling.{step-obeys, times-close, near, values-near}
 use Rattle.margins.specs.Answers.{judged as margin-judged}
 use Rattle.verdicts.specs.Answer.{refusal, judged}
 use Rattle.text.specs.Mark.{prefix-of, mark-at}
@@ -22,7 +22,7 @@ use Rattle.grammar.specs.Reading.{window-at, timed-at, timed-among, leaf-at, mo
 use Rattle.bench_readings.specs.Readings.{Answer, answer, Reading, readings}
 
 table : map (λ (r : Reading). map answer (r .asked)) readings ≡ map (λ (r : Reading). r .answered) readings
-unfolding robustness margin-judged judged refusal first tree trees requirement-obeys table-obeys nodes-obey node-obeys all-named names-set channels-obey predicates-obey predicate-obeys value-obeys times-obey all-rising all-early lengths-obey values-obey all-in-range step-obeys times-close all-close values-near all-near near prefix-of mark-at digits value number-at field-at size window-at timed-at timed-among leaf-at more-turns bind-by unary-by unary-at requirement-tree nodes-of
+unfolding robustness margin-judged judged refusal first tree trees requirement-obeys table-obeys nodes-obey node-obeys all-named names-set channels-obey predicates-obey predicate-obeys value-obeys times-obey all-rising all-early lengths-obey values-obey step-obeys times-close values-near near prefix-of mark-at digits value number-at field-at size window-at timed-at timed-among leaf-at more-turns bind-by unary-by unary-at requirement-tree nodes-of
 table = refl
 
 -- what entry k asks is answered as entry k says

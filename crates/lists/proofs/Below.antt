@@ -1,9 +1,9 @@
 -- The tests "of every number below n" and "of some number below n" say what their names say, both ways; and the steps of a loop that makes such a test.
 -- Assumes nothing.
-use mathlib.Core.Path.{_≡_, refl, subst}
-use mathlib.Core.Bool.{Bool, true, false, _||_}
+use mathlib.Core.Path.{_≡_, refl}
+use mathlib.Core.Bool.{Bool, true, false, _&&_, _||_}
 use mathlib.Core.Logic.{_⊎_, inl, inr}
-use Prim.Native.Nat.{ℕ, zero, suc, _+_, _<_}
+use Prim.Native.Nat.{ℕ, zero, suc, _+_, _≤_, _<_}
 use native.Mathlib.Omega.{arith}
 use native.Mathlib.Decide.{ℕ-discrete}
 use native.Mathlib.Numerals.{add-one}
@@ -45,9 +45,18 @@ module _ (p : ℕ → Bool) where
     | no e ↦ yes-or (any-below p n) (p n) (inl (at-any n j (omega arith) t))
   ]
 
-  -- a loop that tests one number after the other: it goes on where the test holds, and answers "no" at the first where it fails
-  pub all-next : (n : ℕ) → all-below p n ≡ true → p n ≡ true → all-below p (n + 1) ≡ true
-  all-next n h k = rw (add-one n, h, k) refl
+-- ---- a loop `ok = ok & b; n += 1` that tests the numbers below `count` one after the other
+-- before the test of n, `ok` says whether p holds of every number below n
+pub record Tested (p : ℕ → Bool) (count n : ℕ) (ok : Bool) : Type 0 where
+  pub inside : n ≤ count
+  pub so-far : ok ≡ all-below p n
 
-  pub all-fails : (n j : ℕ) → j < n → p j ≡ false → all-below p n ≡ false
-  all-fails n j h e = same-test (λ t. subst T e (all-at n t j h)) absurd
+module _ {p : ℕ → Bool} {count : ℕ} where
+  pub tested-none : Tested p count 0 true
+  tested-none = record { inside = omega arith; so-far = refl }
+
+  pub tested-next : {n : ℕ} {ok b : Bool} → Tested p count n ok → n < count → b ≡ p n → Tested p count (n + 1) (ok && b)
+  tested-next {n} t h e = record { inside = omega arith; so-far = rw (add-one n, t .so-far, e) refl }
+
+  pub tested-all : {n : ℕ} {ok : Bool} → Tested p count n ok → count ≤ n → ok ≡ all-below p count
+  tested-all {n} t h = let e : n ≡ count = omega arith in rw (← e) (t .so-far)

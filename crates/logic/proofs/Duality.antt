@@ -7,7 +7,7 @@ use Prim.Native.Nat.{ℕ}
 use Rattle.logic.specs.declared.Window.{Window}
 use Rattle.logic.specs.declared.Extremum.{Extremum}
 use Rattle.logic.specs.declared.Extremum.the-variants.{Largest, Smallest}
-use Rattle.logic.specs.Formula.{dual, Formula, truth, atom, negation, junction, temporal, eventually, always}
+use Rattle.logic.specs.Formula.{dual, Formula, truth, atom, negation, junction, temporal, conjunction, disjunction, until, release, eventually, always}
 use Rattle.logic.specs.Reading.{Algebra, Places, place, count, offset, along, read, booleans, boolean-extreme, boolean-nothing}
 use Rattle.logic.specs.Negation.{push, Normal}
 use Rattle.logic.proofs.Steps.{Step, along-step, same}
@@ -61,7 +61,19 @@ module _ {P : Type 0} where
   push-normal b (junction e l r) = (push-normal b l, push-normal b r)
   push-normal b (temporal d e w l r) = (push-normal b l, push-normal b r)
 
-  -- eventually and always change places, windows kept
+  -- "and" with "or", until with release, eventually with always change places, windows kept
+  pub push-conjunction : (l r : Formula P) → push false (conjunction l r) ≡ disjunction (push false l) (push false r)
+  push-conjunction l r = refl
+
+  pub push-disjunction : (l r : Formula P) → push false (disjunction l r) ≡ conjunction (push false l) (push false r)
+  push-disjunction l r = refl
+
+  pub push-until : (w : Window) (l r : Formula P) → push false (until w l r) ≡ release w (push false l) (push false r)
+  push-until w l r = refl
+
+  pub push-release : (w : Window) (l r : Formula P) → push false (release w l r) ≡ until w (push false l) (push false r)
+  push-release w l r = refl
+
   pub push-eventually : (w : Window) (φ : Formula P) → push false (eventually w φ) ≡ always w (push false φ)
   push-eventually w φ = refl
 

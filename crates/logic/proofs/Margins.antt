@@ -6,10 +6,10 @@ use mathlib.Core.Bool.{Bool, true, false, not, cond, _&&_, _||_}
 use Prim.Native.Nat.{ℕ, _≤_, _<_}
 use native.Mathlib.Omega.{arith}
 use lib.Dec.{T}
-use lib.IntN.{ℤ, pos, negℤ, negℤ-negℤ}
+use lib.IntN.{ℤ, pos, negℤ, sucℤ, negℤ-negℤ}
 use lib.Signed.{ltZ}
-use Rattle.numbers.specs.Order.{Within}
-use Rattle.numbers.proofs.Parts.{plus, minus, lt-parts, parts-lt, nlt-parts, plus-neg, minus-neg, abs-parts, within-either}
+use Rattle.numbers.specs.Order.{smaller-of, larger-of, Within}
+use Rattle.numbers.proofs.Parts.{plus, minus, lt-parts, parts-lt, nlt-parts, parts-nlt, plus-neg, minus-neg, suc-parts, abs-parts, within-either}
 use Rattle.lists.proofs.Below.{same-test}
 use Rattle.logic.specs.declared.Extremum.{Extremum}
 use Rattle.logic.specs.declared.Extremum.the-variants.{Largest, Smallest}
@@ -43,7 +43,7 @@ margins-dual top = record { twice = negℤ-negℤ; nothing = nothing; extremes =
 abbrev pub above : ℤ → ℤ → Bool
 above e z = ltZ e z
 
--- of two tests the first implies the second: then the second is their "or", the first their "and"
+-- of two tests one implies the other: then the other is their "or"
 or-last : (x y : Bool) → (T x → T y) → y ≡ (x || y)
 or-last true true h = refl
 or-last true false h = absurd (h tt)
@@ -53,16 +53,6 @@ or-first : (x y : Bool) → (T y → T x) → x ≡ (x || y)
 or-first true y h = refl
 or-first false true h = absurd (h tt)
 or-first false false h = refl
-
-and-last : (x y : Bool) → (T y → T x) → y ≡ (x && y)
-and-last true y h = refl
-and-last false true h = absurd (h tt)
-and-last false false h = refl
-
-and-first : (x y : Bool) → (T x → T y) → x ≡ (x && y)
-and-first true true h = refl
-and-first true false h = absurd (h tt)
-and-first false y h = refl
 
 module _ (e : ℤ) where
   rise : (a b : ℤ) → T (ltZ a b) → T (above e a) → T (above e b)
@@ -75,13 +65,23 @@ module _ (e : ℤ) where
   or-above true a b h k = or-last (above e a) (above e b) (rise a b (h tt))
   or-above false a b h k = or-first (above e a) (above e b) (keep a b (k tt))
 
-  and-above : (c : Bool) (a b : ℤ) → (T c → T (ltZ b a)) → (T (not c) → T (not (ltZ b a))) → above e (cond c b a) ≡ (above e a && above e b)
-  and-above true a b h k = and-last (above e a) (above e b) (rise b a (h tt))
-  and-above false a b h k = and-first (above e a) (above e b) (keep b a (k tt))
+  above-larger : (a b : ℤ) → above e (larger-of a b) ≡ (above e a || above e b)
+  above-larger a b = or-above (ltZ a b) a b (λ t. t) (λ t. t)
 
-  pub above-extreme : (x : Extremum) (a b : ℤ) → above e (margin-extreme x a b) ≡ boolean-extreme x (above e a) (above e b)
-  above-extreme Largest a b = or-above (ltZ a b) a b (λ t. t) (λ t. t)
-  above-extreme Smallest a b = and-above (ltZ b a) a b (λ t. t) (λ t. t)
+  -- what is not above e is, negated, above the negative of e's successor
+  not-above : (z : ℤ) → not (above e z) ≡ above (negℤ (sucℤ e)) (negℤ z)
+  not-above z =
+      same-test (λ t. parts-lt (negℤ (sucℤ e)) (negℤ z) (omega (arith, nlt-parts e z t, suc-parts e, plus-neg z, minus-neg z, plus-neg (sucℤ e), minus-neg (sucℤ e))))
+      (λ t. parts-nlt e z (omega (arith, lt-parts (negℤ (sucℤ e)) (negℤ z) t, suc-parts e, plus-neg z, minus-neg z, plus-neg (sucℤ e), minus-neg (sucℤ e))))
+
+-- largest turns into "or"; smallest into "and", which is "or" of the negations, negated
+pub above-extreme : (e : ℤ) (x : Extremum) (a b : ℤ) → above e (margin-extreme x a b) ≡ boolean-extreme x (above e a) (above e b)
+above-extreme e Largest a b = above-larger e a b
+above-extreme e Smallest a b =
+    sym (booleans-dual .twice (above e (smaller-of a b)))
+    ∙ ap not (not-above e (smaller-of a b) ∙ ap (above (negℤ (sucℤ e))) (margins-dual 0 .extremes Smallest a b) ∙ above-larger (negℤ (sucℤ e)) (negℤ a) (negℤ b) ∙ ap₂ _||_ (sym (not-above e a)) (sym (not-above e b)))
+    ∙ booleans-dual .extremes Largest (not (above e a)) (not (above e b))
+    ∙ ap₂ _&&_ (booleans-dual .twice (above e a)) (booleans-dual .twice (above e b))
 
 -- "above e" is in step with truth, for every e from -top on below top
 pub above-tests : (top : ℕ) (e : ℤ) → minus e ≤ top → plus e < top → Tests (margins top) (above e)

@@ -1,6 +1,7 @@
--- A window and its strengthening, over any bounds: whatever is at most a step from the contraction lies in the window, and whatever is at most a step
--- from the window lies in its expansion.
+-- A window and its strengthening, over any bounds: whatever is at most a step from the window lies in its expansion, and so whatever is at most a step
+-- from the contraction lies in the window, since a contraction that holds anything expands to the window again.
 -- Assumes nothing.
+use mathlib.Core.Path.{_≡_, refl, ap, subst}
 use Prim.Native.Nat.{ℕ, _+_, _-_, _≤_}
 use native.Mathlib.Omega.{arith}
 use lib.Dec.{T, leb, leb→le, le→leb, ltb→lt, lt→ltb}
@@ -26,16 +27,21 @@ inside-says w d t = let p = and-yes (leb (w .from) d) (reaches (w .stop) d) t in
 pub says-inside : (w : Window) (d : ℕ) → w .from ≤ d → T (reaches (w .stop) d) → T (inside w d)
 says-inside w d h t = yes-and (leb (w .from) d) (reaches (w .stop) d) (le→leb _ _ h) t
 
-sooner-near : (s : ℕ) (e : Stop) (c d : ℕ) → Near s c d → T (reaches (sooner s e) c) → T (reaches e d)
-sooner-near s Endless c d n t = tt
-sooner-near s (Before e) c d n t = lt→ltb d e (omega (arith, ltb→lt c (e - s) t))
-
 later-near : (s : ℕ) (e : Stop) (c d : ℕ) → Near s c d → T (reaches e c) → T (reaches (later s e) d)
 later-near s Endless c d n t = tt
 later-near s (Before e) c d n t = lt→ltb d (e + s) (omega (arith, ltb→lt c e t))
 
-pub contraction-spread : (s : ℕ) (w : Window) → Spread s (contraction s w) w
-contraction-spread s w = record { spread = λ c d t n. let p = inside-says (contraction s w) c t in says-inside w d (omega arith) (sooner-near s (w .stop) c d n (p .1)) }
-
 pub expansion-spread : (s : ℕ) (w : Window) → Spread s w (expansion s w)
 expansion-spread s w = record { spread = λ c d t n. let p = inside-says w c t in says-inside (expansion s w) d (omega arith) (later-near s (w .stop) c d n (p .1)) }
+
+regained : (s : ℕ) (e : Stop) (c : ℕ) → T (reaches (sooner s e) c) → later s (sooner s e) ≡ e
+regained s Endless c t = refl
+regained s (Before e) c t = ap Before (omega (arith, ltb→lt c (e - s) t))
+
+pub contraction-spread : (s : ℕ) (w : Window) → Spread s (contraction s w) w
+contraction-spread s w = record {
+  spread = λ c d t n.
+      let from : w .from + s - s ≡ w .from = omega arith in
+      let back : expansion s (contraction s w) ≡ w = rw (from, regained s (w .stop) c (inside-says (contraction s w) c t .1)) refl in
+      subst (λ v. T (inside v d)) back (expansion-spread s (contraction s w) .spread c d t n);
+}

@@ -1,30 +1,26 @@
--- Until, release, eventually and always are what their sentences say, both ways. A reading counts the places from i on and a sentence names them, so each
--- proof only moves between place j and the step j - i.
+-- Until, release, eventually and always are what their sentences say, both ways. A reading counts the places from i on and a sentence names them, so until's
+-- proof only moves between place j and the step j - i; release is until of the negations, negated, and its sentence is what until's then says.
 -- Assumes nothing.
-use mathlib.Core.Bool.{Bool, true, false, cond, _||_}
+use mathlib.Core.Bool.{Bool, not, _||_}
 use mathlib.Core.Path.{_≡_, sym, subst}
 use mathlib.Core.Logic.{_⊎_, inl, inr}
 use Prim.Native.Nat.{ℕ, _+_, _-_, _≤_, _<_}
 use native.Mathlib.Omega.{arith}
 use lib.Dec.{T}
-use mir.Facts.{or-yes}
+use mir.Facts.{T-not, not-T, T-not-not, or-yes, or-no}
 use Rattle.lists.specs.Fold.{any-below}
-use Rattle.lists.proofs.Below.{all-at, at-all, any-at, at-any, yes-or}
+use Rattle.lists.proofs.Below.{any-at, at-any}
 use Rattle.logic.specs.declared.Window.{Window}
 use Rattle.logic.specs.Window.{inside}
+use Rattle.logic.specs.declared.Extremum.the-variants.{Smallest}
 use Rattle.logic.specs.Formula.{Formula, truth, negation, until, release, eventually, always, future}
 use Rattle.logic.specs.Reading.{Places, offset, read, booleans}
 use Rattle.logic.specs.Words.{Ahead, Until, Release, Eventually, Always}
+use Rattle.logic.proofs.Duality.{along-negated, booleans-dual}
 use Rattle.logic.proofs.Witness.{Witness, witness-of, of-witness}
 
--- a place of the window: what a release asks there
-asked : (a b c : Bool) → T (cond a (b || c) true) → T a → T b ⊎ T c
-asked true b c t h = or-yes b c t
-asked false b c t h = absurd h
-
-answered : (a b c : Bool) → (T a → T b ⊎ T c) → T (cond a (b || c) true)
-answered true b c f = yes-or b c (f tt)
-answered false b c f = tt
+sure : (b : Bool) → (T (not b) → ⊥) → T b
+sure b h = T-not-not b (not-T (not b) h)
 
 module _ {P : Type 0} (F : Places) (at : P → ℕ → Bool) (w : Window) (i : ℕ) where
   -- the truth of a requirement at each place
@@ -62,23 +58,38 @@ module _ {P : Type 0} (F : Places) (at : P → ℕ → Bool) (w : Window) (i : �
         left = λ q h. u .left-before (i + q) (omega arith) (omega (arith, a .not-before));
       })
 
+  -- release is until of the negations, negated
+  released : (l r : Formula P) → not (read booleans F at (release w l r) i) ≡ read booleans F at (until w (negation l) (negation r)) i
+  released l r = along-negated booleans-dual Smallest w (offset future F i) (λ m. true-at l (i + m)) (λ m. true-at r (i + m)) (F .end - i)
+
   pub release-says : (l r : Formula P) → T (read booleans F at (release w l r) i) → Release F w (true-at l) (true-at r) i
   release-says l r t = record { each = each }
     where
+      earlier : ℕ → Bool
+      earlier j = any-below (λ m. true-at l (i + m)) (j - i)
+
+      -- were both false, until of the negations would be true
+      either : (j : ℕ) → Ahead F w i j → T (not (true-at r j || earlier j)) → ⊥
+      either j a n =
+          let e = or-no (true-at r j) (earlier j) n in
+          T-not (read booleans F at (release w l r) i) t (subst T (sym (released l r)) (says-until (negation l) (negation r) (record {
+            j = j;
+            ahead = a;
+            right-at = e .0;
+            left-before = λ k x y. not-T (true-at l k) (λ z. T-not (earlier j) (at-any (λ m. true-at l (i + m)) (j - i) (k - i) (omega arith) (subst (λ (n : ℕ). T (true-at l n)) (sym (step-to k x)) z)) (e .1));
+          })))
+
       each : (j : ℕ) → Ahead F w i j → T (true-at r j) ⊎ ((k : ℕ) × (i ≤ k) × (k < j) × T (true-at l k))
-      each j a =
-          elim (asked (inside w (offset future F i (j - i))) (true-at r (i + (j - i))) (any-below (λ m. true-at l (i + m)) (j - i))
-          (all-at _ (F .end - i) t (j - i) (omega (arith, a .not-before, a .in-places))) (in-window-of j a)) [
-            | inl y ↦ inl (subst (λ (n : ℕ). T (true-at r n)) (step-to j (a .not-before)) y)
-            | inr y ↦ let f = any-at (λ m. true-at l (i + m)) (j - i) y in inr (i + f .0, omega arith, omega (arith, f .1, a .not-before), f .2)
-          ]
+      each j a = elim (or-yes (true-at r j) (earlier j) (sure (true-at r j || earlier j) (either j a))) [
+        | inl y ↦ inl y
+        | inr y ↦ let f = any-at (λ m. true-at l (i + m)) (j - i) y in inr (i + f .0, omega arith, omega (arith, f .1, a .not-before), f .2)
+      ]
 
   pub says-release : (l r : Formula P) → Release F w (true-at l) (true-at r) i → T (read booleans F at (release w l r) i)
-  says-release l r s = at-all _ (F .end - i) (λ m h. answered (inside w (offset future F i m)) (true-at r (i + m)) (any-below (λ m. true-at l (i + m)) m) (λ t. back m (s .each (i + m) (ahead-of m h t))))
-    where
-      back : (m : ℕ) → T (true-at r (i + m)) ⊎ ((k : ℕ) × (i ≤ k) × (k < i + m) × T (true-at l k)) → T (true-at r (i + m)) ⊎ T (any-below (λ m. true-at l (i + m)) m)
-      back m (inl y) = inl y
-      back m (inr (k, a, b, y)) = inr (at-any (λ m. true-at l (i + m)) m (k - i) (omega arith) (subst (λ (n : ℕ). T (true-at l n)) (sym (step-to k a)) y))
+  says-release l r s =
+      sure (read booleans F at (release w l r) i) (λ t.
+      let u = until-says (negation l) (negation r) (subst T (released l r) t) in
+      elim (s .each (u .j) (u .ahead)) [ inl y ↦ T-not (true-at r (u .j)) y (u .right-at) | inr (k, a, b, y) ↦ T-not (true-at l k) y (u .left-before k a b) ])
 
   pub eventually-says : (φ : Formula P) → T (read booleans F at (eventually w φ) i) → Eventually F w (true-at φ) i
   eventually-says φ t = let u = until-says truth φ t in record { j = u .j; ahead = u .ahead; there = u .right-at }

@@ -69,9 +69,6 @@ parts-eq (pos a) (negsuc b) h = let z : _≡_ {A = ℕ} 0 1 = omega arith in cc
 parts-eq (negsuc a) (pos b) h = let z : _≡_ {A = ℕ} 0 1 = omega arith in cc
 parts-eq (negsuc a) (negsuc b) h = ap negsuc (omega arith)
 
-pub eq-parts : {a b : ℤ} → a ≡ b → plus a + minus b ≡ plus b + minus a
-eq-parts {a} {b} h = rw h refl
-
 -- a test that a flag of the code answers
 pub holds : {b : Bool} → b ≡ true → T b
 holds e = subst T (sym e) tt

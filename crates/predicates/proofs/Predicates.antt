@@ -43,27 +43,27 @@ set-is (AtMost hi) h = tt
 set-is (Between lo hi) h = tt
 
 -- ---- 3
-pub named : (c : Card) (t : Table) → T (all-named (c .predicates) (t .nodes) (t .count)) → Named c t
+pub named : (c : Card) (t : Table) → T (all-named (t .nodes) (t .count) (c .predicates)) → Named c t
 unfolding all-named names-set
 named c t h = record {
   set = λ k i e u.
       let n : Node = node-at (t .nodes) k in
-      let s = all-at (λ j. names-set (c .predicates) (node-at (t .nodes) j)) (t .count) h k i in
+      let s = all-at (λ j. names-set (node-at (t .nodes) j) (c .predicates)) (t .count) h k i in
       elim (or-yes (not (eqb (n .kind) 1)) (is-set (predicate c (n .left) .range)) s) [
         | inl x ↦ T-not (eqb (n .kind) 1) x (yes-eqb e)
         | inr x ↦ T-not (is-set (predicate c (n .left) .range)) (unset-not u) x
       ];
 }
 
-pub named-passes : (c : Card) (t : Table) → Named c t → T (all-named (c .predicates) (t .nodes) (t .count))
+pub named-passes : (c : Card) (t : Table) → Named c t → T (all-named (t .nodes) (t .count) (c .predicates))
 unfolding all-named names-set
-named-passes c t r = at-all (λ j. names-set (c .predicates) (node-at (t .nodes) j)) (t .count) one
+named-passes c t r = at-all (λ j. names-set (node-at (t .nodes) j) (c .predicates)) (t .count) one
   where
     set-or : (n : Node) (b : Bool) → eqb (n .kind) 1 ≡ b → (n .kind ≡ 1 → predicate c (n .left) .range ≡ Unset → ⊥) → T (not b || is-set (predicate c (n .left) .range))
     set-or n false e h = tt
     set-or n true e h = set-is (predicate c (n .left) .range) (h (eqb-true (n .kind) 1 e))
 
-    one : (k : ℕ) → k < t .count → T (names-set (c .predicates) (node-at (t .nodes) k))
+    one : (k : ℕ) → k < t .count → T (names-set (node-at (t .nodes) k) (c .predicates))
     one k i = set-or (node-at (t .nodes) k) (eqb (node-at (t .nodes) k .kind) 1) refl (r .set k i)
 
 -- ---- 4
@@ -99,9 +99,9 @@ ends-pass (Between lo hi) e =
     yes-and (value-obeys lo) (value-obeys hi && leZ lo hi) (in-range-passes lo (e .0))
     (yes-and (value-obeys hi) (leZ lo hi) (in-range-passes hi (e .1)) (e .2))
 
-pub proper : (channels : ℕ) (p : Predicate) → T (predicate-obeys channels p) → Proper channels p
+pub proper : (p : Predicate) (channels : ℕ) → T (predicate-obeys p channels) → Proper p channels
 unfolding predicate-obeys
-proper channels p t =
+proper p channels t =
     let a = and-yes (not (is-set (p .range)) || ltb (p .channel) channels) (range-obeys (p .range)) t in
     record {
       known = elim (or-yes (not (is-set (p .range))) (ltb (p .channel) channels) (a .0)) [
@@ -111,37 +111,37 @@ proper channels p t =
       ends = range-ends (p .range) (a .1);
     }
 
-pub proper-passes : (channels : ℕ) (p : Predicate) → Proper channels p → T (predicate-obeys channels p)
+pub proper-passes : (p : Predicate) (channels : ℕ) → Proper p channels → T (predicate-obeys p channels)
 unfolding predicate-obeys
-proper-passes channels p r =
+proper-passes p channels r =
     yes-and (not (is-set (p .range)) || ltb (p .channel) channels) (range-obeys (p .range))
     (yes-or (not (is-set (p .range))) (ltb (p .channel) channels) (elim (r .known) [ inl h ↦ inl (unset-not h) | inr h ↦ inr (lt→ltb (p .channel) channels h) ]))
     (ends-pass (p .range) (r .ends))
 
-pub channels-are : (c : Card) → T (channels-obey (c .channels) (c .predicates)) → Channels c
+pub channels-are : (c : Card) → T (channels-obey (c .predicates) (c .channels)) → Channels c
 unfolding predicates-obey channels-obey
 channels-are c t =
-    let a = and-yes (leb 1 (c .channels)) (leb (c .channels) MOST-CHANNELS && predicates-obey (c .channels) (c .predicates) (length (c .predicates))) t in
-    let b = and-yes (leb (c .channels) MOST-CHANNELS) (predicates-obey (c .channels) (c .predicates) (length (c .predicates))) (a .1) in
+    let a = and-yes (leb 1 (c .channels)) (leb (c .channels) MOST-CHANNELS && predicates-obey (c .predicates) (c .channels)) t in
+    let b = and-yes (leb (c .channels) MOST-CHANNELS) (predicates-obey (c .predicates) (c .channels)) (a .1) in
     record {
       some-channel = leb→le 1 (c .channels) (a .0);
       few-channels = leb→le (c .channels) MOST-CHANNELS (b .0);
       proper = λ p. elim (decLt p (length (c .predicates))) [
-        | yes i ↦ proper (c .channels) (predicate c p) (all-at (λ q. predicate-obeys (c .channels) (predicate-at (c .predicates) q)) (length (c .predicates)) (b .1) p i)
+        | yes i ↦ proper (predicate c p) (c .channels) (all-at (λ q. predicate-obeys (predicate-at (c .predicates) q) (c .channels)) (length (c .predicates)) (b .1) p i)
         | no i ↦ rw (List·getD-eq-default (c .predicates) (record { channel = 0; range = Unset }) {n = p} (omega arith)) (record { known = inl refl; ends = tt })
       ];
     }
 
-pub channels-pass : (c : Card) → Channels c → T (channels-obey (c .channels) (c .predicates))
+pub channels-pass : (c : Card) → Channels c → T (channels-obey (c .predicates) (c .channels))
 unfolding predicates-obey channels-obey
 channels-pass c r =
-    yes-and (leb 1 (c .channels)) (leb (c .channels) MOST-CHANNELS && predicates-obey (c .channels) (c .predicates) (length (c .predicates))) (le→leb 1 (c .channels) (r .some-channel))
-    (yes-and (leb (c .channels) MOST-CHANNELS) (predicates-obey (c .channels) (c .predicates) (length (c .predicates))) (le→leb (c .channels) MOST-CHANNELS (r .few-channels))
-    (at-all (λ q. predicate-obeys (c .channels) (predicate-at (c .predicates) q)) (length (c .predicates)) (λ p i. proper-passes (c .channels) (predicate c p) (r .proper p))))
+    yes-and (leb 1 (c .channels)) (leb (c .channels) MOST-CHANNELS && predicates-obey (c .predicates) (c .channels)) (le→leb 1 (c .channels) (r .some-channel))
+    (yes-and (leb (c .channels) MOST-CHANNELS) (predicates-obey (c .predicates) (c .channels)) (le→leb (c .channels) MOST-CHANNELS (r .few-channels))
+    (at-all (λ q. predicate-obeys (predicate-at (c .predicates) q) (c .channels)) (length (c .predicates)) (λ p i. proper-passes (predicate c p) (c .channels) (r .proper p))))
 
 -- what the test of the lengths may rely on
-pub few-channels : (channels : ℕ) (ps : List Predicate) → channels-obey channels ps ≡ true → channels ≤ MOST-CHANNELS
+pub few-channels : (ps : List Predicate) (channels : ℕ) → channels-obey ps channels ≡ true → channels ≤ MOST-CHANNELS
 unfolding channels-obey
-few-channels channels ps e =
-    let a = and-yes (leb 1 channels) (leb channels MOST-CHANNELS && predicates-obey channels ps (length ps)) (holds e) in
-    leb→le channels MOST-CHANNELS (and-yes (leb channels MOST-CHANNELS) (predicates-obey channels ps (length ps)) (a .1) .0)
+few-channels ps channels e =
+    let a = and-yes (leb 1 channels) (leb channels MOST-CHANNELS && predicates-obey ps channels) (holds e) in
+    leb→le channels MOST-CHANNELS (and-yes (leb channels MOST-CHANNELS) (predicates-obey ps channels) (a .1) .0)

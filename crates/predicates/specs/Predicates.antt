@@ -24,15 +24,15 @@ abbrev pub is-set : Range → Bool
 is-set r = not (is-unset r)
 
 -- ---- 3: a node names a predicate that is unset
-unfoldable pub names-set : List Predicate → Node → Bool
-names-set ps n = not (eqb (n .kind) 1) || is-set (predicate-at ps (n .left) .range)
+unfoldable pub names-set : Node → List Predicate → Bool
+names-set n ps = not (eqb (n .kind) 1) || is-set (predicate-at ps (n .left) .range)
 
-unfoldable pub all-named : List Predicate → List Node → ℕ → Bool
-all-named ps ns n = all-below (λ k. names-set ps (node-at ns k)) n
+unfoldable pub all-named : List Node → ℕ → List Predicate → Bool
+all-named ns n ps = all-below (λ k. names-set (node-at ns k) ps) n
 
 -- refusal 3 whole: the table's own rules, and what it names
 unfoldable pub requirement-obeys : Table → List Predicate → Bool
-requirement-obeys t ps = table-obeys t && all-named ps (t .nodes) (t .count)
+requirement-obeys t ps = table-obeys t && all-named (t .nodes) (t .count) ps
 
 -- every predicate that a node names is set
 pub record Named (c : Card) (t : Table) : Type 0 where
@@ -49,11 +49,11 @@ range-obeys (AtLeast lo) = value-obeys lo
 range-obeys (AtMost hi) = value-obeys hi
 range-obeys (Between lo hi) = value-obeys lo && (value-obeys hi && leZ lo hi)
 
-unfoldable pub predicate-obeys : ℕ → Predicate → Bool
-predicate-obeys channels p = (not (is-set (p .range)) || ltb (p .channel) channels) && range-obeys (p .range)
+unfoldable pub predicate-obeys : Predicate → ℕ → Bool
+predicate-obeys p channels = (not (is-set (p .range)) || ltb (p .channel) channels) && range-obeys (p .range)
 
-unfoldable pub predicates-obey : ℕ → List Predicate → ℕ → Bool
-predicates-obey channels ps n = all-below (λ p. predicate-obeys channels (predicate-at ps p)) n
+unfoldable pub predicates-obey : List Predicate → ℕ → Bool
+predicates-obey ps channels = all-below (λ p. predicate-obeys (predicate-at ps p) channels) (length ps)
 
-unfoldable pub channels-obey : ℕ → List Predicate → Bool
-channels-obey channels ps = leb 1 channels && (leb channels MOST-CHANNELS && predicates-obey channels ps (length ps))
+unfoldable pub channels-obey : List Predicate → ℕ → Bool
+channels-obey ps channels = leb 1 channels && (leb channels MOST-CHANNELS && predicates-obey ps channels)

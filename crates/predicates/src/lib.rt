@@ -2,7 +2,6 @@
 // No test branches on what it has found so far: each looks at everything that it judges.
 ghost use mathlib.Core.Path.{_≡_};
 ghost use Prim.Native.Nat.{_≤_};
-ghost use lib.ListN.{length};
 ghost use Rattle.predicates.specs.Predicates.{is-set, names-set, all-named, requirement-obeys, value-obeys, range-obeys, predicate-obeys, predicates-obey, channels-obey};
 use recordings::FARTHEST;
 use recordings::MOST_CHANNELS;
@@ -19,7 +18,7 @@ pub fn is_set(range: Range) -> bool
 
 // Whether the predicate that a node names, if it names one, is set.
 fn names_set(node: Node, predicates: [Predicate; 16]) -> bool
-    ensures { λ r. ⌜ r ≡ names-set predicates node ⌝ }
+    ensures { λ r. ⌜ r ≡ names-set node predicates ⌝ }
 {
     let left = node.left;
     if node.kind != 1 {
@@ -35,7 +34,7 @@ fn names_set(node: Node, predicates: [Predicate; 16]) -> bool
 
 fn all_named(nodes: [Node; 64], count: usize, predicates: [Predicate; 16]) -> bool
     requires { ⌜ count ≤ 64 ⌝ }
-    ensures { λ r. ⌜ r ≡ all-named predicates nodes count ⌝ }
+    ensures { λ r. ⌜ r ≡ all-named nodes count predicates ⌝ }
 {
     let mut ok = true;
     let mut k = 0;
@@ -88,7 +87,7 @@ fn range_obeys(range: Range) -> bool
 }
 
 fn predicate_obeys(predicate: Predicate, channels: usize) -> bool
-    ensures { λ r. ⌜ r ≡ predicate-obeys channels predicate ⌝ }
+    ensures { λ r. ⌜ r ≡ predicate-obeys predicate channels ⌝ }
 {
     let channel = predicate.channel;
     let range = predicate.range;
@@ -98,7 +97,7 @@ fn predicate_obeys(predicate: Predicate, channels: usize) -> bool
 }
 
 fn predicates_obey(predicates: [Predicate; 16], channels: usize) -> bool
-    ensures { λ r. ⌜ r ≡ predicates-obey channels predicates (length predicates) ⌝ }
+    ensures { λ r. ⌜ r ≡ predicates-obey predicates channels ⌝ }
 {
     let mut ok = true;
     let mut p = 0;
@@ -112,8 +111,8 @@ fn predicates_obey(predicates: [Predicate; 16], channels: usize) -> bool
 }
 
 // Refusal 4.
-pub fn channels_obey(channels: usize, predicates: [Predicate; 16]) -> bool
-    ensures { λ r. ⌜ r ≡ channels-obey channels predicates ⌝ }
+pub fn channels_obey(predicates: [Predicate; 16], channels: usize) -> bool
+    ensures { λ r. ⌜ r ≡ channels-obey predicates channels ⌝ }
 {
     let each = predicates_obey(predicates, channels);
     (1 <= channels) & ((channels <= MOST_CHANNELS) & each)

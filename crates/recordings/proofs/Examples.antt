@@ -20,7 +20,7 @@ use Rattle.recordings.specs.Examples.{example, ramp}
 -- the sentences of acceptance for a recording of one channel, as tests that compute
 record Computed (c : Card) (step drift : ℕ) : Type 0 where
   one-channel : c .channels ≡ 1
-  proper : (p : ℕ) → Proper (c .channels) (predicate c p)
+  proper : (p : ℕ) → Proper (predicate c p) (c .channels)
   some-row : T (leb 1 (rows c))
   few-rows : T (leb (rows c) MOST-ROWS)
   all-values : length (c .values) ≡ rows c * c .channels
@@ -56,7 +56,7 @@ accepted {c} {step} {drift} t = record {
 }
 
 -- ---- the program's example
-at-least-five : (p : ℕ) → Proper 1 (predicate example p)
+at-least-five : (p : ℕ) → Proper (predicate example p) 1
 at-least-five zero = record { known = inr (lit< tt); ends = record { size = lit≤ tt } }
 at-least-five (suc p) = record { known = inl refl; ends = tt }
 

@@ -51,7 +51,7 @@ Ends (AtMost hi) = InRange hi
 Ends (Between lo hi) = InRange lo × InRange hi × T (leZ lo hi)
 
 -- a set predicate's channel is below the channel count; an unset one's is not judged
-pub record Proper (channels : ℕ) (p : Predicate) : Type 0 where
+pub record Proper (p : Predicate) (channels : ℕ) : Type 0 where
   pub known : (p .range ≡ Unset) ⊎ (p .channel < channels)
   pub ends : Ends (p .range)
 
@@ -60,7 +60,7 @@ pub record Proper (channels : ℕ) (p : Predicate) : Type 0 where
 pub record Channels (c : Card) : Type 0 where
   pub some-channel : 1 ≤ c .channels
   pub few-channels : c .channels ≤ MOST-CHANNELS
-  pub proper : (p : ℕ) → Proper (c .channels) (predicate c p)
+  pub proper : (p : ℕ) → Proper (predicate c p) (c .channels)
 
 -- 5: 1 to 4,096 samples, and the values rows × channels long, rows being the count of times
 pub record Lengths (c : Card) : Type 0 where

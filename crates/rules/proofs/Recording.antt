@@ -14,26 +14,26 @@ use Rattle.recordings.specs.Card.{Card, rows, time}
 use Rattle.recordings.specs.Accepted.{MOST-ROWS, LATEST, Lengths, Times, Values}
 use Rattle.predicates.specs.Predicates.{value-obeys}
 use Rattle.predicates.proofs.Predicates.{value-in-range, in-range-passes}
-use Rattle.rules.specs.Recording.{lengths-obey, all-rising, all-early, times-obey, all-in-range, values-obey}
+use Rattle.rules.specs.Recording.{lengths-obey, all-rising, all-early, times-obey, values-obey}
 
 -- ---- 5
-pub lengths-are : (c : Card) → T (lengths-obey (rows c) (length (c .values)) (c .channels)) → Lengths c
+pub lengths-are : (c : Card) → T (lengths-obey (c .channels) (rows c) (length (c .values))) → Lengths c
 unfolding lengths-obey
 lengths-are c t =
     let a = and-yes (leb (rows c) MOST-ROWS) (leb 1 (rows c) && eqb (length (c .values)) (rows c * c .channels)) t in
     let b = and-yes (leb 1 (rows c)) (eqb (length (c .values)) (rows c * c .channels)) (a .1) in
     record { some-row = leb→le 1 (rows c) (b .0); few-rows = leb→le (rows c) MOST-ROWS (a .0); all-values = eqb→eq (length (c .values)) (rows c * c .channels) (b .1) }
 
-pub lengths-pass : (c : Card) → Lengths c → T (lengths-obey (rows c) (length (c .values)) (c .channels))
+pub lengths-pass : (c : Card) → Lengths c → T (lengths-obey (c .channels) (rows c) (length (c .values)))
 unfolding lengths-obey
 lengths-pass c r =
     yes-and (leb (rows c) MOST-ROWS) (leb 1 (rows c) && eqb (length (c .values)) (rows c * c .channels)) (le→leb (rows c) MOST-ROWS (r .few-rows))
     (yes-and (leb 1 (rows c)) (eqb (length (c .values)) (rows c * c .channels)) (le→leb 1 (rows c) (r .some-row)) (yes-eqb (r .all-values)))
 
 -- what the test of the times may rely on
-pub some-row : (rows values channels : ℕ) → lengths-obey rows values channels ≡ true → 1 ≤ rows
+pub some-row : (channels rows values : ℕ) → lengths-obey channels rows values ≡ true → 1 ≤ rows
 unfolding lengths-obey
-some-row rows values channels e =
+some-row channels rows values e =
     let a = and-yes (leb rows MOST-ROWS) (leb 1 rows && eqb values (rows * channels)) (holds e) in
     leb→le 1 rows (and-yes (leb 1 rows) (eqb values (rows * channels)) (a .1) .0)
 
@@ -41,7 +41,7 @@ some-row rows values channels e =
 pub times-are : (c : Card) → T (times-obey (c .times)) → Times c
 unfolding all-rising all-early times-obey
 times-are c t =
-    let a = and-yes (all-rising (c .times) (rows c - 1)) (all-early (c .times) (rows c)) t in
+    let a = and-yes (all-rising (c .times)) (all-early (c .times)) t in
     record {
       rising = λ i h. ltb→lt (time c i) (time c (suc i)) (all-at (λ j. ltb (time c j) (time c (suc j))) (rows c - 1) (a .0) i (omega arith));
       small-times = λ i h. leb→le (time c i) LATEST (all-at (λ j. leb (time c j) LATEST) (rows c) (a .1) i h);
@@ -50,15 +50,15 @@ times-are c t =
 pub times-pass : (c : Card) → Times c → T (times-obey (c .times))
 unfolding all-rising all-early times-obey
 times-pass c r =
-    yes-and (all-rising (c .times) (rows c - 1)) (all-early (c .times) (rows c))
+    yes-and (all-rising (c .times)) (all-early (c .times))
     (at-all (λ j. ltb (time c j) (time c (suc j))) (rows c - 1) (λ i h. lt→ltb (time c i) (time c (suc i)) (r .rising i (omega arith))))
     (at-all (λ j. leb (time c j) LATEST) (rows c) (λ i h. le→leb (time c i) LATEST (r .small-times i h)))
 
 -- ---- 7
 pub values-are : (c : Card) → T (values-obey (c .values)) → Values (c .values)
-unfolding all-in-range values-obey
+unfolding values-obey
 values-are c t = record { each = λ m h. value-in-range (getD (c .values) m (pos 0)) (all-at (λ j. value-obeys (getD (c .values) j (pos 0))) (length (c .values)) t m h) }
 
 pub values-pass : (c : Card) → Values (c .values) → T (values-obey (c .values))
-unfolding all-in-range values-obey
+unfolding values-obey
 values-pass c r = at-all (λ j. value-obeys (getD (c .values) j (pos 0))) (length (c .values)) (λ m h. in-range-passes (getD (c .values) m (pos 0)) (r .each m h))

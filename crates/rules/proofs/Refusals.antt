@@ -8,11 +8,11 @@ use Rattle.recordings.specs.Card.{Card}
 use Rattle.tables.specs.declared.Table.{Table}
 use Rattle.tables.specs.Rules.{table-obeys}
 use Rattle.tables.proofs.Rules.{table-rules, table-passes}
-use Rattle.refusals.specs.First.{first, Exact, AllExact, check-at, Refused, Passed}
+use Rattle.refusals.specs.First.{first, Exact, AllExact, check-at, Passed}
 use Rattle.predicates.specs.Predicates.{requirement-obeys, all-named}
 use Rattle.predicates.proofs.Predicates.{named, named-passes, channels-are, channels-pass}
 use Rattle.rules.specs.Refusals.{checks, Sound}
-use Rattle.refusals.proofs.First.{passed, none-fails, refused, first-is}
+use Rattle.refusals.proofs.First.{passed, none-fails}
 use Rattle.rules.proofs.Recording.{lengths-are, lengths-pass, times-are, times-pass, values-are, values-pass}
 
 pub exact : (c : Card) (t : Table) → AllExact (checks c t)
@@ -21,8 +21,8 @@ exact c t = (three, λ _. (record { sound = channels-are c; complete = channels-
   where
     three : Exact (check-at (checks c t) 0)
     three = record {
-      sound = λ h. let a = and-yes (table-obeys t) (all-named (c .predicates) (t .nodes) (t .count)) h in (table-rules t (a .0), named c t (a .1));
-      complete = λ s. yes-and (table-obeys t) (all-named (c .predicates) (t .nodes) (t .count)) (table-passes t (s .0)) (named-passes c t (s .1));
+      sound = λ h. let a = and-yes (table-obeys t) (all-named (t .nodes) (t .count) (c .predicates)) h in (table-rules t (a .0), named c t (a .1));
+      complete = λ s. yes-and (table-obeys t) (all-named (t .nodes) (t .count) (c .predicates)) (table-passes t (s .0)) (named-passes c t (s .1));
     }
 
 -- the number is 0 exactly when the table is ruled, what it names is set, and the recording is as the semantics ask
@@ -46,10 +46,3 @@ sound-passes c t s = none-fails (checks c t) (exact c t) (record { each = each }
     each (suc (suc (suc zero))) h = s .recorded .times
     each (suc (suc (suc (suc zero)))) h = s .recorded .values
     each (suc (suc (suc (suc (suc j))))) h = absurd (omega arith)
-
--- each number, exactly: `refused` and `first-is` of this list
-pub refused-by : (c : Card) (t : Table) → (first (checks c t) ≡ 0 → ⊥) → Refused (checks c t) (first (checks c t))
-refused-by c t h = refused (checks c t) (exact c t) h
-
-pub refusal-is : (c : Card) (t : Table) {m : ℕ} → Refused (checks c t) m → first (checks c t) ≡ m
-refusal-is c t r = first-is (checks c t) (exact c t) r

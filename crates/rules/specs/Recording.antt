@@ -12,21 +12,18 @@ use Rattle.predicates.specs.Predicates.{value-obeys}
 
 -- ---- 5: no sample, over 4,096, or values not rows × channels long
 unfoldable pub lengths-obey : ℕ → ℕ → ℕ → Bool
-lengths-obey rows values channels = leb rows MOST-ROWS && (leb 1 rows && eqb values (rows * channels))
+lengths-obey channels rows values = leb rows MOST-ROWS && (leb 1 rows && eqb values (rows * channels))
 
 -- ---- 6: times not rising, or one too large
-unfoldable pub all-rising : List ℕ → ℕ → Bool
-all-rising ts n = all-below (λ i. ltb (getD ts i 0) (getD ts (suc i) 0)) n
+unfoldable pub all-rising : List ℕ → Bool
+all-rising ts = all-below (λ i. ltb (getD ts i 0) (getD ts (suc i) 0)) (length ts - 1)
 
-unfoldable pub all-early : List ℕ → ℕ → Bool
-all-early ts n = all-below (λ i. leb (getD ts i 0) LATEST) n
+unfoldable pub all-early : List ℕ → Bool
+all-early ts = all-below (λ i. leb (getD ts i 0) LATEST) (length ts)
 
 unfoldable pub times-obey : List ℕ → Bool
-times-obey ts = all-rising ts (length ts - 1) && all-early ts (length ts)
+times-obey ts = all-rising ts && all-early ts
 
 -- ---- 7: a value out of range
-unfoldable pub all-in-range : List ℤ → ℕ → Bool
-all-in-range vs n = all-below (λ m. value-obeys (getD vs m (pos 0))) n
-
 unfoldable pub values-obey : List ℤ → Bool
-values-obey vs = all-in-range vs (length vs)
+values-obey vs = all-below (λ m. value-obeys (getD vs m (pos 0))) (length vs)

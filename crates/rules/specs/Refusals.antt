@@ -14,13 +14,13 @@ use Rattle.rules.specs.Recording.{lengths-obey, times-obey, values-obey}
 abbrev pub table-checks : Card → Table → List Check
 table-checks c t =
     record { number = 3; sentence = TableRules t × Named c t; passes = requirement-obeys t (c .predicates) }
-    ∷ record { number = 4; sentence = Channels c; passes = channels-obey (c .channels) (c .predicates) }
+    ∷ record { number = 4; sentence = Channels c; passes = channels-obey (c .predicates) (c .channels) }
     ∷ []
 
 -- 5 to 7: the samples
 abbrev pub sample-checks : Card → List Check
 sample-checks c =
-    record { number = 5; sentence = Lengths c; passes = lengths-obey (rows c) (length (c .values)) (c .channels) }
+    record { number = 5; sentence = Lengths c; passes = lengths-obey (c .channels) (rows c) (length (c .values)) }
     ∷ record { number = 6; sentence = Times c; passes = times-obey (c .times) }
     ∷ record { number = 7; sentence = Values (c .values); passes = values-obey (c .values) }
     ∷ []

@@ -1,7 +1,7 @@
 // Refusals 3 to 7: what a table, its predicates and a recording are judged by before a margin is taken. Their sentences are listed in specs/Refusals.
 // No test branches on what it has found so far; none counts past what an earlier one has bounded.
 ghost use mathlib.Core.Path.{_≡_};
-ghost use Prim.Native.Nat.{_≤_, _<_};
+ghost use Prim.Native.Nat.{_≤_};
 ghost use lib.ListN.{length};
 ghost use Rattle.refusals.specs.First.{first};
 ghost use Rattle.rules.specs.Recording.{lengths-obey, all-rising, all-early, times-obey, values-obey};
@@ -14,9 +14,9 @@ use recordings::Predicate;
 use tables::Table;
 
 // `values` is the count of values.
-fn lengths_obey(rows: usize, values: usize, channels: usize) -> bool
+fn lengths_obey(channels: usize, rows: usize, values: usize) -> bool
     requires { ⌜ channels ≤ MOST-CHANNELS ⌝ }
-    ensures { λ r. ⌜ r ≡ lengths-obey rows values channels ⌝ }
+    ensures { λ r. ⌜ r ≡ lengths-obey channels rows values ⌝ }
 {
     if MOST_ROWS < rows {
         return false;
@@ -25,10 +25,11 @@ fn lengths_obey(rows: usize, values: usize, channels: usize) -> bool
 }
 
 // `gaps` is the count of neighbours.
-fn all_rising(times: &[u64], gaps: usize) -> bool
-    requires { ⌜ gaps < length (now times) ⌝ }
-    ensures { λ r. ⌜ r ≡ all-rising (now (times .entry)) gaps ⌝ }
+fn all_rising(times: &[u64]) -> bool
+    requires { ⌜ 1 ≤ length (now times) ⌝ }
+    ensures { λ r. ⌜ r ≡ all-rising (now (times .entry)) ⌝ }
 {
+    let gaps = times.len() - 1;
     let mut ok = true;
     let mut i = 0;
     while i < gaps {
@@ -40,7 +41,7 @@ fn all_rising(times: &[u64], gaps: usize) -> bool
 }
 
 fn all_early(times: &[u64]) -> bool
-    ensures { λ r. ⌜ r ≡ all-early (now (times .entry)) (length (now (times .entry))) ⌝ }
+    ensures { λ r. ⌜ r ≡ all-early (now (times .entry)) ⌝ }
 {
     let mut ok = true;
     let mut i = 0;
@@ -57,8 +58,7 @@ fn times_obey(times: &[u64]) -> bool
     requires { ⌜ 1 ≤ length (now times) ⌝ }
     ensures { λ r. ⌜ r ≡ times-obey (now (times .entry)) ⌝ }
 {
-    let gaps = times.len() - 1;
-    let rising = all_rising(times, gaps);
+    let rising = all_rising(times);
     let early = all_early(times);
     rising & early
 }
@@ -90,11 +90,11 @@ pub fn refusal(
     if !three {
         return 3;
     }
-    let four = predicates::channels_obey(channels, predicates);
+    let four = predicates::channels_obey(predicates, channels);
     if !four {
         return 4;
     }
-    let five = lengths_obey(times.len(), values.len(), channels);
+    let five = lengths_obey(channels, times.len(), values.len());
     if !five {
         return 5;
     }

@@ -16,12 +16,9 @@ use Rattle.lists.proofs.Below.{same-test, all-at, at-all}
 use Rattle.lists.proofs.Filled.{earlier-row}
 use Rattle.recordings.specs.Card.{Card, rows, time, value}
 use Rattle.recordings.specs.Accepted.{LONGEST-STEP, LARGEST-DRIFT, Step, Gapless, Steady, Recorded, Accepted}
-use Rattle.tables.specs.declared.Table.{Table}
 use Rattle.refusals.specs.First.{first, Exact, AllExact, check-at}
-use Rattle.rules.specs.Refusals.{checks as recording-checks}
 use Rattle.refusals.proofs.First.{passed, none-fails}
-use Rattle.rules.proofs.Refusals.{sound}
-use Rattle.sampling.specs.Sampling.{step-obeys, all-close, times-close, near, all-near, values-near, checks, samples-alone, Measured}
+use Rattle.sampling.specs.Sampling.{step-obeys, times-close, near, values-near, checks, samples-alone, Measured}
 
 -- ---- 9
 pub step-is : (step drift : ℕ) → T (step-obeys step drift) → Step step drift
@@ -38,22 +35,22 @@ step-passes step drift r =
     (yes-and (leb step LONGEST-STEP) (leb drift LARGEST-DRIFT) (le→leb step LONGEST-STEP (r .short-step)) (le→leb drift LARGEST-DRIFT (r .small-drift)))
 
 -- ---- 10
-pub gapless : (c : Card) (step : ℕ) → T (times-close step (c .times)) → Gapless c step
-unfolding times-close all-close
+pub gapless : (c : Card) (step : ℕ) → T (times-close (c .times) step) → Gapless c step
+unfolding times-close
 gapless c step t = record {
   no-gap = λ i h. omega (arith, leb→le (time c (suc i) - time c i) step (all-at (λ j. leb (time c (suc j) - time c j) step) (rows c - 1) t i (omega arith)));
 }
 
-pub gapless-passes : (c : Card) (step : ℕ) → Gapless c step → T (times-close step (c .times))
-unfolding times-close all-close
+pub gapless-passes : (c : Card) (step : ℕ) → Gapless c step → T (times-close (c .times) step)
+unfolding times-close
 gapless-passes c step r =
     at-all (λ j. leb (time c (suc j) - time c j) step) (rows c - 1) (λ i h. le→leb (time c (suc i) - time c i) step (omega (arith, r .no-gap i (omega arith))))
 
 -- ---- 11
 -- the code compares both differences with 2 × drift
-near-both : (drift : ℕ) (a b : ℤ) → near drift a b ≡ (leZ (b -ℤ a) (pos (2 * drift)) && leZ (a -ℤ b) (pos (2 * drift)))
+near-both : (a b : ℤ) (drift : ℕ) → near a b drift ≡ (leZ (b -ℤ a) (pos (2 * drift)) && leZ (a -ℤ b) (pos (2 * drift)))
 unfolding near
-near-both drift a b = same-test
+near-both a b drift = same-test
     (λ t. let h = leb→le (natAbs (b -ℤ a)) (2 * drift) t in
     yes-and (leZ (b -ℤ a) (pos (2 * drift))) (leZ (a -ℤ b) (pos (2 * drift)))
     (parts-le (b -ℤ a) (pos (2 * drift)) (omega (arith, abs-parts (b -ℤ a))))
@@ -62,15 +59,15 @@ near-both drift a b = same-test
     le→leb (natAbs (b -ℤ a)) (2 * drift)
     (omega (arith, le-parts (b -ℤ a) (pos (2 * drift)) (h .0), le-parts (a -ℤ b) (pos (2 * drift)) (h .1), abs-parts (b -ℤ a), parts-apart (b -ℤ a), sub-parts a b, sub-parts b a)))
 
-pub near-flags : (drift : ℕ) (a b : ℤ) {u d m : ℤ} → u ≡ b -ℤ a → d ≡ a -ℤ b → m ≡ pos (2 * drift) → (leZ u m && leZ d m) ≡ near drift a b
-near-flags drift a b p q r = rw (p, q, r) (sym (near-both drift a b))
+pub near-flags : (a b : ℤ) (drift : ℕ) {u d m : ℤ} → u ≡ b -ℤ a → d ≡ a -ℤ b → m ≡ pos (2 * drift) → (leZ u m && leZ d m) ≡ near a b drift
+near-flags a b drift p q r = rw (p, q, r) (sym (near-both a b drift))
 
 -- the next sample's place is `channels` places on
 next-place : (i ch n : ℕ) → suc i * n + ch ≡ i * n + ch + n
 next-place i ch n = omega (arith, suc-mul i n)
 
-pub steady : (c : Card) (drift : ℕ) → length (c .values) ≡ rows c * c .channels → T (values-near drift (c .channels) (c .values)) → Steady c drift
-unfolding values-near all-near near
+pub steady : (c : Card) (drift : ℕ) → length (c .values) ≡ rows c * c .channels → T (values-near (c .channels) (c .values) drift) → Steady c drift
+unfolding values-near near
 steady c drift l t = record { no-jump = λ i ch h k. apart i ch h k }
   where
     there : (i ch : ℕ) → suc i < rows c → ch < c .channels → i * c .channels + ch < length (c .values) - c .channels
@@ -79,11 +76,11 @@ steady c drift l t = record { no-jump = λ i ch h k. apart i ch h k }
     apart : (i ch : ℕ) → suc i < rows c → ch < c .channels → natAbs (value c ch (suc i) -ℤ value c ch i) ≤ 2 * drift
     apart i ch h k = rw (next-place i ch (c .channels))
         (leb→le (natAbs (getD (c .values) (i * c .channels + ch + c .channels) (pos 0) -ℤ value c ch i)) (2 * drift)
-        (all-at (λ m. near drift (getD (c .values) m (pos 0)) (getD (c .values) (m + c .channels) (pos 0))) (length (c .values) - c .channels) t (i * c .channels + ch) (there i ch h k)))
+        (all-at (λ m. near (getD (c .values) m (pos 0)) (getD (c .values) (m + c .channels) (pos 0)) drift) (length (c .values) - c .channels) t (i * c .channels + ch) (there i ch h k)))
 
-pub steady-passes : (c : Card) (drift : ℕ) → 1 ≤ c .channels → length (c .values) ≡ rows c * c .channels → Steady c drift → T (values-near drift (c .channels) (c .values))
-unfolding values-near all-near near
-steady-passes c drift s l r = at-all (λ m. near drift (getD (c .values) m (pos 0)) (getD (c .values) (m + c .channels) (pos 0))) (length (c .values) - c .channels) apart
+pub steady-passes : (c : Card) (drift : ℕ) → 1 ≤ c .channels → length (c .values) ≡ rows c * c .channels → Steady c drift → T (values-near (c .channels) (c .values) drift)
+unfolding values-near near
+steady-passes c drift s l r = at-all (λ m. near (getD (c .values) m (pos 0)) (getD (c .values) (m + c .channels) (pos 0)) drift) (length (c .values) - c .channels) apart
   where
     parts : (m : ℕ) → m / c .channels * c .channels + m % c .channels ≡ m
     parts m = div-add-mod' m (c .channels)
@@ -94,7 +91,7 @@ steady-passes c drift s l r = at-all (λ m. near drift (getD (c .values) m (pos 
       | no i ↦ let n : rows c ≤ suc (m / c .channels) = omega arith in absurd (omega (arith, mul-le-mul-right (c .channels) n, suc-mul (m / c .channels) (c .channels), parts m))
     ]
 
-    apart : (m : ℕ) → m < length (c .values) - c .channels → T (near drift (getD (c .values) m (pos 0)) (getD (c .values) (m + c .channels) (pos 0)))
+    apart : (m : ℕ) → m < length (c .values) - c .channels → T (near (getD (c .values) m (pos 0)) (getD (c .values) (m + c .channels) (pos 0)) drift)
     apart m h = le→leb (natAbs (getD (c .values) (m + c .channels) (pos 0) -ℤ getD (c .values) m (pos 0))) (2 * drift)
         (rw (next-place (m / c .channels) (m % c .channels) (c .channels), parts m) at (r .no-jump (m / c .channels) (m % c .channels) (inner m h) (mod-lt m s)))
 
@@ -122,10 +119,6 @@ accepted-passes c step drift a = none-fails (checks c step drift) (exact c step 
     each (suc zero) h = a .gapless
     each (suc (suc zero)) h = a .steady
     each (suc (suc (suc j))) h = absurd (omega arith)
-
--- no number of 3 to 7 and none of 9 to 11: what demand 3 asks
-pub accepted-by : (c : Card) (t : Table) (step drift : ℕ) → first (recording-checks c t) ≡ 0 → first (checks c step drift) ≡ 0 → Accepted c step drift
-accepted-by c t step drift e f = accepted c step drift (sound c t e .recorded) f
 
 -- the tests of 9 to 11 do not look at the predicates
 pub first-alone : (c : Card) (step drift : ℕ) → first (checks (samples-alone (c .channels) (c .times) (c .values)) step drift) ≡ first (checks c step drift)

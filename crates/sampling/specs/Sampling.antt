@@ -16,29 +16,23 @@ unfoldable pub step-obeys : ℕ → ℕ → Bool
 step-obeys step drift = leb 1 step && (leb step LONGEST-STEP && leb drift LARGEST-DRIFT)
 
 -- ---- 10: two neighbouring times differ by more than the step
-unfoldable pub all-close : ℕ → List ℕ → ℕ → Bool
-all-close step ts n = all-below (λ i. leb (getD ts (suc i) 0 - getD ts i 0) step) n
-
-unfoldable pub times-close : ℕ → List ℕ → Bool
-times-close step ts = all-close step ts (length ts - 1)
+unfoldable pub times-close : List ℕ → ℕ → Bool
+times-close ts step = all-below (λ i. leb (getD ts (suc i) 0 - getD ts i 0) step) (length ts - 1)
 
 -- ---- 11: neighbouring values of a channel differ by more than 2 × drift
-unfoldable pub near : ℕ → ℤ → ℤ → Bool
-near drift a b = leb (natAbs (b -ℤ a)) (2 * drift)
+unfoldable pub near : ℤ → ℤ → ℕ → Bool
+near from to drift = leb (natAbs (to -ℤ from)) (2 * drift)
 
 -- the channel's next value stands `channels` places on
-unfoldable pub all-near : ℕ → ℕ → List ℤ → ℕ → Bool
-all-near drift channels vs n = all-below (λ m. near drift (getD vs m (pos 0)) (getD vs (m + channels) (pos 0))) n
-
-unfoldable pub values-near : ℕ → ℕ → List ℤ → Bool
-values-near drift channels vs = all-near drift channels vs (length vs - channels)
+unfoldable pub values-near : ℕ → List ℤ → ℕ → Bool
+values-near channels vs drift = all-below (λ m. near (getD vs m (pos 0)) (getD vs (m + channels) (pos 0)) drift) (length vs - channels)
 
 -- ---- in the order in which they count; in a verdict they stand behind refusals 3 to 8
 abbrev pub checks : Card → ℕ → ℕ → List Check
 checks c step drift =
     record { number = 9; sentence = Step step drift; passes = step-obeys step drift }
-    ∷ record { number = 10; sentence = Gapless c step; passes = times-close step (c .times) }
-    ∷ record { number = 11; sentence = Steady c drift; passes = values-near drift (c .channels) (c .values) }
+    ∷ record { number = 10; sentence = Gapless c step; passes = times-close (c .times) step }
+    ∷ record { number = 11; sentence = Steady c drift; passes = values-near (c .channels) (c .values) drift }
     ∷ []
 
 -- no predicate is looked at

@@ -1,12 +1,11 @@
 // Refusals 9 to 11: whether step and drift are in range, and whether neighbouring samples are near enough in time and in value. Their sentences are in recordings/specs/Accepted.
 // Differences are compared; nothing is added to a time or a value.
 ghost use mathlib.Core.Path.{_≡_};
-ghost use Prim.Native.Nat.{_-_, _≤_, _<_};
+ghost use Prim.Native.Nat.{_-_, _≤_};
 ghost use lib.Dec.{leb};
 ghost use lib.ListN.{length};
-ghost use Rattle.recordings.specs.Accepted.{InRange};
 ghost use Rattle.refusals.specs.First.{first};
-ghost use Rattle.sampling.specs.Sampling.{step-obeys, all-close, times-close, near, Comparable, all-near, values-near, checks, samples-alone, Measured, Comparables};
+ghost use Rattle.sampling.specs.Sampling.{step-obeys, times-close, near, Comparable, values-near, checks, samples-alone, Measured, Comparables};
 use recordings::LARGEST_DRIFT;
 use recordings::LONGEST_STEP;
 
@@ -26,10 +25,11 @@ fn close(from: u64, to: u64, step: u64) -> bool
 }
 
 // `gaps` is the count of neighbours.
-fn all_close(times: &[u64], gaps: usize, step: u64) -> bool
-    requires { ⌜ gaps < length (now times) ⌝ }
-    ensures { λ r. ⌜ r ≡ all-close step (now (times .entry)) gaps ⌝ }
+fn times_close(times: &[u64], step: u64) -> bool
+    requires { ⌜ 1 ≤ length (now times) ⌝ }
+    ensures { λ r. ⌜ r ≡ times-close (now (times .entry)) step ⌝ }
 {
+    let gaps = times.len() - 1;
     let mut ok = true;
     let mut i = 0;
     while i < gaps {
@@ -42,7 +42,7 @@ fn all_close(times: &[u64], gaps: usize, step: u64) -> bool
 
 fn near(from: i64, to: i64, drift: u64) -> bool
     requires { ⌜ Comparable from to drift ⌝ }
-    ensures { λ r. ⌜ r ≡ near drift from to ⌝ }
+    ensures { λ r. ⌜ r ≡ near from to drift ⌝ }
 {
     let most = (2 * drift) as i64;
     let up = numbers::difference(to, from);
@@ -51,9 +51,9 @@ fn near(from: i64, to: i64, drift: u64) -> bool
 }
 
 // A channel's next value stands `channels` places on.
-fn values_near(values: &[i64], channels: usize, drift: u64) -> bool
+fn values_near(channels: usize, values: &[i64], drift: u64) -> bool
     requires { ⌜ Comparables channels (now values) drift ⌝ }
-    ensures { λ r. ⌜ r ≡ values-near drift channels (now (values .entry)) ⌝ }
+    ensures { λ r. ⌜ r ≡ values-near channels (now (values .entry)) drift ⌝ }
 {
     let count = values.len() - channels;
     let mut ok = true;
@@ -67,7 +67,7 @@ fn values_near(values: &[i64], channels: usize, drift: u64) -> bool
 }
 
 // The first of refusals 9 to 11 that applies, 0 where none does.
-pub fn refusal(times: &[u64], values: &[i64], channels: usize, step: u64, drift: u64) -> u64
+pub fn refusal(channels: usize, times: &[u64], values: &[i64], step: u64, drift: u64) -> u64
     requires { ⌜ Measured channels (now times) (now values) ⌝ }
     ensures { λ r. ⌜ r ≡ first (checks (samples-alone channels (now (times .entry)) (now (values .entry))) step drift) ⌝ }
 {
@@ -75,12 +75,11 @@ pub fn refusal(times: &[u64], values: &[i64], channels: usize, step: u64, drift:
     if !nine {
         return 9;
     }
-    let gaps = times.len() - 1;
-    let ten = all_close(times, gaps, step);
+    let ten = times_close(times, step);
     if !ten {
         return 10;
     }
-    let eleven = values_near(values, channels, drift);
+    let eleven = values_near(channels, values, drift);
     if !eleven {
         return 11;
     }

@@ -22,14 +22,14 @@ use Rattle.tables.specs.Tree.{tree, root}
 use Rattle.refusals.specs.First.{first, AllExact, Refused, unless-refused}
 use Rattle.rules.specs.Refusals.{checks, Sound}
 use Rattle.refusals.proofs.First.{refused, first-is, first-of-whole, exact-append}
-use Rattle.rules.proofs.Refusals.{exact, passed-sound, sound}
+use Rattle.rules.proofs.Refusals.{exact, passed-sound, sound, sound-passes}
 use Rattle.sampling.specs.Sampling.{checks as sampling-checks}
-use Rattle.sampling.proofs.Sampling.{accepted, exact as sampling-exact}
+use Rattle.sampling.proofs.Sampling.{accepted, accepted-passes, exact as sampling-exact}
 use Rattle.verdicts.specs.Cells.{strong, row-value, cells}
 use Rattle.verdicts.specs.Rows.{row-of}
 use Rattle.verdicts.specs.Answer.{room-check, verdict-checks, refusal, judged, cells-after}
 use Rattle.verdicts.proofs.Rows.{row-value-of}
-use Rattle.verdicts.proofs.Entry.{after-room}
+use Rattle.verdicts.proofs.Entry.{refused-late, after-room}
 
 module _ (c : Card) (t : Table) (step drift size : ℕ) where
   -- number 0: refusals 3 to 11 do not apply, so the recording, requirement, step and drift are accepted
@@ -43,6 +43,11 @@ module _ (c : Card) (t : Table) (step drift size : ℕ) where
 
   pub number-accepted : judged c t step drift size .number ≡ 0 → Accepted c step drift
   number-accepted e = accepted c step drift (number-sound e .recorded) (number-room e .1)
+
+  -- and where none of them applies, the number is 0
+  pub accepted-number : Sound c t → 2 * t .count * rows c ≤ size → Accepted c step drift → judged c t step drift size .number ≡ 0
+  unfolding judged
+  accepted-number s h a = refused-late c t step drift size (sound-passes c t s) h ∙ accepted-passes c step drift a
 
   -- the verdict, hold and fail are the definitions'; under a refusal they are "not shown", 0 and 0
   pub verdict-is : judged c t step drift size .number ≡ 0 → judged c t step drift size .verdict ≡ verdict c step drift (root t)

@@ -172,7 +172,7 @@ pub fn verdict(
     if work.len() < 2 * count * rows {
         return Answer::Refused(8);
     }
-    let late = sampling::refusal(times, values, channels, step, drift);
+    let late = sampling::refusal(channels, times, values, step, drift);
     if late != 0 {
         return Answer::Refused(late);
     }

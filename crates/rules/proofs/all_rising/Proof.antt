@@ -1,22 +1,27 @@
--- The invariant is the definition at i: `ok` says whether the first i times are each below the next.
+-- `ok` says of the first i times whether each is below the next.
 -- Assumes nothing.
-use mathlib.Core.Path.{_≡_, refl}
-use Prim.Native.Nat.{_≤_, _-_}
+use mathlib.Core.Path.{refl}
+use Prim.Native.Nat.{suc, _-_}
 use native.Mathlib.Omega.{arith}
 use native.Mathlib.Numerals.{add-one}
+use lib.Dec.{ltb}
+use lib.ListN.{getD}
+use Rattle.lists.proofs.Below.{Tested, tested-none, tested-next, tested-all}
 use Rattle.rules.specs.Recording.{all-rising}
 use Rattle.rules.proofs.all_rising.Statement.{statement}
 use Rattle.rules.proofs.all_rising.Tie as tie
 
 abbrev Inv-loop : tie.InvT-loop
-Inv-loop times gaps ok₀ i₀ ok i = (i ≤ gaps) × (ok ≡ all-rising times i)
+Inv-loop times gaps ok₀ i₀ ok i = Tested (λ j. ltb (getD times j 0) (getD times (suc j) 0)) gaps i ok
 
 abbrev μ-loop : tie.MeasureT-loop
 μ-loop times gaps ok₀ i₀ ok i = gaps - i
 
+sub-gaps : tie.Need-sub-gaps Inv-loop μ-loop
+sub-gaps c = omega arith
+
 loop-holds : tie.Need-loop-holds Inv-loop μ-loop
-unfolding all-rising
-loop-holds c = (omega arith, refl)
+loop-holds c = tested-none
 
 mul-rises : tie.Need-mul-rises Inv-loop μ-loop
 mul-rises c = omega arith
@@ -40,11 +45,11 @@ loop-less : tie.Need-loop-less Inv-loop μ-loop
 loop-less c = omega arith
 
 loop-again : tie.Need-loop-again Inv-loop μ-loop
-unfolding all-rising
-loop-again c = (omega arith, rw (add-one, c .before .before .before .loop .inv .1))
+loop-again c = tested-next (c .before .before .before .loop .inv) (c .before .before .loop-test .taken) (rw add-one refl)
 
 returns : tie.Need-returns Inv-loop μ-loop
-returns c = let e : c .before .loop .i ≡ c .before .before .args .gaps = omega arith in rw e at (c .before .loop .inv .1)
+unfolding all-rising
+returns c = tested-all (c .before .loop .inv) (c .loop-test .left)
 
 pub all-rising-spec : {M : Type 1} → statement M
 all-rising-spec =
@@ -52,6 +57,7 @@ all-rising-spec =
     (tie.spec
     Inv-loop
     μ-loop
+    sub-gaps
     loop-holds
     mul-rises
     shared-slice-read-rises

@@ -5,9 +5,6 @@ use Rattle.rules.specs.Recording.{times-obey}
 use Rattle.rules.proofs.times_obey.Statement.{statement}
 use Rattle.rules.proofs.times_obey.Tie as tie
 
-sub-gaps : tie.Need-sub-gaps
-sub-gaps c = search needs
-
 all-rising-requires : tie.Need-all-rising-requires
 all-rising-requires c κs = search needs
 
@@ -19,4 +16,4 @@ unfolding times-obey
 returns c = rw (c .before .all-rising .ensures, c .all-early .ensures)
 
 pub times-obey-spec : {M : Type 1} → statement M
-times-obey-spec = tie.close (tie.spec sub-gaps all-rising-requires all-early-requires returns)
+times-obey-spec = tie.close (tie.spec all-rising-requires all-early-requires returns)

@@ -1,20 +1,20 @@
--- The invariant is the definition at m: `ok` says whether every value before place m is in range.
+-- `ok` says of the values before place m whether every one is in range.
 -- Assumes nothing.
-use mathlib.Core.Path.{_≡_, refl, ap, _∙_}
-use Prim.Native.Nat.{_≤_, _-_}
+use mathlib.Core.Path.{_≡_, ap, _∙_}
+use Prim.Native.Nat.{_-_}
 use native.Mathlib.Omega.{arith}
-use native.Mathlib.Numerals.{add-one}
 use borrow.Author.Needs.{needs}
 use lib.ListN.{length, getD}
 use lib.IntN.{pos}
 use Rattle.numbers.proofs.Bits.{back-ok}
+use Rattle.lists.proofs.Below.{Tested, tested-none, tested-next, tested-all}
 use Rattle.predicates.specs.Predicates.{value-obeys}
-use Rattle.rules.specs.Recording.{all-in-range, values-obey}
+use Rattle.rules.specs.Recording.{values-obey}
 use Rattle.rules.proofs.values_obey.Statement.{statement}
 use Rattle.rules.proofs.values_obey.Tie as tie
 
 abbrev Inv-loop : tie.InvT-loop
-Inv-loop values ok₀ m₀ ok m = (m ≤ length values) × (ok ≡ all-in-range values m)
+Inv-loop values ok₀ m₀ ok m = Tested (λ j. value-obeys (getD values j (pos 0))) (length values) m ok
 
 abbrev μ-loop : tie.MeasureT-loop
 μ-loop values ok₀ m₀ ok m = length values - m
@@ -24,8 +24,7 @@ obeys : (c : tie.After-value-obeys Inv-loop μ-loop) → c .value-obeys .result 
 obeys c = c .value-obeys .ensures ∙ ap value-obeys (back-ok _ (c .before .value-obeys-arg .given))
 
 loop-holds : tie.Need-loop-holds Inv-loop μ-loop
-unfolding all-in-range
-loop-holds c = (omega arith, refl)
+loop-holds c = tested-none
 
 mul-value-obeys : tie.Need-mul-value-obeys Inv-loop μ-loop
 mul-value-obeys c = omega arith
@@ -43,12 +42,11 @@ loop-less : tie.Need-loop-less Inv-loop μ-loop
 loop-less c = omega arith
 
 loop-again : tie.Need-loop-again Inv-loop μ-loop
-unfolding all-in-range
-loop-again c = (omega arith, rw (add-one, c .before .before .before .loop .inv .1, obeys c))
+loop-again c = tested-next (c .before .before .before .loop .inv) (c .before .before .loop-test .taken) (obeys c)
 
 returns : tie.Need-returns Inv-loop μ-loop
 unfolding values-obey
-returns c = let e : c .before .loop .m ≡ length (c .before .before .args .values .now) = omega arith in rw e at (c .before .loop .inv .1)
+returns c = tested-all (c .before .loop .inv) (c .loop-test .left)
 
 pub values-obey-spec : {M : Type 1} → statement M
 values-obey-spec =

@@ -36,7 +36,7 @@ returns c =
     let s = c .before .before in
     let up = back-ok _ (c .before .difference .ok) ∙ (rw (back-is (s .fits .to), back-is (s .fits .from)) at (c .before .difference .ensures)) in
     let down = back-ok _ (c .difference2 .ok) ∙ (rw (back-is (s .fits .from), back-is (s .fits .to)) at (c .difference2 .ensures)) in
-    near-flags (s .args .drift) (s .args .from) (s .args .to) up down (toZ-pos w64 (omega arith))
+    near-flags (s .args .from) (s .args .to) (s .args .drift) up down (toZ-pos w64 (omega arith))
 
 pub near-spec : {M : Type 1} → statement M
 near-spec =

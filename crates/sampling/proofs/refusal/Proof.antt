@@ -15,11 +15,10 @@ use Rattle.sampling.proofs.refusal.Tie as tie
 passed-9 : (c : tie.Else1) → step-obeys (c .before .before .before .args .step) (c .before .before .before .args .drift) ≡ true
 passed-9 c = sym (c .before .step-obeys .ensures) ∙ not-false _ (c .if1 .left)
 
-passed-10 : (c : tie.Else2) → times-close (c .before .before .before .before .before .args .step) (c .before .before .before .before .before .args .times .now) ≡ true
-unfolding times-close
-passed-10 c = sym (c .before .all-close .ensures) ∙ not-false _ (c .if2 .left)
+passed-10 : (c : tie.Else2) → times-close (c .before .before .before .before .before .args .times .now) (c .before .before .before .before .before .args .step) ≡ true
+passed-10 c = sym (c .before .times-close .ensures) ∙ not-false _ (c .if2 .left)
 
-passed-11 : (c : tie.Else3) → values-near (c .before .before .before .before .before .before .before .args .drift) (c .before .before .before .before .before .before .before .args .channels) (c .before .before .before .before .before .before .before .args .values .now) ≡ true
+passed-11 : (c : tie.Else3) → values-near (c .before .before .before .before .before .before .before .args .channels) (c .before .before .before .before .before .before .before .args .values .now) (c .before .before .before .before .before .before .before .args .drift) ≡ true
 passed-11 c = sym (c .before .values-near .ensures) ∙ not-false _ (c .if3 .left)
 
 step-obeys-requires : tie.Need-step-obeys-requires
@@ -29,15 +28,12 @@ returns : tie.Need-returns
 unfolding first
 returns c = rw (sym (c .before .step-obeys .ensures) ∙ not-true (c .before .step-obeys .result) (c .if1 .taken))
 
-sub-gaps : tie.Need-sub-gaps
-sub-gaps c = search needs
-
-all-close-requires : tie.Need-all-close-requires
-all-close-requires c κs = search needs
+times-close-requires : tie.Need-times-close-requires
+times-close-requires c κs = search needs
 
 returns-2 : tie.Need-returns-2
-unfolding first times-close
-returns-2 c = rw (passed-9 (c .before .before), sym (c .before .all-close .ensures) ∙ not-true (c .before .all-close .result) (c .if2 .taken))
+unfolding first
+returns-2 c = rw (passed-9 (c .before .before), sym (c .before .times-close .ensures) ∙ not-true (c .before .times-close .result) (c .if2 .taken))
 
 values-near-requires : tie.Need-values-near-requires
 values-near-requires c κs =
@@ -63,8 +59,7 @@ refusal-spec =
     (tie.spec
     step-obeys-requires
     returns
-    sub-gaps
-    all-close-requires
+    times-close-requires
     returns-2
     values-near-requires
     returns-3

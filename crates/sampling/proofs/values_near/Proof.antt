@@ -1,28 +1,26 @@
--- The invariant is the definition at m: `ok` says whether the first m values are each near the channel's next.
+-- `ok` says of the first m values whether each is near the channel's next.
 -- Assumes nothing.
-use mathlib.Core.Path.{_≡_, refl}
-use Prim.Native.Nat.{ℕ, _≤_, _-_, _+_}
+use Prim.Native.Nat.{ℕ, _-_, _+_}
 use native.Mathlib.Omega.{arith}
-use native.Mathlib.Numerals.{add-one}
-use lib.ListN.{length, getD}
+use lib.ListN.{getD}
 use lib.IntN.{pos}
 use Rattle.numbers.proofs.Bits.{back-ok}
-use Rattle.sampling.specs.Sampling.{all-near, values-near}
+use Rattle.lists.proofs.Below.{Tested, tested-none, tested-next, tested-all}
+use Rattle.sampling.specs.Sampling.{near, values-near}
 use Rattle.sampling.proofs.values_near.Statement.{statement}
 use Rattle.sampling.proofs.values_near.Tie as tie
 
 abbrev Inv-loop : tie.InvT-loop
-Inv-loop values channels drift count ok₀ m₀ ok m = (m ≤ count) × (ok ≡ all-near drift channels values m)
+Inv-loop channels values drift count ok₀ m₀ ok m = Tested (λ j. near (getD values j (pos 0)) (getD values (j + channels) (pos 0)) drift) count m ok
 
 abbrev μ-loop : tie.MeasureT-loop
-μ-loop values channels drift count ok₀ m₀ ok m = count - m
+μ-loop channels values drift count ok₀ m₀ ok m = count - m
 
 sub-count : tie.Need-sub-count Inv-loop μ-loop
 sub-count c = omega arith
 
 loop-holds : tie.Need-loop-holds Inv-loop μ-loop
-unfolding all-near
-loop-holds c = (omega arith, refl)
+loop-holds c = tested-none
 
 mul-near : tie.Need-mul-near Inv-loop μ-loop
 mul-near c = omega arith
@@ -56,20 +54,16 @@ loop-less : tie.Need-loop-less Inv-loop μ-loop
 loop-less c = omega arith
 
 loop-again : tie.Need-loop-again Inv-loop μ-loop
-unfolding all-near
 loop-again c =
     let s = c .before .before .before .before .before in
     let m : ℕ = c .before .before .before .before .loop .m in
     let from = back-ok (getD (s .args .values .now) m (pos 0)) (c .before .before .near-arg .given) in
     let to = back-ok (getD (s .args .values .now) (m + s .args .channels) (pos 0)) (c .before .near-arg2 .given) in
-    (omega arith, rw (c .near .ensures, from, to, add-one, c .before .before .before .before .loop .inv .1))
+    tested-next (c .before .before .before .before .loop .inv) (c .before .before .before .loop-test .taken) (rw (from, to) at (c .near .ensures))
 
 returns : tie.Need-returns Inv-loop μ-loop
 unfolding values-near
-returns c =
-    let s = c .before .before in
-    let e : c .before .loop .m ≡ length (s .args .values .now) - s .args .channels = omega arith in
-    rw e at (c .before .loop .inv .1)
+returns c = tested-all (c .before .loop .inv) (c .loop-test .left)
 
 pub values-near-spec : {M : Type 1} → statement M
 values-near-spec =

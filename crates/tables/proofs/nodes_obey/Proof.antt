@@ -1,23 +1,22 @@
--- The invariant is the definition at k: `ok` says whether every node before k obeys.
+-- `ok` says of the nodes before k whether every one obeys.
 -- Assumes nothing.
-use mathlib.Core.Path.{_≡_, refl}
-use Prim.Native.Nat.{_≤_, _-_}
+use Prim.Native.Nat.{_-_}
 use native.Mathlib.Omega.{arith}
-use native.Mathlib.Numerals.{add-one}
 use borrow.Author.Needs.{needs}
-use Rattle.tables.specs.Rules.{nodes-obey}
+use Rattle.lists.proofs.Below.{Tested, tested-none, tested-next, tested-all}
+use Rattle.tables.specs.Tree.{node-at}
+use Rattle.tables.specs.Rules.{node-obeys, nodes-obey}
 use Rattle.tables.proofs.nodes_obey.Statement.{statement}
 use Rattle.tables.proofs.nodes_obey.Tie as tie
 
 abbrev Inv-loop : tie.InvT-loop
-Inv-loop count nodes ok₀ k₀ ok k = (k ≤ count) × (ok ≡ nodes-obey nodes k)
+Inv-loop count nodes ok₀ k₀ ok k = Tested (λ j. node-obeys (node-at nodes j) j) count k ok
 
 abbrev μ-loop : tie.MeasureT-loop
 μ-loop count nodes ok₀ k₀ ok k = count - k
 
 loop-holds : tie.Need-loop-holds Inv-loop μ-loop
-unfolding nodes-obey
-loop-holds c = (omega arith, refl)
+loop-holds c = tested-none
 
 mul-node : tie.Need-mul-node Inv-loop μ-loop
 mul-node c = omega arith
@@ -35,11 +34,11 @@ loop-less : tie.Need-loop-less Inv-loop μ-loop
 loop-less c = omega arith
 
 loop-again : tie.Need-loop-again Inv-loop μ-loop
-unfolding nodes-obey
-loop-again c = (omega arith, rw (add-one, c .before .before .before .loop .inv .1, c .node-obeys .ensures))
+loop-again c = tested-next (c .before .before .before .loop .inv) (c .before .before .loop-test .taken) (c .node-obeys .ensures)
 
 returns : tie.Need-returns Inv-loop μ-loop
-returns c = let e : c .before .loop .k ≡ c .before .before .args .count = omega arith in rw e at (c .before .loop .inv .1)
+unfolding nodes-obey
+returns c = tested-all (c .before .loop .inv) (c .loop-test .left)
 
 pub nodes-obey-spec : {M : Type 1} → statement M
 nodes-obey-spec =

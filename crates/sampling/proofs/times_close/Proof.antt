@@ -1,23 +1,27 @@
--- The invariant is the definition at i: `ok` says whether the first i times are each within a step of the next.
+-- `ok` says of the first i times whether each is within a step of the next.
 -- Assumes nothing.
-use mathlib.Core.Path.{_≡_, refl}
-use Prim.Native.Nat.{_≤_, _-_}
+use Prim.Native.Nat.{suc, _-_}
 use native.Mathlib.Omega.{arith}
 use native.Mathlib.Numerals.{add-one}
+use lib.Dec.{leb}
+use lib.ListN.{getD}
 use borrow.Author.Needs.{needs}
-use Rattle.sampling.specs.Sampling.{all-close}
-use Rattle.sampling.proofs.all_close.Statement.{statement}
-use Rattle.sampling.proofs.all_close.Tie as tie
+use Rattle.lists.proofs.Below.{Tested, tested-none, tested-next, tested-all}
+use Rattle.sampling.specs.Sampling.{times-close}
+use Rattle.sampling.proofs.times_close.Statement.{statement}
+use Rattle.sampling.proofs.times_close.Tie as tie
 
 abbrev Inv-loop : tie.InvT-loop
-Inv-loop times gaps step ok₀ i₀ ok i = (i ≤ gaps) × (ok ≡ all-close step times i)
+Inv-loop times step gaps ok₀ i₀ ok i = Tested (λ j. leb (getD times (suc j) 0 - getD times j 0) step) gaps i ok
 
 abbrev μ-loop : tie.MeasureT-loop
-μ-loop times gaps step ok₀ i₀ ok i = gaps - i
+μ-loop times step gaps ok₀ i₀ ok i = gaps - i
+
+sub-gaps : tie.Need-sub-gaps Inv-loop μ-loop
+sub-gaps c = omega arith
 
 loop-holds : tie.Need-loop-holds Inv-loop μ-loop
-unfolding all-close
-loop-holds c = (omega arith, refl)
+loop-holds c = tested-none
 
 mul-close : tie.Need-mul-close Inv-loop μ-loop
 mul-close c = omega arith
@@ -44,18 +48,19 @@ loop-less : tie.Need-loop-less Inv-loop μ-loop
 loop-less c = omega arith
 
 loop-again : tie.Need-loop-again Inv-loop μ-loop
-unfolding all-close
-loop-again c = (omega arith, rw (c .close .ensures, add-one, c .before .before .before .before .loop .inv .1))
+loop-again c = tested-next (c .before .before .before .before .loop .inv) (c .before .before .before .loop-test .taken) (rw add-one at (c .close .ensures))
 
 returns : tie.Need-returns Inv-loop μ-loop
-returns c = let e : c .before .loop .i ≡ c .before .before .before .args .gaps = omega arith in rw e at (c .before .loop .inv .1)
+unfolding times-close
+returns c = tested-all (c .before .loop .inv) (c .loop-test .left)
 
-pub all-close-spec : {M : Type 1} → statement M
-all-close-spec =
+pub times-close-spec : {M : Type 1} → statement M
+times-close-spec =
     tie.close
     (tie.spec
     Inv-loop
     μ-loop
+    sub-gaps
     loop-holds
     mul-close
     shared-slice-read-close
