@@ -15,6 +15,7 @@ use Rattle.recordings.specs.Card.{Card, predicate, predicate-at}
 use Rattle.recordings.specs.Distance.{is-unset}
 use Rattle.tables.specs.declared.Node.{Node}
 use Rattle.tables.specs.declared.Table.{Table}
+use Rattle.tables.specs.Kind.{predicate-kind}
 use Rattle.tables.specs.Tree.{node-at}
 use Rattle.tables.specs.Rules.{table-obeys}
 
@@ -23,7 +24,7 @@ is-set r = not (is-unset r)
 
 -- ---- 3: a node names a predicate that is unset
 unfoldable pub names-set : List Predicate → Node → Bool
-names-set ps n = not (eqb (n .kind) 1) || is-set (predicate-at ps (n .left) .range)
+names-set ps n = not (eqb (n .kind) predicate-kind) || is-set (predicate-at ps (n .left) .range)
 
 unfoldable pub all-named : List Predicate → List Node → ℕ → Bool
 all-named ps ns n = all-below (λ k. names-set ps (node-at ns k)) n
@@ -34,7 +35,7 @@ requirement-obeys t ps = table-obeys t && all-named ps (t .nodes) (t .count)
 
 -- every predicate that a node names is set
 pub record Named (c : Card) (t : Table) : Type 0 where
-  pub set : (k : ℕ) → k < t .count → node-at (t .nodes) k .kind ≡ 1 → predicate c (node-at (t .nodes) k .left) .range ≡ Unset → ⊥
+  pub set : (k : ℕ) → k < t .count → node-at (t .nodes) k .kind ≡ predicate-kind → predicate c (node-at (t .nodes) k .left) .range ≡ Unset → ⊥
 
 -- ---- 4: channels not 1 to 8, or a set predicate with a channel not below that count, an end out of range or lo > hi
 unfoldable pub value-obeys : ℤ → Bool
