@@ -14,7 +14,7 @@ use Rattle.flat.specs.Predicates.{predicates-from}
 
 -- what a requirement is read against: predicates in flat numbers, and a recording
 unfoldable pub card-from : List ℕ → List ℤ → ℕ → List ℕ → List ℤ → Card
-card-from ranges ends channels times values = card channels (predicates-from ranges ends) times values
+card-from ranges ends channels times values = card (predicates-from ranges ends) channels times values
 
 -- the margin
 abbrev pub margin-places : Margin → List ℤ
