@@ -12,6 +12,7 @@ use Rattle.recordings.specs.Margin.{margin}
 use Rattle.recordings.specs.Accepted.{Recorded}
 use Rattle.tables.specs.declared.Node.{Node}
 use Rattle.tables.specs.declared.Table.{Table}
+use Rattle.tables.specs.Kind.{predicate-kind}
 use Rattle.tables.specs.Rules.{NodeRules}
 use Rattle.rules.specs.Refusals.{Sound}
 use Rattle.rows.specs.Cells.{cell, Bounded}
@@ -19,7 +20,7 @@ use Rattle.rows.specs.Cells.{cell, Bounded}
 -- the node may stand at place k, what it names is set, its row lies in the cells, and earlier rows hold margins
 pub record RowAsks (c : Card) (n : Node) (k : ℕ) (work : List ℤ) : Type 0 where
   pub ruled : NodeRules n k
-  pub named : n .kind ≡ 1 → predicate c (n .left) .range ≡ Unset → ⊥
+  pub named : n .kind ≡ predicate-kind → predicate c (n .left) .range ≡ Unset → ⊥
   pub recorded : Recorded c
   pub room : k * rows c + rows c ≤ length work
   pub bounded : (q : ℕ) → q < k → Bounded work (rows c) q

@@ -23,12 +23,12 @@ pub enum Answer {
 // The row of node k: whatever requirements the earlier rows hold the margins of, it then holds the margins of the node over them. "Not" negates its child's row,
 // every other kind reads the rows of its children as they are.
 fn margin_row(
-    work: &mut [i64],
+    node: Node,
     predicates: [Predicate; 16],
     channels: usize,
     times: &[u64],
     values: &[i64],
-    node: Node,
+    work: &mut [i64],
     k: usize,
 )
     requires { ⌜ RowAsks (lent predicates channels times values) node k (now work) ⌝ }
@@ -36,19 +36,19 @@ fn margin_row(
 {
     let left = node.left;
     let right = node.right;
-    if node.kind == 2 {
-        rows::negated_row(work, times.len(), left, k)
+    if node.kind == tables::NOT {
+        rows::signed_row(times.len(), false, work, left, k)
     } else {
         let window = windows::plain(node);
         nodes::node_row(
-            work,
+            node,
+            predicates,
+            channels,
             times,
             values,
-            channels,
-            predicates,
-            node,
             true,
             window,
+            work,
             left,
             right,
             k,
@@ -58,12 +58,12 @@ fn margin_row(
 
 // The rows of all nodes, those that the root doesn't reach included.
 fn fill_margins(
-    work: &mut [i64],
     table: Table,
     predicates: [Predicate; 16],
     channels: usize,
     times: &[u64],
     values: &[i64],
+    work: &mut [i64],
 )
     requires { ⌜ TableAsks (lent predicates channels times values) table (now work) ⌝ }
     ensures { λ _. ⌜ now (work .exit) ≡ fill-rows (length (now (times .entry))) (λ k. margin (lent predicates channels (times .entry) (values .entry)) (tree (table .nodes) k)) (table .count) (now (work .entry)) ⌝ }
@@ -73,7 +73,7 @@ fn fill_margins(
     let mut k = 0;
     while k < count {
         let node = nodes[k];
-        margin_row(work, predicates, channels, times, values, node, k);
+        margin_row(node, predicates, channels, times, values, work, k);
         k += 1;
     }
 }
@@ -116,7 +116,7 @@ pub fn margin(
     if number != 0 {
         return Answer::Refused(number);
     }
-    fill_margins(work, table, predicates, channels, times, values);
+    fill_margins(table, predicates, channels, times, values, work);
     let count = table.count;
     let at = (count - 1) * times.len();
     let value = work[at];

@@ -10,7 +10,7 @@ use Rattle.recordings.specs.Card.{Card, rows, predicate}
 use Rattle.recordings.specs.Accepted.{Recorded}
 use Rattle.rows.specs.Cells.{Bounded}
 use Rattle.tables.specs.declared.Node.{Node}
-use Rattle.tables.specs.Kind.{operator}
+use Rattle.tables.specs.Kind.{kinds, operator, predicate-kind}
 use Rattle.tables.specs.Rules.{Use, child, number, unused, left-use, right-use}
 
 -- a row that an operand is read from stands before the row that is filled
@@ -21,11 +21,11 @@ Earlier unused from row = Unit
 
 pub record NodeAsks (work : List ℤ) (c : Card) (n : Node) (left right row : ℕ) : Type 0 where
   pub recorded : Recorded c
-  pub known : n .kind ≤ 8
+  pub known : n .kind < length kinds
   pub left-earlier : Earlier (left-use (operator (n .kind))) left row
   pub right-earlier : Earlier (right-use (operator (n .kind))) right row
-  pub numbered : n .kind ≡ 1 → n .left ≤ 15
-  pub set : n .kind ≡ 1 → predicate c (n .left) .range ≡ Unset → ⊥
+  pub numbered : n .kind ≡ predicate-kind → n .left ≤ 15
+  pub set : n .kind ≡ predicate-kind → predicate c (n .left) .range ≡ Unset → ⊥
   pub room : row * rows c + rows c ≤ length work
   pub bounded : (q : ℕ) → q < row → Bounded work (rows c) q
 

@@ -15,14 +15,14 @@ use temporal::Left;
 
 // Row `row` gets the node's values, or, where it is not affirmed, those of its negation, from rows `left` and `right`.
 pub fn node_row(
-    work: &mut [i64],
+    node: Node,
+    predicates: [Predicate; 16],
+    channels: usize,
     times: &[u64],
     values: &[i64],
-    channels: usize,
-    predicates: [Predicate; 16],
-    node: Node,
     affirmed: bool,
     window: Window,
+    work: &mut [i64],
     left: usize,
     right: usize,
     row: usize,
@@ -32,19 +32,24 @@ pub fn node_row(
 {
     let rows = times.len();
     let kind = node.kind;
-    match kind {
-        0 => rows::true_row(work, rows, affirmed, row),
-        1 => {
-            let named = node.left;
-            let predicate = predicates[named];
-            rows::predicate_row(work, values, channels, predicate, rows, affirmed, row)
-        }
-        2 => rows::copied_row(work, rows, left, row),
-        3 => rows::joined_row(work, rows, !affirmed, left, right, row),
-        4 => rows::joined_row(work, rows, affirmed, left, right, row),
-        5 => temporal::temporal_row(work, times, affirmed, window, Left::Row(left), right, row),
-        6 => temporal::temporal_row(work, times, !affirmed, window, Left::Row(left), right, row),
-        7 => temporal::temporal_row(work, times, affirmed, window, Left::Absent, left, row),
-        _ => temporal::temporal_row(work, times, !affirmed, window, Left::Absent, left, row),
+    if kind == tables::TRUE {
+        return rows::true_row(rows, affirmed, work, row);
+    }
+    if kind == tables::PREDICATE {
+        let named = node.left;
+        let predicate = predicates[named];
+        return rows::predicate_row(predicate, channels, values, rows, affirmed, work, row);
+    }
+    if kind == tables::NOT {
+        return rows::signed_row(rows, true, work, left, row);
+    }
+    let e = logic::turn(affirmed, tables::extremum_of(kind));
+    if !tables::is_timed(kind) {
+        return rows::joined_row(rows, e, work, left, right, row);
+    }
+    if tables::has_right(kind) {
+        temporal::temporal_row(times, e, window, work, Left::Row(left), right, row)
+    } else {
+        temporal::temporal_row(times, e, window, work, Left::Absent, left, row)
     }
 }

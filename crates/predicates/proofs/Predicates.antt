@@ -22,6 +22,7 @@ use Rattle.recordings.specs.Card.{predicate-at, Card, predicate}
 use Rattle.recordings.specs.Accepted.{MOST-CHANNELS, FARTHEST, InRange, Ends, Proper, Channels}
 use Rattle.tables.specs.declared.Node.{Node}
 use Rattle.tables.specs.declared.Table.{Table}
+use Rattle.tables.specs.Kind.{predicate-kind}
 use Rattle.tables.specs.Tree.{node-at}
 use Rattle.predicates.specs.Predicates.{is-set, names-set, all-named, Named, value-obeys, range-obeys, predicate-obeys, predicates-obey, channels-obey}
 
@@ -49,8 +50,8 @@ named c t h = record {
   set = λ k i e u.
       let n : Node = node-at (t .nodes) k in
       let s = all-at (λ j. names-set (node-at (t .nodes) j) (c .predicates)) (t .count) h k i in
-      elim (or-yes (not (eqb (n .kind) 1)) (is-set (predicate c (n .left) .range)) s) [
-        | inl x ↦ T-not (eqb (n .kind) 1) x (yes-eqb e)
+      elim (or-yes (not (eqb (n .kind) predicate-kind)) (is-set (predicate c (n .left) .range)) s) [
+        | inl x ↦ T-not (eqb (n .kind) predicate-kind) x (yes-eqb e)
         | inr x ↦ T-not (is-set (predicate c (n .left) .range)) (unset-not u) x
       ];
 }
@@ -59,12 +60,12 @@ pub named-passes : (c : Card) (t : Table) → Named c t → T (all-named (t .nod
 unfolding all-named names-set
 named-passes c t r = at-all (λ j. names-set (node-at (t .nodes) j) (c .predicates)) (t .count) one
   where
-    set-or : (n : Node) (b : Bool) → eqb (n .kind) 1 ≡ b → (n .kind ≡ 1 → predicate c (n .left) .range ≡ Unset → ⊥) → T (not b || is-set (predicate c (n .left) .range))
+    set-or : (n : Node) (b : Bool) → eqb (n .kind) predicate-kind ≡ b → (n .kind ≡ predicate-kind → predicate c (n .left) .range ≡ Unset → ⊥) → T (not b || is-set (predicate c (n .left) .range))
     set-or n false e h = tt
-    set-or n true e h = set-is (predicate c (n .left) .range) (h (eqb-true (n .kind) 1 e))
+    set-or n true e h = set-is (predicate c (n .left) .range) (h (eqb-true (n .kind) predicate-kind e))
 
     one : (k : ℕ) → k < t .count → T (names-set (node-at (t .nodes) k) (c .predicates))
-    one k i = set-or (node-at (t .nodes) k) (eqb (node-at (t .nodes) k .kind) 1) refl (r .set k i)
+    one k i = set-or (node-at (t .nodes) k) (eqb (node-at (t .nodes) k .kind) predicate-kind) refl (r .set k i)
 
 -- ---- 4
 pub value-in-range : (v : ℤ) → T (value-obeys v) → InRange v

@@ -17,6 +17,7 @@ use Rattle.recordings.specs.Distance.{is-unset}
 use Rattle.recordings.specs.Accepted.{MOST-CHANNELS, FARTHEST}
 use Rattle.tables.specs.declared.Node.{Node}
 use Rattle.tables.specs.declared.Table.{Table}
+use Rattle.tables.specs.Kind.{predicate-kind}
 use Rattle.tables.specs.Tree.{node-at}
 use Rattle.tables.specs.Rules.{table-obeys}
 
@@ -25,7 +26,7 @@ is-set r = not (is-unset r)
 
 -- ---- 3: a node names a predicate that is unset
 unfoldable pub names-set : Node → List Predicate → Bool
-names-set n ps = not (eqb (n .kind) 1) || is-set (predicate-at ps (n .left) .range)
+names-set n ps = not (eqb (n .kind) predicate-kind) || is-set (predicate-at ps (n .left) .range)
 
 unfoldable pub all-named : List Node → ℕ → List Predicate → Bool
 all-named ns n ps = all-below (λ k. names-set (node-at ns k) ps) n
@@ -36,7 +37,7 @@ requirement-obeys t ps = table-obeys t && all-named (t .nodes) (t .count) ps
 
 -- every predicate that a node names is set
 pub record Named (c : Card) (t : Table) : Type 0 where
-  pub set : (k : ℕ) → k < t .count → node-at (t .nodes) k .kind ≡ 1 → predicate c (node-at (t .nodes) k .left) .range ≡ Unset → ⊥
+  pub set : (k : ℕ) → k < t .count → node-at (t .nodes) k .kind ≡ predicate-kind → predicate c (node-at (t .nodes) k .left) .range ≡ Unset → ⊥
 
 -- ---- 4: channels not 1 to 8, or a set predicate with a channel not below that count, an end out of range or lo > hi
 unfoldable pub value-obeys : ℤ → Bool

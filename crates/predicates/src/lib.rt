@@ -3,6 +3,7 @@
 ghost use mathlib.Core.Path.{_≡_};
 ghost use Prim.Native.Nat.{_≤_};
 ghost use Rattle.predicates.specs.Predicates.{is-set, names-set, all-named, requirement-obeys, value-obeys, range-obeys, predicate-obeys, predicates-obey, channels-obey};
+ghost use Rattle.tables.specs.Tree.{NODES};
 use recordings::FARTHEST;
 use recordings::MOST_CHANNELS;
 use recordings::Predicate;
@@ -21,7 +22,7 @@ fn names_set(node: Node, predicates: [Predicate; 16]) -> bool
     ensures { λ r. ⌜ r ≡ names-set node predicates ⌝ }
 {
     let left = node.left;
-    if node.kind != 1 {
+    if node.kind != tables::PREDICATE {
         return true;
     }
     if 16 <= left {
@@ -32,8 +33,8 @@ fn names_set(node: Node, predicates: [Predicate; 16]) -> bool
     is_set(range)
 }
 
-fn all_named(nodes: [Node; 64], count: usize, predicates: [Predicate; 16]) -> bool
-    requires { ⌜ count ≤ 64 ⌝ }
+fn all_named(nodes: [Node; tables::NODES], count: usize, predicates: [Predicate; 16]) -> bool
+    requires { ⌜ count ≤ NODES ⌝ }
     ensures { λ r. ⌜ r ≡ all-named nodes count predicates ⌝ }
 {
     let mut ok = true;

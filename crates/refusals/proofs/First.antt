@@ -11,7 +11,7 @@ use lib.Dec.{T, leb, leb→le}
 use lib.ListN.{length}
 use mir.Facts.{and-yes}
 use Rattle.numbers.proofs.Parts.{holds}
-use Rattle.refusals.specs.First.{Check, first, AllExact, numbered, check-at, Refused, Passed}
+use Rattle.refusals.specs.First.{Check, first, AllExact, numbered, check-at, Refused, Passed, unless-refused}
 
 either : (b : Bool) → (b ≡ true) ⊎ (b ≡ false)
 either true = inl refl
@@ -130,3 +130,26 @@ exact-parts (c ∷ cs) ds x = (
   (x .0, λ s. exact-parts cs ds (x .1 s) .0),
   λ p. exact-parts cs ds (x .1 (p .each 0 (omega arith))) .1 (record { each = λ j h. p .each (suc j) (omega arith) }),
 )
+
+-- ---- a condition in the middle of a list, none before it applying: its number where it fails, what stands behind it where it passes
+pub first-here : (cs : List Check) (c : Check) (ds : List Check) → T (numbered cs) → first cs ≡ 0 → c .passes ≡ false → first (cs ++ (c ∷ ds)) ≡ c .number
+first-here cs c ds n e h = first-append cs (c ∷ ds) n e ∙ first-fails c ds h
+
+pub first-behind : (cs : List Check) (c : Check) (ds : List Check) → T (numbered cs) → first cs ≡ 0 → c .passes ≡ true → first (cs ++ (c ∷ ds)) ≡ first ds
+first-behind cs c ds n e h = first-append cs (c ∷ ds) n e ∙ first-passes c ds h
+
+pub parts-none : (cs : List Check) (c : Check) (ds : List Check) → T (numbered cs) → T (numbered (c ∷ ds)) → first (cs ++ (c ∷ ds)) ≡ 0 → (first cs ≡ 0) × T (c .passes) × (first ds ≡ 0)
+parts-none cs c ds n m e =
+    let w = first-of-whole cs (c ∷ ds) n e in
+    elim (either (c .passes)) [
+      | inl p ↦ (w .0, holds p, sym (first-passes c ds p) ∙ w .1)
+      | inr p ↦ absurd (omega (arith, head-numbered c ds m, sym (first-fails c ds p) ∙ w .1))
+    ]
+
+-- ---- what is handed back: a number 0 gives a, another gives b
+pub unless-none : {X : Type 0} {n : ℕ} (a b : X) → n ≡ 0 → unless-refused n a b ≡ a
+unless-none a b e = rw e refl
+
+pub unless-some : {X : Type 0} (n : ℕ) (a b : X) → (n ≡ 0 → ⊥) → unless-refused n a b ≡ b
+unless-some zero a b h = absurd (h refl)
+unless-some (suc n) a b h = refl

@@ -6,8 +6,6 @@ use Prim.Native.Nat.{ℕ, _+_, _*_, _≤_, _<_}
 use lib.IntN.{ℤ, pos, negℤ}
 use lib.ListN.{length, getD}
 use Rattle.numbers.specs.Order.{Within}
-use Rattle.logic.specs.declared.Extremum.{Extremum}
-use Rattle.logic.specs.declared.Extremum.the-variants.{Largest, Smallest}
 use Rattle.recordings.specs.Distance.{TOP}
 use Rattle.recordings.specs.Accepted.{Ends, Values}
 use Rattle.recordings.specs.declared.Predicate.{Predicate}
@@ -16,12 +14,7 @@ use Rattle.recordings.specs.declared.Predicate.{Predicate}
 abbrev pub cell : List ℤ → ℕ → ℕ → ℕ → ℤ
 cell w n r i = getD w (r * n + i) (pos 0)
 
--- the code's flag for "or", until and eventually against "and", release and always
-abbrev pub extremum-of : Bool → Extremum
-extremum-of true = Largest
-extremum-of false = Smallest
-
--- what a leaf has, or, where it is denied, what its negation has
+-- a value, or, where it is denied, its negative
 abbrev pub signed : Bool → ℤ → ℤ
 signed true z = z
 signed false z = negℤ z

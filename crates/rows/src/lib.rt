@@ -11,7 +11,8 @@ ghost use Rattle.logic.specs.declared.Extremum.the-variants.{Smallest};
 ghost use Rattle.logic.specs.Reading.{margin-extreme, margin-nothing};
 ghost use Rattle.recordings.specs.Distance.{TOP, clearance, distance};
 ghost use Rattle.recordings.specs.Accepted.{InRange, Ends};
-ghost use Rattle.rows.specs.Cells.{cell, extremum-of, signed, Above, Bounded, Leaf};
+ghost use Rattle.rows.specs.Cells.{cell, signed, Above, Bounded, Leaf};
+use logic::Extremum;
 use recordings::Predicate;
 use recordings::Range;
 
@@ -21,25 +22,27 @@ const TOP: i64 = 4_000_000_000;
 const BOTTOM: i64 = -4_000_000_000;
 
 // The larger of two, or the smaller.
-pub fn extreme(largest: bool, a: i64, b: i64) -> i64
-    ensures { λ r. ⌜ r ≡ margin-extreme (extremum-of largest) a b ⌝ }
+pub fn extreme(e: Extremum, a: i64, b: i64) -> i64
+    ensures { λ r. ⌜ r ≡ margin-extreme e a b ⌝ }
 {
-    if largest {
-        numbers::larger(a, b)
-    } else {
-        numbers::smaller(a, b)
+    match e {
+        Extremum::Largest => numbers::larger(a, b),
+        Extremum::Smallest => numbers::smaller(a, b),
     }
 }
 
 // The largest over nothing, or the smallest.
-pub fn over_nothing(largest: bool) -> i64
-    ensures { λ r. ⌜ r ≡ margin-nothing TOP (extremum-of largest) ⌝ }
+pub fn over_nothing(e: Extremum) -> i64
+    ensures { λ r. ⌜ r ≡ margin-nothing TOP e ⌝ }
 {
-    if largest { BOTTOM } else { TOP }
+    match e {
+        Extremum::Largest => BOTTOM,
+        Extremum::Smallest => TOP,
+    }
 }
 
 // The value of a row at place i.
-pub fn cell_at(work: &[i64], rows: usize, row: usize, i: usize) -> i64
+pub fn cell_at(rows: usize, work: &[i64], row: usize, i: usize) -> i64
     requires { ⌜ row * rows + i < length (now work) ⌝ }
     ensures { λ r. ⌜ r ≡ cell (now (work .entry)) rows row i ⌝ }
 {
@@ -73,7 +76,7 @@ pub fn distance_of(range: Range, value: i64) -> i64
     }
 }
 
-// A leaf's value, or that of its negation.
+// A value, or, where it is denied, its negative.
 fn signed_of(affirmed: bool, a: i64) -> i64
     requires { ⌜ SFits w64 (negℤ a) ⌝ }
     ensures { λ r. ⌜ r ≡ signed affirmed a ⌝ }
@@ -82,7 +85,7 @@ fn signed_of(affirmed: bool, a: i64) -> i64
 }
 
 // The first `rows` places of a part, all with one value.
-fn fill_same(part: &mut [i64], rows: usize, value: i64)
+fn fill_same(rows: usize, value: i64, part: &mut [i64])
     requires { ⌜ rows ≤ length (now part) ⌝ }
     ensures { λ _. ⌜ now (part .exit) ≡ fill 0 rows (λ i. value) (now (part .entry)) ⌝ }
 {
@@ -94,23 +97,23 @@ fn fill_same(part: &mut [i64], rows: usize, value: i64)
 }
 
 // The row of true, or of its negation.
-pub fn true_row(work: &mut [i64], rows: usize, affirmed: bool, row: usize)
+pub fn true_row(rows: usize, affirmed: bool, work: &mut [i64], row: usize)
     requires { ⌜ row * rows + rows ≤ length (now work) ⌝ }
     ensures { λ _. ⌜ now (work .exit) ≡ fill (row * rows) rows (λ i. signed affirmed (margin-nothing TOP Smallest)) (now (work .entry)) ⌝ }
 {
     let from = row * rows;
     let value = signed_of(affirmed, TOP);
-    fill_same(&mut work[from..], rows, value);
+    fill_same(rows, value, &mut work[from..]);
 }
 
 // The first `rows` places of a part, with a channel's distances from a range.
 fn fill_distances(
-    part: &mut [i64],
-    values: &[i64],
-    channels: usize,
     predicate: Predicate,
+    channels: usize,
+    values: &[i64],
     rows: usize,
     affirmed: bool,
+    part: &mut [i64],
 )
     requires { ⌜ rows ≤ length (now part) ⌝ }
     requires { ⌜ Leaf (now values) channels predicate rows ⌝ }
@@ -129,12 +132,12 @@ fn fill_distances(
 
 // The row of a predicate, or of its negation.
 pub fn predicate_row(
-    work: &mut [i64],
-    values: &[i64],
-    channels: usize,
     predicate: Predicate,
+    channels: usize,
+    values: &[i64],
     rows: usize,
     affirmed: bool,
+    work: &mut [i64],
     row: usize,
 )
     requires { ⌜ row * rows + rows ≤ length (now work) ⌝ }
@@ -143,60 +146,40 @@ pub fn predicate_row(
 {
     let from = row * rows;
     fill_distances(
-        &mut work[from..],
-        values,
-        channels,
         predicate,
+        channels,
+        values,
         rows,
         affirmed,
+        &mut work[from..],
     );
 }
 
-// The row of "not": minus the child's.
-pub fn negated_row(work: &mut [i64], rows: usize, child: usize, row: usize)
+// Another row's values, or minus them.
+pub fn signed_row(rows: usize, affirmed: bool, work: &mut [i64], child: usize, row: usize)
     requires { ⌜ Above (now work) rows child row × Bounded (now work) rows child ⌝ }
-    ensures { λ _. ⌜ now (work .exit) ≡ fill (row * rows) rows (λ i. negℤ (cell (now (work .entry)) rows child i)) (now (work .entry)) ⌝ }
+    ensures { λ _. ⌜ now (work .exit) ≡ fill (row * rows) rows (λ i. signed affirmed (cell (now (work .entry)) rows child i)) (now (work .entry)) ⌝ }
 {
     let base = row * rows;
     let mut i = 0;
     while i < rows {
-        let value = cell_at(work, rows, child, i);
-        work[base + i] = numbers::negated(value);
-        i += 1;
-    }
-}
-
-// A row that another row's values are copied to.
-pub fn copied_row(work: &mut [i64], rows: usize, child: usize, row: usize)
-    requires { ⌜ Above (now work) rows child row ⌝ }
-    ensures { λ _. ⌜ now (work .exit) ≡ fill (row * rows) rows (cell (now (work .entry)) rows child) (now (work .entry)) ⌝ }
-{
-    let base = row * rows;
-    let mut i = 0;
-    while i < rows {
-        work[base + i] = cell_at(work, rows, child, i);
+        let value = cell_at(rows, work, child, i);
+        work[base + i] = signed_of(affirmed, value);
         i += 1;
     }
 }
 
 // The row of "or", or of "and".
-pub fn joined_row(
-    work: &mut [i64],
-    rows: usize,
-    largest: bool,
-    left: usize,
-    right: usize,
-    row: usize,
-)
+pub fn joined_row(rows: usize, e: Extremum, work: &mut [i64], left: usize, right: usize, row: usize)
     requires { ⌜ Above (now work) rows left row × Above (now work) rows right row ⌝ }
-    ensures { λ _. ⌜ now (work .exit) ≡ fill (row * rows) rows (λ i. margin-extreme (extremum-of largest) (cell (now (work .entry)) rows left i) (cell (now (work .entry)) rows right i)) (now (work .entry)) ⌝ }
+    ensures { λ _. ⌜ now (work .exit) ≡ fill (row * rows) rows (λ i. margin-extreme e (cell (now (work .entry)) rows left i) (cell (now (work .entry)) rows right i)) (now (work .entry)) ⌝ }
 {
     let base = row * rows;
     let mut i = 0;
     while i < rows {
-        let first = cell_at(work, rows, left, i);
-        let second = cell_at(work, rows, right, i);
-        work[base + i] = extreme(largest, first, second);
+        let first = cell_at(rows, work, left, i);
+        let second = cell_at(rows, work, right, i);
+        work[base + i] = extreme(e, first, second);
         i += 1;
     }
 }

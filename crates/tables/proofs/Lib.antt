@@ -1,4 +1,4 @@
 -- Each test of a table's rules says what its sentence says (`Rules`); the requirement of a node comes from those of its children (`Trees`).
-pub mod Uses
+pub mod EveryKind
 pub mod Rules
 pub mod Trees

@@ -10,7 +10,7 @@ use Rattle.lists.proofs.Below.{yes-or, all-at, at-all}
 use Rattle.tables.specs.declared.Node.{Node}
 use Rattle.tables.specs.declared.Table.{Table}
 use Rattle.tables.specs.Kind.{kinds, operator}
-use Rattle.tables.specs.Tree.{NO-END, node-at}
+use Rattle.tables.specs.Tree.{NODES, LONGEST, NO-END, node-at}
 use Rattle.tables.specs.Rules.{Use, child, number, unused, left-use, right-use, timed, use-obeys, Used, window-obeys, WindowRules, ends-obey, EndsRules, node-obeys, NodeRules, nodes-obey, table-obeys, TableRules}
 
 pub used : (u : Use) (k x : ℕ) → T (use-obeys u k x) → Used u k x
@@ -25,21 +25,21 @@ use-passes unused k x h = yes-eqb h
 
 pub window-rules : (lo hi : ℕ) → T (window-obeys lo hi) → WindowRules lo hi
 window-rules lo hi t =
-    let a = and-yes (leb lo 1_000_000_000) _ t in
+    let a = and-yes (leb lo LONGEST) _ t in
     record {
-      low = leb→le lo 1_000_000_000 (a .0);
-      high = elim (or-yes (eqb hi NO-END) (leb hi 1_000_000_000 && leb lo hi) (a .1)) [
+      low = leb→le lo LONGEST (a .0);
+      high = elim (or-yes (eqb hi NO-END) (leb hi LONGEST && leb lo hi) (a .1)) [
         | inl h ↦ inl (eqb→eq hi NO-END h)
-        | inr h ↦ let b = and-yes (leb hi 1_000_000_000) (leb lo hi) h in inr (leb→le hi 1_000_000_000 (b .0), leb→le lo hi (b .1))
+        | inr h ↦ let b = and-yes (leb hi LONGEST) (leb lo hi) h in inr (leb→le hi LONGEST (b .0), leb→le lo hi (b .1))
       ];
     }
 
 pub window-passes : (lo hi : ℕ) → WindowRules lo hi → T (window-obeys lo hi)
 window-passes lo hi r =
-    yes-and (leb lo 1_000_000_000) (eqb hi NO-END || (leb hi 1_000_000_000 && leb lo hi)) (le→leb lo 1_000_000_000 (r .low))
-    (yes-or (eqb hi NO-END) (leb hi 1_000_000_000 && leb lo hi) (elim (r .high) [
+    yes-and (leb lo LONGEST) (eqb hi NO-END || (leb hi LONGEST && leb lo hi)) (le→leb lo LONGEST (r .low))
+    (yes-or (eqb hi NO-END) (leb hi LONGEST && leb lo hi) (elim (r .high) [
       | inl h ↦ inl (yes-eqb h)
-      | inr h ↦ inr (yes-and (leb hi 1_000_000_000) (leb lo hi) (le→leb hi 1_000_000_000 (h .0)) (le→leb lo hi (h .1)))
+      | inr h ↦ inr (yes-and (leb hi LONGEST) (leb lo hi) (le→leb hi LONGEST (h .0)) (le→leb lo hi (h .1)))
     ]))
 
 pub ends-rules : (w : Bool) (lo hi : ℕ) → T (ends-obey w lo hi) → EndsRules w lo hi
@@ -74,17 +74,17 @@ node-passes n k r =
 pub table-rules : (t : Table) → T (table-obeys t) → TableRules t
 unfolding table-obeys nodes-obey
 table-rules t h =
-    let a = and-yes (leb (t .count) 64) _ h in
+    let a = and-yes (leb (t .count) NODES) _ h in
     let b = and-yes (leb 1 (t .count)) _ (a .1) in
     record {
       some-node = leb→le 1 (t .count) (b .0);
-      few-nodes = leb→le (t .count) 64 (a .0);
+      few-nodes = leb→le (t .count) NODES (a .0);
       each = λ k i. node-rules (node-at (t .nodes) k) k (all-at (λ j. node-obeys (node-at (t .nodes) j) j) (t .count) (b .1) k i);
     }
 
 pub table-passes : (t : Table) → TableRules t → T (table-obeys t)
 unfolding table-obeys nodes-obey
 table-passes t r =
-    yes-and (leb (t .count) 64) _ (le→leb (t .count) 64 (r .few-nodes))
+    yes-and (leb (t .count) NODES) _ (le→leb (t .count) NODES (r .few-nodes))
     (yes-and (leb 1 (t .count)) _ (le→leb 1 (t .count) (r .some-node))
     (at-all (λ k. node-obeys (node-at (t .nodes) k) k) (t .count) (λ k i. node-passes (node-at (t .nodes) k) k (r .each k i))))

@@ -1,5 +1,6 @@
 -- The kinds of a requirement table's nodes, by their numbers.
 -- Assumes nothing.
+use mathlib.Core.Bool.{Bool, true, false}
 use mathlib.Core.List.{List, [], _∷_}
 use Prim.Native.Nat.{ℕ}
 use lib.ListN.{getD}
@@ -30,6 +31,25 @@ kinds =
 
 abbrev pub operator : ℕ → Operator
 operator kind = getD kinds kind unknown
+
+-- the extremum that an operator takes; the others take none
+abbrev pub operator-extremum : Operator → Extremum
+operator-extremum constant = Smallest
+operator-extremum named = Smallest
+operator-extremum negated = Smallest
+operator-extremum unknown = Smallest
+operator-extremum (joined e) = e
+operator-extremum (binary d e) = e
+operator-extremum (unary d e) = e
+
+abbrev pub is-not : Operator → Bool
+is-not constant = false
+is-not named = false
+is-not negated = true
+is-not unknown = false
+is-not (joined e) = false
+is-not (binary d e) = false
+is-not (unary d e) = false
 
 -- the kinds by their names
 abbrev pub true-kind : ℕ

@@ -11,7 +11,7 @@ use Rattle.lists.specs.Fold.{all-below}
 use Rattle.tables.specs.declared.Node.{Node}
 use Rattle.tables.specs.declared.Table.{Table}
 use Rattle.tables.specs.Kind.{Operator, constant, named, negated, unknown, joined, binary, unary, kinds, operator}
-use Rattle.tables.specs.Tree.{LONGEST, NO-END, node-at}
+use Rattle.tables.specs.Tree.{NODES, LONGEST, NO-END, node-at}
 
 -- what a node's left or right number is: a child, a predicate's number, or unused
 pub data Use : Type 0 where
@@ -34,6 +34,11 @@ right-use unknown = unused
 right-use (joined e) = child
 right-use (binary d e) = child
 right-use (unary d e) = unused
+
+abbrev pub is-child : Use → Bool
+is-child child = true
+is-child number = false
+is-child unused = false
 
 -- the temporal operators alone have a window
 abbrev pub timed : Operator → Bool
@@ -91,9 +96,9 @@ unfoldable pub nodes-obey : List Node → ℕ → Bool
 nodes-obey ns n = all-below (λ k. node-obeys (node-at ns k) k) n
 
 unfoldable pub table-obeys : Table → Bool
-table-obeys t = leb (t .count) 64 && (leb 1 (t .count) && nodes-obey (t .nodes) (t .count))
+table-obeys t = leb (t .count) NODES && (leb 1 (t .count) && nodes-obey (t .nodes) (t .count))
 
 pub record TableRules (t : Table) : Type 0 where
   pub some-node : 1 ≤ t .count
-  pub few-nodes : t .count ≤ 64
+  pub few-nodes : t .count ≤ NODES
   pub each : (k : ℕ) → k < t .count → NodeRules (node-at (t .nodes) k) k

@@ -2,8 +2,10 @@
 // The tests take every number that the types hold: none of them adds to a number.
 ghost use mathlib.Core.Path.{_≡_};
 ghost use Prim.Native.Nat.{_≤_};
-ghost use Rattle.tables.specs.Kind.{operator};
-ghost use Rattle.tables.specs.Rules.{left-use, right-use, timed, use-obeys, window-obeys, ends-obey, node-obeys, nodes-obey, table-obeys};
+ghost use Rattle.tables.specs.Kind.{operator, operator-extremum};
+ghost use Rattle.tables.specs.Tree.{NODES};
+ghost use Rattle.tables.specs.Rules.{is-child, left-use, right-use, timed, use-obeys, window-obeys, ends-obey, node-obeys, nodes-obey, table-obeys};
+use logic::Extremum;
 
 // The kinds of nodes; the definitions have them in specs/Kind.antt.
 pub const TRUE: u64 = 0;
@@ -47,28 +49,62 @@ pub struct Node {
 
 // The first `count` places of `nodes` are the table; the others are not looked at.
 pub struct Table {
-    pub nodes: [Node; 64],
+    pub nodes: [Node; NODES],
     pub count: usize,
+}
+
+// Whether a kind's left number is a child.
+fn has_left(kind: u64) -> bool
+    ensures { λ r. ⌜ r ≡ is-child (left-use (operator kind)) ⌝ }
+{
+    (NOT <= kind) & (kind <= ALWAYS)
+}
+
+// Whether its right number is.
+pub fn has_right(kind: u64) -> bool
+    ensures { λ r. ⌜ r ≡ is-child (right-use (operator kind)) ⌝ }
+{
+    (AND <= kind) & (kind <= RELEASE)
+}
+
+// Whether it has a window.
+pub fn is_timed(kind: u64) -> bool
+    ensures { λ r. ⌜ r ≡ timed (operator kind) ⌝ }
+{
+    (UNTIL <= kind) & (kind <= ALWAYS)
+}
+
+// The extremum that it takes, if it takes one.
+pub fn extremum_of(kind: u64) -> Extremum
+    ensures { λ r. ⌜ r ≡ operator-extremum (operator kind) ⌝ }
+{
+    if (kind == OR) | ((kind == UNTIL) | (kind == EVENTUALLY)) {
+        Extremum::Largest
+    } else {
+        Extremum::Smallest
+    }
 }
 
 // Whether the left number is what the kind asks for: a predicate's number, an earlier node, or nothing.
 fn left_obeys(kind: u64, left: usize, k: usize) -> bool
     ensures { λ r. ⌜ r ≡ use-obeys (left-use (operator kind)) k left ⌝ }
 {
-    match kind {
-        1 => left <= 15,
-        2..=8 => left < k,
-        _ => left == 0,
+    if kind == PREDICATE {
+        return left <= 15;
     }
+    if has_left(kind) {
+        return left < k;
+    }
+    left == 0
 }
 
 fn right_obeys(kind: u64, right: usize, k: usize) -> bool
     ensures { λ r. ⌜ r ≡ use-obeys (right-use (operator kind)) k right ⌝ }
 {
-    match kind {
-        3..=6 => right < k,
-        _ => right == 0,
+    if has_right(kind) {
+        return right < k;
     }
+    right == 0
 }
 
 pub fn window_obeys(lo: u64, hi: u64) -> bool
@@ -80,10 +116,10 @@ pub fn window_obeys(lo: u64, hi: u64) -> bool
 fn ends_obey(kind: u64, lo: u64, hi: u64) -> bool
     ensures { λ r. ⌜ r ≡ ends-obey (timed (operator kind)) lo hi ⌝ }
 {
-    match kind {
-        5..=8 => window_obeys(lo, hi),
-        _ => (lo == 0) & (hi == 0),
+    if is_timed(kind) {
+        return window_obeys(lo, hi);
     }
+    (lo == 0) & (hi == 0)
 }
 
 // Whether a node may stand at place k.
@@ -93,11 +129,11 @@ pub fn node_obeys(node: Node, k: usize) -> bool
     let left = left_obeys(node.kind, node.left, k);
     let right = right_obeys(node.kind, node.right, k);
     let ends = ends_obey(node.kind, node.lo, node.hi);
-    (node.kind < 9) & (left & (right & ends))
+    (node.kind < KINDS) & (left & (right & ends))
 }
 
-fn nodes_obey(nodes: [Node; 64], count: usize) -> bool
-    requires { ⌜ count ≤ 64 ⌝ }
+fn nodes_obey(nodes: [Node; NODES], count: usize) -> bool
+    requires { ⌜ count ≤ NODES ⌝ }
     ensures { λ r. ⌜ r ≡ nodes-obey nodes count ⌝ }
 {
     let mut ok = true;
@@ -116,7 +152,7 @@ pub fn table_obeys(table: Table) -> bool
     ensures { λ r. ⌜ r ≡ table-obeys table ⌝ }
 {
     let count = table.count;
-    if 64 < count {
+    if NODES < count {
         return false;
     }
     let nodes = table.nodes;

@@ -1,7 +1,7 @@
 -- Until and release place by place: places outside the window, and all places after the carried value is beaten, are left out.
 -- Assumes nothing.
 use mathlib.Core.Path.{_≡_, refl, sym, ap, _∙_}
-use mathlib.Core.Bool.{Bool, true, false, not, cond, _&&_}
+use mathlib.Core.Bool.{Bool, true, false, cond, _&&_}
 use Prim.Native.Nat.{ℕ, zero, suc, _+_, _-_, _≤_, _<_}
 use native.Mathlib.Omega.{arith}
 use native.Mathlib.Decide.{decLe, decLt}
@@ -16,11 +16,6 @@ use Rattle.logic.specs.declared.Extremum.{Extremum}
 use Rattle.logic.specs.Formula.{dual}
 use Rattle.logic.specs.Reading.{extremum, along, margins, margin-extreme, margin-nothing}
 use Rattle.logic.proofs.Beaten.{nothing-moves, nothing-carried, along-outside, along-settled}
-use Rattle.rows.specs.Cells.{extremum-of}
-
-pub dual-of : (b : Bool) → extremum-of (not b) ≡ dual (extremum-of b)
-dual-of true = refl
-dual-of false = refl
 
 -- ---- one place more, places counted from i on
 module _ (top : ℕ) (e : Extremum) (l : ℕ → ℤ) (i j : ℕ) (h : i ≤ j) where
@@ -99,13 +94,14 @@ module _ (first end top : ℕ) (e : Extremum) (r : ℕ → ℤ) (i n : ℕ) (wit
             rw z (best-empty first end top e (λ j. margin-nothing top (dual e)) r i n (omega arith))
       ]
 
--- ---- one turn of a loop: x, u and out are what is read back of a cell and of two results; b says "largest"
+-- ---- one turn of a loop: x, u and out are what is read back of a cell and of two results
 pub turn-extremum : (top : ℕ) (e : Extremum) (l : ℕ → ℤ) (i j : ℕ) {old x res out : ℤ} → i ≤ j → old ≡ extremum (margins top) e (λ m. l (i + m)) (j - i) → x ≡ l j → res ≡ margin-extreme e old x → out ≡ res → out ≡ extremum (margins top) e (λ m. l (i + m)) (j + 1 - i)
 turn-extremum top e l i j h p q f o = o ∙ f ∙ rw (p, q) (sym (run-next top e l i j h))
 
-pub turn-run : (top : ℕ) (b : Bool) (l : ℕ → ℤ) (i j : ℕ) {old x res out : ℤ} → i ≤ j → old ≡ extremum (margins top) (dual (extremum-of b)) (λ m. l (i + m)) (j - i) → x ≡ l j → res ≡ margin-extreme (extremum-of (not b)) old x → out ≡ res → out ≡ extremum (margins top) (dual (extremum-of b)) (λ m. l (i + m)) (j + 1 - i)
-turn-run top b l i j h p q f o = turn-extremum top (dual (extremum-of b)) l i j h p q (rw (dual-of b) at f) o
+-- the code's `other` is the dual
+pub turn-run : (top : ℕ) (e : Extremum) (l : ℕ → ℤ) (i j : ℕ) {other : Extremum} {old x res out : ℤ} → other ≡ dual e → i ≤ j → old ≡ extremum (margins top) (dual e) (λ m. l (i + m)) (j - i) → x ≡ l j → res ≡ margin-extreme other old x → out ≡ res → out ≡ extremum (margins top) (dual e) (λ m. l (i + m)) (j + 1 - i)
+turn-run top e l i j d h p q f o = turn-extremum top (dual e) l i j h p q (rw d at f) o
 
-pub turn-best : (first end top : ℕ) (b : Bool) (l r : ℕ → ℤ) (i j : ℕ) {old carried x res u last out : ℤ} → i ≤ j → first ≤ j → j < end → old ≡ best first end top (extremum-of b) l r i j → carried ≡ run first end top (extremum-of b) l r i j → x ≡ r j → res ≡ margin-extreme (extremum-of (not b)) x carried → u ≡ res → last ≡ margin-extreme (extremum-of b) old u → out ≡ last → out ≡ best first end top (extremum-of b) l r i (j + 1)
-turn-best first end top b l r i j h a k p c q e v f o =
-    o ∙ f ∙ rw (v, e, dual-of b, p, q, c) (sym (best-next first end top (extremum-of b) l r i j h a k))
+pub turn-best : (first end top : ℕ) (e : Extremum) (l r : ℕ → ℤ) (i j : ℕ) {other : Extremum} {old carried x res u last out : ℤ} → other ≡ dual e → i ≤ j → first ≤ j → j < end → old ≡ best first end top e l r i j → carried ≡ run first end top e l r i j → x ≡ r j → res ≡ margin-extreme other x carried → u ≡ res → last ≡ margin-extreme e old u → out ≡ last → out ≡ best first end top e l r i (j + 1)
+turn-best first end top e l r i j d h a k p c q g v f o =
+    o ∙ f ∙ rw (v, g, d, p, q, c) (sym (best-next first end top e l r i j h a k))

@@ -22,7 +22,7 @@ use Rattle.temporal.specs.declared.Left.{Left}
 use Rattle.temporal.specs.declared.Left.the-variants.{Row, Absent}
 use Rattle.temporal.specs.Reading.{places, left-at, temporal-at, LeftInside, LeftEarlier}
 use Rattle.temporal.specs.Edges.{Edge}
-use Rattle.temporal.specs.Asks.{RowAsks}
+use Rattle.temporal.specs.Asks.{TemporalAsks}
 use Rattle.temporal.proofs.Along.{between}
 use Rattle.temporal.proofs.Edges.{edges-inside}
 
@@ -41,7 +41,7 @@ module _ (w : List ℤ) {l : List ℤ} (n row m : ℕ) (f : ℕ → ℤ) (room :
   pub bounded-kept : (right : ℕ) → right < row → Bounded w n right → Bounded l n right
   bounded-kept right h b = record { bounded = λ i q. rw (right-kept right h i q) (b .bounded i q) }
 
-pub place-value : {w l : List ℤ} {times : List ℕ} (x : Extremum) (v : Window) (left : Left) (right row i m first end : ℕ) (f : ℕ → ℤ) → RowAsks w times left right row → l ≡ fill (row * length times) m f w → Edge times (Before (v .from)) i first → Edge times (v .stop) i end → along (margins TOP) x (between first end) (λ k. i + k) (λ k. left-at x l (length times) left (i + k)) (λ k. cell l (length times) right (i + k)) (length times - i) ≡ temporal-at future x v (places times) (left-at x w (length times) left) (cell w (length times) right) i
+pub place-value : {w l : List ℤ} {times : List ℕ} (x : Extremum) (v : Window) (left : Left) (right row i m first end : ℕ) (f : ℕ → ℤ) → TemporalAsks w times left right row → l ≡ fill (row * length times) m f w → Edge times (Before (v .from)) i first → Edge times (v .stop) i end → along (margins TOP) x (between first end) (λ k. i + k) (λ k. left-at x l (length times) left (i + k)) (λ k. cell l (length times) right (i + k)) (length times - i) ≡ temporal-at future x v (places times) (left-at x w (length times) left) (cell w (length times) right) i
 place-value {w} {l} {times} x v left right row i m first end f a e F E =
     along-cong (margins TOP) x (between first end) v _ _ _ _ _ _ (length times - i)
     (λ k q. edges-inside v i first end F E (i + k) (omega arith) (omega arith))

@@ -16,7 +16,7 @@ pub record PlaceAsks (cells : List ℤ) (n right i first end : ℕ) : Type 0 whe
   pub end-inside : end ≤ n
 
 -- both operands' rows stand before the row that is filled, which lies in the cells; the right one's values lie within TOP; times rise
-pub record RowAsks (work : List ℤ) (times : List ℕ) (left : Left) (right row : ℕ) : Type 0 where
+pub record TemporalAsks (work : List ℤ) (times : List ℕ) (left : Left) (right row : ℕ) : Type 0 where
   pub left-earlier : LeftEarlier row left
   pub right-earlier : right < row
   pub right-bounded : Bounded work (length times) right

@@ -1,5 +1,6 @@
-// The row of until and release, eventually and always, from the rows of its operands. For each place the running least (largest) of left is carried along,
-// the places of the window are found from those of the place before, and the search stops where nothing later can change the answer.
+// The row of until and release, eventually and always, from the rows of its operands. The places of a window are found from those of the place before.
+// Until and release share one loop over them, which carries left's running least (largest) along and stops where nothing later can change the answer;
+// eventually and always share another, which takes right's extremum over the window's places.
 ghost use mathlib.Core.Path.{_≡_};
 ghost use mathlib.Core.Bool.{true};
 ghost use Prim.Native.Nat.{ℕ, _+_, _*_, _-_, _≤_, _<_, max};
@@ -9,10 +10,11 @@ ghost use Rattle.logic.specs.declared.Stop.the-variants.{Before};
 ghost use Rattle.logic.specs.Formula.{dual, future};
 ghost use Rattle.logic.specs.Reading.{extremum, along, margins, margin-extreme};
 ghost use Rattle.recordings.specs.Distance.{TOP};
-ghost use Rattle.rows.specs.Cells.{cell, extremum-of, Bounded};
+ghost use Rattle.rows.specs.Cells.{cell, Bounded};
 ghost use Rattle.temporal.specs.Reading.{places, left-at, temporal-at, Rising, LeftInside, LeftEarlier};
 ghost use Rattle.temporal.specs.Edges.{Reached, Edge};
-ghost use Rattle.temporal.specs.Asks.{PlaceAsks, RowAsks};
+ghost use Rattle.temporal.specs.Asks.{PlaceAsks, TemporalAsks};
+use logic::Extremum;
 use logic::Stop;
 use logic::Window;
 
@@ -59,43 +61,35 @@ fn edge(times: &[u64], i: usize, at: usize, stop: Stop) -> usize
 }
 
 // The largest (least) of a row over the places from `first` up to, not including, `end`.
-fn over_places(
-    cells: &[i64],
-    rows: usize,
-    largest: bool,
-    row: usize,
-    first: usize,
-    end: usize,
-) -> i64
+fn over_places(rows: usize, e: Extremum, cells: &[i64], row: usize, first: usize, end: usize) -> i64
     requires { ⌜ (row * rows + rows ≤ length (now cells)) × (end ≤ rows) ⌝ }
-    ensures { λ r. ⌜ r ≡ extremum (margins TOP) (extremum-of largest) (λ m. cell (now (cells .entry)) rows row (first + m)) (end - first) ⌝ }
+    ensures { λ r. ⌜ r ≡ extremum (margins TOP) e (λ m. cell (now (cells .entry)) rows row (first + m)) (end - first) ⌝ }
 {
-    let mut best = rows::over_nothing(largest);
+    let mut best = rows::over_nothing(e);
     let mut j = first;
     while j < end {
-        let value = rows::cell_at(cells, rows, row, j);
-        best = rows::extreme(largest, best, value);
+        let value = rows::cell_at(rows, cells, row, j);
+        best = rows::extreme(e, best, value);
         j += 1;
     }
     best
 }
 
 // Whether the best so far stays the best, `run` being the carried value.
-fn settled(largest: bool, best: i64, run: i64) -> bool
-    ensures { λ r. ⌜ (r ≡ true → margin-extreme (extremum-of largest) best run ≡ best) ⌝ }
+fn settled(e: Extremum, best: i64, run: i64) -> bool
+    ensures { λ r. ⌜ (r ≡ true → margin-extreme e best run ≡ best) ⌝ }
 {
-    if largest {
-        numbers::at_most(run, best)
-    } else {
-        numbers::at_most(best, run)
+    match e {
+        Extremum::Largest => numbers::at_most(run, best),
+        Extremum::Smallest => numbers::at_most(best, run),
     }
 }
 
 // Until, or release, at place i, the places of its window being those from `first` up to, not including, `end`.
 fn bound_at(
-    cells: &[i64],
     rows: usize,
-    largest: bool,
+    e: Extremum,
+    cells: &[i64],
     left: usize,
     right: usize,
     i: usize,
@@ -103,21 +97,21 @@ fn bound_at(
     end: usize,
 ) -> i64
     requires { ⌜ PlaceAsks (now cells) rows right i first end × (left * rows + rows ≤ length (now cells)) ⌝ }
-    ensures { λ r. ⌜ r ≡ along (margins TOP) (extremum-of largest) (record { from = first; stop = Before end }) (λ m. i + m) (λ m. cell (now (cells .entry)) rows left (i + m)) (λ m. cell (now (cells .entry)) rows right (i + m)) (rows - i) ⌝ }
+    ensures { λ r. ⌜ r ≡ along (margins TOP) e (record { from = first; stop = Before end }) (λ m. i + m) (λ m. cell (now (cells .entry)) rows left (i + m)) (λ m. cell (now (cells .entry)) rows right (i + m)) (rows - i) ⌝ }
 {
-    let other = !largest;
-    let mut best = rows::over_nothing(largest);
+    let other = logic::dual(e);
+    let mut best = rows::over_nothing(e);
     if end <= first {
         return best;
     }
-    let mut run = over_places(cells, rows, other, left, i, first);
+    let mut run = over_places(rows, other, cells, left, i, first);
     let mut j = first;
     while j < end {
-        let r = rows::cell_at(cells, rows, right, j);
-        let l = rows::cell_at(cells, rows, left, j);
-        best = rows::extreme(largest, best, rows::extreme(other, r, run));
+        let r = rows::cell_at(rows, cells, right, j);
+        let l = rows::cell_at(rows, cells, left, j);
+        best = rows::extreme(e, best, rows::extreme(other, r, run));
         run = rows::extreme(other, run, l);
-        if settled(largest, best, run) {
+        if settled(e, best, run) {
             return best;
         }
         j += 1;
@@ -127,9 +121,9 @@ fn bound_at(
 
 // The operator at place i: with no left operand, its extremum over the window's places.
 fn at_place(
-    cells: &[i64],
     rows: usize,
-    largest: bool,
+    e: Extremum,
+    cells: &[i64],
     left: Left,
     right: usize,
     i: usize,
@@ -138,26 +132,26 @@ fn at_place(
 ) -> i64
     requires { ⌜ PlaceAsks (now cells) rows right i first end × LeftInside (length (now cells)) rows left ⌝ }
     requires { ⌜ Bounded (now cells) rows right ⌝ }
-    ensures { λ r. ⌜ r ≡ along (margins TOP) (extremum-of largest) (record { from = first; stop = Before end }) (λ m. i + m) (λ m. left-at (extremum-of largest) (now (cells .entry)) rows left (i + m)) (λ m. cell (now (cells .entry)) rows right (i + m)) (rows - i) ⌝ }
+    ensures { λ r. ⌜ r ≡ along (margins TOP) e (record { from = first; stop = Before end }) (λ m. i + m) (λ m. left-at e (now (cells .entry)) rows left (i + m)) (λ m. cell (now (cells .entry)) rows right (i + m)) (rows - i) ⌝ }
 {
     match left {
-        Left::Row(operand) => bound_at(cells, rows, largest, operand, right, i, first, end),
-        Left::Absent => over_places(cells, rows, largest, right, first, end),
+        Left::Row(operand) => bound_at(rows, e, cells, operand, right, i, first, end),
+        Left::Absent => over_places(rows, e, cells, right, first, end),
     }
 }
 
-// The row of until (`largest`) or release, or without a left operand of eventually (`largest`) or always.
+// The row of until (the largest) or release, or without a left operand of eventually (the largest) or always.
 pub fn temporal_row(
-    work: &mut [i64],
     times: &[u64],
-    largest: bool,
+    e: Extremum,
     window: Window,
+    work: &mut [i64],
     left: Left,
     right: usize,
     row: usize,
 )
-    requires { ⌜ RowAsks (now work) (now times) left right row ⌝ }
-    ensures { λ _. ⌜ now (work .exit) ≡ fill (row * length (now (times .entry))) (length (now (times .entry))) (temporal-at future (extremum-of largest) window (places (now (times .entry))) (left-at (extremum-of largest) (now (work .entry)) (length (now (times .entry))) left) (cell (now (work .entry)) (length (now (times .entry))) right)) (now (work .entry)) ⌝ }
+    requires { ⌜ TemporalAsks (now work) (now times) left right row ⌝ }
+    ensures { λ _. ⌜ now (work .exit) ≡ fill (row * length (now (times .entry))) (length (now (times .entry))) (temporal-at future e window (places (now (times .entry))) (left-at e (now (work .entry)) (length (now (times .entry))) left) (cell (now (work .entry)) (length (now (times .entry))) right)) (now (work .entry)) ⌝ }
 {
     let rows = times.len();
     let base = row * rows;
@@ -170,7 +164,7 @@ pub fn temporal_row(
     while i < rows {
         first = edge(times, i, first, begin);
         end = edge(times, i, end, stop);
-        work[base + i] = at_place(work, rows, largest, left, right, i, first, end);
+        work[base + i] = at_place(rows, e, work, left, right, i, first, end);
         i += 1;
     }
 }

@@ -15,7 +15,7 @@ use Rattle.recordings.specs.declared.Verdict.{Verdict}
 use Rattle.recordings.specs.Card.{Card, rows}
 use Rattle.recordings.specs.Verdict.{hold, fail, verdict}
 use Rattle.tables.specs.declared.Table.{Table}
-use Rattle.tables.specs.Tree.{root}
+use Rattle.tables.specs.Tree.{NODES, root}
 use Rattle.rows.specs.Cells.{cell}
 use Rattle.refusals.specs.First.{first}
 use Rattle.rules.specs.Refusals.{checks}
@@ -71,7 +71,7 @@ module _ (c : Card) (t : Table) (step drift : ℕ) (w : List ℤ) where
   unfolding cells-after
   cells-filled e f = f ∙ (rw e refl)
 
-pub few-cells : (n r : ℕ) → n ≤ 64 → r ≤ 4_096 → 2 * n * r ≤ 524_288
+pub few-cells : (n r : ℕ) → n ≤ NODES → r ≤ 4_096 → 2 * n * r ≤ 524_288
 few-cells n r h k = let l : 2 * n ≤ 128 = omega arith in omega (arith, mul-le-mul-right r l)
 
 -- the root's rows are the last two

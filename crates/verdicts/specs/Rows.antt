@@ -1,47 +1,30 @@
 -- One row of a verdict's cells: which rows it reads, with which window, and what must stand in the cells before it.
 -- Assumes nothing.
 use mathlib.Core.Path.{_≡_}
-use mathlib.Core.Bool.{Bool, true, false, not}
+use mathlib.Core.Bool.{Bool, true, false, not, cond}
 use mathlib.Core.List.{List}
 use Prim.Native.Nat.{ℕ, _+_, _*_, _≤_, _<_}
 use lib.ListN.{length}
 use lib.IntN.{ℤ}
 use Rattle.logic.specs.declared.Window.{Window}
-use Rattle.logic.specs.declared.Extremum.{Extremum}
-use Rattle.logic.specs.declared.Extremum.the-variants.{Smallest}
 use Rattle.logic.specs.Negation.{turn}
 use Rattle.logic.specs.Strengthening.{strengthen-window}
 use Rattle.recordings.specs.Card.{Card, rows}
 use Rattle.rows.specs.Cells.{cell}
 use Rattle.tables.specs.declared.Node.{Node}
 use Rattle.tables.specs.declared.Table.{Table}
-use Rattle.tables.specs.Kind.{Operator, constant, named, negated, unknown, joined, binary, unary}
+use Rattle.tables.specs.Kind.{Operator, operator-extremum, is-not}
 use Rattle.tables.specs.Tree.{window}
 use Rattle.rules.specs.Refusals.{Sound}
 use Rattle.verdicts.specs.Cells.{row-value}
 
 -- until and eventually contract their windows, release and always expand them; the others have none
-abbrev pub window-extremum : Operator → Extremum
-window-extremum constant = Smallest
-window-extremum named = Smallest
-window-extremum negated = Smallest
-window-extremum unknown = Smallest
-window-extremum (joined e) = Smallest
-window-extremum (binary d e) = e
-window-extremum (unary d e) = e
-
 abbrev pub strong-window : Bool → ℕ → Operator → Node → Window
-strong-window b step o n = strengthen-window (turn b (window-extremum o)) step (window n)
+strong-window b step o n = strengthen-window (turn b (operator-extremum o)) step (window n)
 
 -- "not" reads its child's other row
 abbrev pub left-sign : Bool → Operator → Bool
-left-sign b constant = b
-left-sign b named = b
-left-sign b negated = not b
-left-sign b unknown = b
-left-sign b (joined e) = b
-left-sign b (binary d e) = b
-left-sign b (unary d e) = b
+left-sign b o = cond (is-not o) (not b) b
 
 -- the row of node k, or of its negation
 abbrev pub row-of : Bool → ℕ → ℕ

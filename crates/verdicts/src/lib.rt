@@ -6,11 +6,11 @@ ghost use lib.Signed.{ltZ};
 ghost use lib.ListN.{length};
 ghost use Rattle.lists.specs.Fill.{fill};
 ghost use Rattle.recordings.specs.Verdict.{decide};
-ghost use Rattle.rows.specs.Cells.{extremum-of};
 ghost use Rattle.tables.specs.Kind.{operator};
-ghost use Rattle.tables.specs.Rules.{NodeRules};
+ghost use Rattle.tables.specs.Tree.{NODES, NO-END, window};
+ghost use Rattle.windows.specs.Bounds.{Short};
 ghost use Rattle.verdicts.specs.Cells.{row-value, cells};
-ghost use Rattle.verdicts.specs.Rows.{window-extremum, strong-window, left-sign, row-of, Ready, Filled};
+ghost use Rattle.verdicts.specs.Rows.{strong-window, left-sign, row-of, Ready, Filled};
 ghost use Rattle.verdicts.specs.Answer.{outcome, judged, cells-after};
 ghost use Rattle.recordings.specs.Card.{lent};
 use logic::Window;
@@ -27,44 +27,29 @@ pub enum Answer {
 
 // The row of node k, or of its negation.
 fn row_for(affirmed: bool, k: usize) -> usize
-    requires { ⌜ k ≤ 64 ⌝ }
+    requires { ⌜ k ≤ NODES ⌝ }
     ensures { λ r. ⌜ r ≡ row-of affirmed k ⌝ }
 {
     if affirmed { 2 * k } else { 2 * k + 1 }
 }
 
-// Whether a kind's own window contracts.
-fn contracts(kind: u64) -> bool
-    ensures { λ r. ⌜ extremum-of r ≡ window-extremum (operator kind) ⌝ }
-{
-    if kind == 5 {
-        return true;
-    }
-    kind == 7
-}
-
 // The node's window, strengthened; in the negation it is that of the dual operator.
-fn row_window(node: Node, k: usize, affirmed: bool, step: u64) -> Window
-    requires { ⌜ NodeRules node k × (step ≤ 1_000_000_000) ⌝ }
+fn row_window(node: Node, affirmed: bool, step: u64) -> Window
+    requires { ⌜ (node .hi ≤ NO-END) × Short (window node) × (step ≤ 1_000_000_000) ⌝ }
     ensures { λ r. ⌜ r ≡ strong-window affirmed step (operator (node .kind)) node ⌝ }
 {
-    let own = contracts(node.kind);
-    let plain = windows::plain(node);
-    if affirmed {
-        windows::strengthened(own, step, plain)
-    } else {
-        windows::strengthened(!own, step, plain)
-    }
+    let e = logic::turn(affirmed, tables::extremum_of(node.kind));
+    windows::strengthened(e, step, windows::plain(node))
 }
 
 // The row that a node's left number names: "not" reads its child's other row.
 fn left_row(node: Node, affirmed: bool) -> usize
-    requires { ⌜ node .left ≤ 64 ⌝ }
+    requires { ⌜ node .left ≤ NODES ⌝ }
     ensures { λ r. ⌜ r ≡ row-of (left-sign affirmed (operator (node .kind))) (node .left) ⌝ }
 {
     let kind = node.kind;
     let left = node.left;
-    if kind == 2 {
+    if kind == tables::NOT {
         row_for(!affirmed, left)
     } else {
         row_for(affirmed, left)
@@ -73,13 +58,13 @@ fn left_row(node: Node, affirmed: bool) -> usize
 
 // Row `row` of the cells, the rows before it being filled.
 fn strong_row(
-    work: &mut [i64],
+    table: Table,
+    predicates: [Predicate; 16],
+    channels: usize,
     times: &[u64],
     values: &[i64],
-    channels: usize,
-    predicates: [Predicate; 16],
-    table: Table,
     step: u64,
+    work: &mut [i64],
     row: usize,
 )
     requires { ⌜ Filled (lent predicates channels times values) table step (now work) row ⌝ }
@@ -88,18 +73,18 @@ fn strong_row(
     let k = row / 2;
     let affirmed = row % 2 == 0;
     let node = table.nodes[k];
-    let window = row_window(node, k, affirmed, step);
+    let window = row_window(node, affirmed, step);
     let left = left_row(node, affirmed);
     let right = row_for(affirmed, node.right);
     nodes::node_row(
-        work,
+        node,
+        predicates,
+        channels,
         times,
         values,
-        channels,
-        predicates,
-        node,
         affirmed,
         window,
+        work,
         left,
         right,
         row,
@@ -108,13 +93,13 @@ fn strong_row(
 
 // All rows of the cells.
 fn strong_rows(
-    work: &mut [i64],
+    table: Table,
+    predicates: [Predicate; 16],
+    channels: usize,
     times: &[u64],
     values: &[i64],
-    channels: usize,
-    predicates: [Predicate; 16],
-    table: Table,
     step: u64,
+    work: &mut [i64],
 )
     requires { ⌜ Ready (lent predicates channels times values) table step (length (now work)) ⌝ }
     ensures { λ _. ⌜ now (work .exit) ≡ cells (lent predicates channels (times .entry) (values .entry)) step (table .nodes) (table .count) (now (work .entry)) ⌝ }
@@ -122,7 +107,7 @@ fn strong_rows(
     let end = 2 * table.count;
     let mut row = 0;
     while row < end {
-        strong_row(work, times, values, channels, predicates, table, step, row);
+        strong_row(table, predicates, channels, times, values, step, work, row);
         row += 1;
     }
 }
@@ -176,9 +161,9 @@ pub fn verdict(
     if late != 0 {
         return Answer::Refused(late);
     }
-    strong_rows(work, times, values, channels, predicates, table, step);
+    strong_rows(table, predicates, channels, times, values, step, work);
     let root = 2 * (count - 1);
-    let hold = rows::cell_at(work, rows, root, 0);
-    let fail = rows::cell_at(work, rows, root + 1, 0);
+    let hold = rows::cell_at(rows, work, root, 0);
+    let fail = rows::cell_at(rows, work, root + 1, 0);
     Answer::Judged(decided(drift, hold, fail), hold, fail)
 }

@@ -2,9 +2,9 @@
 ghost use mathlib.Core.Path.{_≡_};
 ghost use Prim.Native.Nat.{_-_, _≤_};
 ghost use Rattle.logic.specs.Strengthening.{contraction, expansion, strengthen-window};
-ghost use Rattle.rows.specs.Cells.{extremum-of};
 ghost use Rattle.tables.specs.Tree.{NO-END, window};
 ghost use Rattle.windows.specs.Bounds.{Short};
+use logic::Extremum;
 use logic::Stop;
 use logic::Window;
 use tables::Node;
@@ -74,13 +74,12 @@ fn expanded(step: u64, w: Window) -> Window
 }
 
 // Until and eventually contract their windows, release and always expand them.
-pub fn strengthened(largest: bool, step: u64, w: Window) -> Window
+pub fn strengthened(e: Extremum, step: u64, w: Window) -> Window
     requires { ⌜ Short w × (step ≤ NO-END) ⌝ }
-    ensures { λ r. ⌜ r ≡ strengthen-window (extremum-of largest) step w ⌝ }
+    ensures { λ r. ⌜ r ≡ strengthen-window e step w ⌝ }
 {
-    if largest {
-        contracted(step, w)
-    } else {
-        expanded(step, w)
+    match e {
+        Extremum::Largest => contracted(step, w),
+        Extremum::Smallest => expanded(step, w),
     }
 }

@@ -16,13 +16,13 @@ use Rattle.margins.proofs.fill_margins.Statement.{statement}
 use Rattle.margins.proofs.fill_margins.Tie as tie
 
 abbrev Inv-loop : tie.InvT-loop
-Inv-loop work₀ predicates channels times values nodes count k₀ work k =
+Inv-loop predicates channels times values work₀ nodes count k₀ work k =
     (k ≤ count)
     × (work ≡ fill-rows (length times) (λ q. margin (card predicates channels times values) (tree nodes q)) k work₀)
     × (length work ≡ length work₀)
 
 abbrev μ-loop : tie.MeasureT-loop
-μ-loop work₀ predicates channels times values nodes count k₀ work k = count - k
+μ-loop predicates channels times values work₀ nodes count k₀ work k = count - k
 
 abbrev start : tie.At-loop Inv-loop μ-loop → tie.Start Inv-loop μ-loop
 start c = c .before .before .before
@@ -74,7 +74,7 @@ loop-again c =
     let k = l .loop .k in (
       omega arith,
       filled-next (card-of s) (s .args .table .nodes) k (s .args .work .now) (s .pre .judged .ruled .each k t) (l .loop .inv .1) (c .before .margin-row .ensures (tree (s .args .table .nodes)) (hold l t)),
-      c .before .margin-row .kept .0 ∙ l .loop .inv .2,
+      c .before .margin-row .kept .1 .1 .1 .1 .1 .0 ∙ l .loop .inv .2,
     )
 
 same-length : tie.Need-same-length Inv-loop μ-loop

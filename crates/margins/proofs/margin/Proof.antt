@@ -57,7 +57,7 @@ mul-value : tie.Need-mul-value
 mul-value c = omega (arith, last-row c)
 
 slice-copy-out-value : tie.Need-slice-copy-out-value
-slice-copy-out-value c = omega (arith, last-row c, c .before .fill-margins .kept .0)
+slice-copy-out-value c = omega (arith, last-row c, c .before .fill-margins .kept .1 .1 .1 .1 .1 .0)
 
 same-length : tie.Need-same-length
 same-length c = search needs

@@ -1,142 +1,170 @@
--- Each arm asks what its kind's operands give and returns what its row function ensures, once the kind is put for its number.
+-- Each arm asks what its kind's operands give and returns what its row function ensures. What the tests of the kind say gives the operator.
 -- Assumes nothing.
-use mathlib.Core.Path.{refl}
+use mathlib.Core.Path.{_≡_, refl, sym, ap, _∙_}
+use mathlib.Core.Bool.{true}
+use Prim.Native.Nat.{ℕ}
 use native.Mathlib.Omega.{arith}
 use borrow.Author.Needs.{needs}
+use borrow.Author.Tests.{not-true, not-false}
+use lib.IntN.{ℤ}
+use lib.ListN.{length}
+use Rattle.rows.specs.Cells.{cell}
+use Rattle.logic.specs.Formula.{future}
+use Rattle.logic.specs.Negation.{turn}
+use Rattle.tables.specs.Kind.{Operator, joined, binary, unary, operator, operator-extremum}
+use Rattle.tables.specs.Rules.{timed}
+use Rattle.tables.proofs.EveryKind.{operating, joined-form, temporal-form}
 use Rattle.temporal.specs.declared.Left.the-variants.{Row, Absent}
-use Rattle.logic.specs.declared.Extremum.the-variants.{Largest, Smallest}
-use Rattle.nodes.proofs.Rows.{turn-largest, turn-smallest, left-before, right-before, above, row-asks, leaf, last-kind, true-arm, predicate-arm, not-arm, joined-arm, binary-arm, unary-arm}
+use Rattle.nodes.proofs.Rows.{left-before, right-before, above, row-asks, leaf, true-arm, predicate-arm, not-arm, joined-arm, binary-arm, unary-arm}
 use Rattle.nodes.proofs.node_row.Statement.{statement}
 use Rattle.nodes.proofs.node_row.Tie as tie
-use Rattle.nodes.proofs.node_row.Reads as reads
-use Rattle.nodes.proofs.node_row.Lts as lts
-use Rattle.rows.proofs.copied_row.Reads as copied-row-reads
-use Rattle.rows.proofs.joined_row.Reads as joined-row-reads
-use Rattle.rows.proofs.predicate_row.Reads as predicate-row-reads
-use Rattle.rows.proofs.true_row.Reads as true-row-reads
-use Rattle.temporal.proofs.temporal_row.Reads as temporal-row-reads
+
+-- ---- past true, predicates and "not"
+abbrev start : tie.After-is-timed → tie.Start
+start c = c .before .before .before .before .before .before .before
+
+abbrev operand : tie.Start → ℕ → ℕ → ℤ
+operand s from = cell (s .args .work .now) (length (s .args .times .now)) from
+
+abbrev own : tie.After-is-timed → Operator
+own c = operator (start c .args .node .kind)
+
+turned : (c : tie.After-is-timed) → c .before .turn .result ≡ turn (start c .args .affirmed) (operator-extremum (own c))
+turned c = c .before .turn .ensures ∙ ap (turn (start c .args .affirmed)) (c .before .before .extremum-of .ensures)
+
+joins : (c : tie.Then4) → own (c .before) ≡ joined (operator-extremum (own (c .before)))
+joins c =
+    let e = c .before .before .before .before in
+    joined-form _ (operating _ (start (c .before) .pre .known) (e .before .before .if1 .left) (e .before .if2 .left) (e .if3 .left)) (sym (c .before .is-timed .ensures) ∙ not-true _ (c .if4 .taken))
+
+has-window : (c : tie.Else4) → timed (own (c .before)) ≡ true
+has-window c = sym (c .before .is-timed .ensures) ∙ not-false _ (c .if4 .left)
+
+binds : (c : tie.Then5) → own (c .before .before .before) ≡ binary future (operator-extremum (own (c .before .before .before)))
+binds c = temporal-form _ (has-window (c .before .before)) ∙ (rw (sym (c .before .has-right .ensures) ∙ c .if5 .taken) refl)
+
+looks : (c : tie.Else5) → own (c .before .before .before) ≡ unary future (operator-extremum (own (c .before .before .before)))
+looks c = temporal-form _ (has-window (c .before .before)) ∙ (rw (sym (c .before .has-right .ensures) ∙ c .if5 .left) refl)
 
 true-row-requires : tie.Need-true-row-requires
 true-row-requires c κs = search needs
-
-mul-predicate : tie.Need-mul-predicate
-mul-predicate c = omega (arith, c .before .before .pre .numbered (c .match .keys2))
-
-array-copy-out-predicate : tie.Need-array-copy-out-predicate
-array-copy-out-predicate c = omega (arith, c .before .before .pre .numbered (c .match .keys2))
-
-predicate-row-requires : tie.Need-predicate-row-requires
-predicate-row-requires c κs = (c .before .before .before .before .pre .room, leaf (c .before .before .before .before .pre) (c .before .before .match .keys2))
-
-copied-row-requires : tie.Need-copied-row-requires
-copied-row-requires c κs = above (c .before .before .before .pre) _ (left-before (c .before .before .before .pre) 2 (c .before .match .keys3))
-
-joined-row-requires : tie.Need-joined-row-requires
-joined-row-requires c κs = (above (c .before .before .before .pre) _ (left-before (c .before .before .before .pre) 3 (c .before .match .keys4)), above (c .before .before .before .pre) _ (right-before (c .before .before .before .pre) 3 (c .before .match .keys4)))
-
-joined-row-requires-2 : tie.Need-joined-row-requires-2
-joined-row-requires-2 c κs = (above (c .before .before .before .pre) _ (left-before (c .before .before .before .pre) 4 (c .before .match .keys5)), above (c .before .before .before .pre) _ (right-before (c .before .before .before .pre) 4 (c .before .match .keys5)))
-
-temporal-row-requires : tie.Need-temporal-row-requires
-temporal-row-requires c κs = row-asks (c .before .before .before .pre) (Row _) _ (left-before (c .before .before .before .pre) 5 (c .before .match .keys6)) (right-before (c .before .before .before .pre) 5 (c .before .match .keys6))
-
-temporal-row-requires-2 : tie.Need-temporal-row-requires-2
-temporal-row-requires-2 c κs = row-asks (c .before .before .before .pre) (Row _) _ (left-before (c .before .before .before .pre) 6 (c .before .match .keys7)) (right-before (c .before .before .before .pre) 6 (c .before .match .keys7))
-
-temporal-row-requires-3 : tie.Need-temporal-row-requires-3
-temporal-row-requires-3 c κs = row-asks (c .before .before .before .pre) Absent _ tt (left-before (c .before .before .before .pre) 7 (c .before .match .keys8))
-
-temporal-row-requires-4 : tie.Need-temporal-row-requires-4
-temporal-row-requires-4 c κs =
-    let r = c .before .match .rest in
-    row-asks (c .before .before .before .pre) Absent _ tt (left-before (c .before .before .before .pre) 8 (last-kind _ (c .before .before .before .pre .known) (r .0 .0 .0 .0 .0 .0 .0 .1) (r .0 .0 .0 .0 .0 .0 .1) (r .0 .0 .0 .0 .0 .1) (r .0 .0 .0 .0 .1) (r .0 .0 .0 .1) (r .0 .0 .1) (r .0 .1) (r .1)))
 
 same-length : tie.Need-same-length
 same-length c = search needs
 
 returns : tie.Need-returns
-returns c = true-arm _ _ _ _ _ _ _ _ (c .before .before .before .before .before .args .affirmed) (c .before .before .before .match .keys1) (c .before .true-row .ensures)
+returns c = true-arm _ _ _ _ _ _ _ _ (c .before .before .before .before .before .args .affirmed) (c .before .before .before .if1 .taken) (c .before .true-row .ensures)
+
+mul-predicate : tie.Need-mul-predicate
+mul-predicate c = omega (arith, c .before .before .before .pre .numbered (c .if2 .taken))
+
+array-copy-out-predicate : tie.Need-array-copy-out-predicate
+array-copy-out-predicate c = omega (arith, c .before .before .before .pre .numbered (c .if2 .taken))
+
+predicate-row-requires : tie.Need-predicate-row-requires
+predicate-row-requires c κs = let s = c .before .before .before .before .before in (s .pre .room, leaf (s .pre) (c .before .before .if2 .taken))
 
 same-length-2 : tie.Need-same-length-2
 same-length-2 c = search needs
 
 returns-2 : tie.Need-returns-2
-returns-2 c = predicate-arm _ _ _ _ _ _ _ _ (c .before .before .before .before .before .before .args .affirmed) (c .before .before .before .before .match .keys2) (c .before .predicate-row .ensures)
+returns-2 c = predicate-arm _ _ _ _ _ _ _ _ (c .before .before .before .before .before .before .before .args .affirmed) (c .before .before .before .before .if2 .taken) (c .before .predicate-row .ensures)
+
+signed-row-requires : tie.Need-signed-row-requires
+signed-row-requires c κs =
+    let s = c .before .before .before .before .before in
+    let h = left-before (s .pre) (ap operator (c .before .if3 .taken)) in
+    (above (s .pre) _ h, s .pre .bounded _ h)
 
 same-length-3 : tie.Need-same-length-3
 same-length-3 c = search needs
 
 returns-3 : tie.Need-returns-3
-returns-3 c = not-arm _ _ _ _ _ _ _ _ (c .before .before .before .before .before .args .affirmed) (c .before .before .before .match .keys3) (c .before .copied-row .ensures)
+returns-3 c = not-arm _ _ _ _ _ _ _ _ (c .before .before .before .before .before .before .before .args .affirmed) (c .before .before .before .if3 .taken) (c .before .signed-row .ensures)
+
+extremum-of-requires : tie.Need-extremum-of-requires
+extremum-of-requires c κs = search needs
+
+turn-requires : tie.Need-turn-requires
+turn-requires c κs = search needs
+
+is-timed-requires : tie.Need-is-timed-requires
+is-timed-requires c κs = search needs
+
+joined-row-requires : tie.Need-joined-row-requires
+joined-row-requires c κs =
+    let a = start (c .before .before) .pre in
+    (above a _ (left-before a (joins (c .before))), above a _ (right-before a (joins (c .before))))
 
 same-length-4 : tie.Need-same-length-4
 same-length-4 c = search needs
 
 returns-4 : tie.Need-returns-4
-returns-4 c = joined-arm _ _ _ _ _ _ _ _ (c .before .before .before .before .before .args .affirmed) 3 Smallest refl (c .before .before .before .match .keys4) _ (turn-smallest (c .before .before .before .before .before .args .affirmed)) (c .before .joined-row .ensures)
+returns-4 c =
+    let t = c .before .before .before in
+    let s = start (t .before) in
+    joined-arm _ (s .args .node) (s .args .window) (operand s (s .args .left)) (operand s (s .args .right)) _ _ (s .args .work .now) (s .args .affirmed) (joins t) (turned (t .before)) (c .before .joined-row .ensures)
+
+has-right-requires : tie.Need-has-right-requires
+has-right-requires c κs = search needs
+
+temporal-row-requires : tie.Need-temporal-row-requires
+temporal-row-requires c κs =
+    let t = c .before in
+    let a = start (t .before .before .before) .pre in
+    row-asks a (Row _) _ (left-before a (binds t)) (right-before a (binds t))
+
+temporal-row-requires-2 : tie.Need-temporal-row-requires-2
+temporal-row-requires-2 c κs =
+    let t = c .before in
+    let a = start (t .before .before .before) .pre in
+    row-asks a Absent _ tt (left-before a (looks t))
 
 same-length-5 : tie.Need-same-length-5
 same-length-5 c = search needs
 
 returns-5 : tie.Need-returns-5
-returns-5 c = joined-arm _ _ _ _ _ _ _ _ (c .before .before .before .before .before .args .affirmed) 4 Largest refl (c .before .before .before .match .keys5) _ (turn-largest (c .before .before .before .before .before .args .affirmed)) (c .before .joined-row2 .ensures)
+returns-5 c =
+    let t = c .before .before .before in
+    let q = t .before .before .before in
+    let s = start q in
+    binary-arm _ (s .args .node) (s .args .window) (operand s (s .args .left)) (operand s (s .args .right)) _ _ (s .args .work .now) (s .args .affirmed) (binds t) (turned q) (c .before .temporal-row .ensures)
 
 same-length-6 : tie.Need-same-length-6
 same-length-6 c = search needs
 
 returns-6 : tie.Need-returns-6
-returns-6 c = binary-arm _ _ _ _ _ _ _ _ (c .before .before .before .before .before .args .affirmed) 5 Largest refl (c .before .before .before .match .keys6) _ (turn-largest (c .before .before .before .before .before .args .affirmed)) (c .before .temporal-row .ensures)
-
-same-length-7 : tie.Need-same-length-7
-same-length-7 c = search needs
-
-returns-7 : tie.Need-returns-7
-returns-7 c = binary-arm _ _ _ _ _ _ _ _ (c .before .before .before .before .before .args .affirmed) 6 Smallest refl (c .before .before .before .match .keys7) _ (turn-smallest (c .before .before .before .before .before .args .affirmed)) (c .before .temporal-row2 .ensures)
-
-same-length-8 : tie.Need-same-length-8
-same-length-8 c = search needs
-
-returns-8 : tie.Need-returns-8
-returns-8 c = unary-arm _ _ _ _ _ _ _ _ (c .before .before .before .before .before .args .affirmed) 7 Largest refl (c .before .before .before .match .keys8) _ (turn-largest (c .before .before .before .before .before .args .affirmed)) (c .before .temporal-row3 .ensures)
-
-same-length-9 : tie.Need-same-length-9
-same-length-9 c = search needs
-
-returns-9 : tie.Need-returns-9
-returns-9 c =
-    let r = c .before .before .before .match .rest in
-    unary-arm _ _ _ _ _ _ _ _ (c .before .before .before .before .before .args .affirmed) 8 Smallest refl (last-kind _ (c .before .before .before .before .before .pre .known) (r .0 .0 .0 .0 .0 .0 .0 .1) (r .0 .0 .0 .0 .0 .0 .1) (r .0 .0 .0 .0 .0 .1) (r .0 .0 .0 .0 .1) (r .0 .0 .0 .1) (r .0 .0 .1) (r .0 .1) (r .1)) _ (turn-smallest (c .before .before .before .before .before .args .affirmed)) (c .before .temporal-row4 .ensures)
+returns-6 c =
+    let t = c .before .before .before in
+    let q = t .before .before .before in
+    let s = start q in
+    unary-arm _ (s .args .node) (s .args .window) (operand s (s .args .left)) (operand s (s .args .right)) _ _ (s .args .work .now) (s .args .affirmed) (looks t) (turned q) (c .before .temporal-row2 .ensures)
 
 pub node-row-spec : {M : Type 1} → statement M
 node-row-spec =
     tie.close
     (tie.spec
     true-row-requires
+    same-length
+    returns
     mul-predicate
     array-copy-out-predicate
     predicate-row-requires
-    copied-row-requires
-    joined-row-requires
-    joined-row-requires-2
-    temporal-row-requires
-    temporal-row-requires-2
-    temporal-row-requires-3
-    temporal-row-requires-4
-    same-length
-    returns
     same-length-2
     returns-2
+    signed-row-requires
     same-length-3
     returns-3
+    extremum-of-requires
+    turn-requires
+    is-timed-requires
+    joined-row-requires
     same-length-4
     returns-4
+    has-right-requires
+    temporal-row-requires
+    temporal-row-requires-2
     same-length-5
     returns-5
     same-length-6
-    returns-6
-    same-length-7
-    returns-7
-    same-length-8
-    returns-8
-    same-length-9
-    returns-9)
+    returns-6)

@@ -19,13 +19,13 @@ use Rattle.rows.proofs.fill_distances.Statement.{statement}
 use Rattle.rows.proofs.fill_distances.Tie as tie
 
 abbrev Inv-loop : tie.InvT-loop
-Inv-loop part₀ values channels rows affirmed channel range i₀ part i =
+Inv-loop channels values rows affirmed part₀ channel range i₀ part i =
     (i ≤ rows)
     × (part ≡ fill 0 i (λ j. signed affirmed (distance TOP range (getD values (j * channels + channel) (pos 0)))) part₀)
     × (length part ≡ length part₀)
 
 abbrev μ-loop : tie.MeasureT-loop
-μ-loop part₀ values channels rows affirmed channel range i₀ part i = rows - i
+μ-loop channels values rows affirmed part₀ channel range i₀ part i = rows - i
 
 -- a value's place is in the slice
 place : (c : tie.In-loop Inv-loop μ-loop) → c .before .loop .i * c .before .before .args .channels + c .before .before .args .predicate .channel < length (c .before .before .args .values .now)

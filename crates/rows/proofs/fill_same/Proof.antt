@@ -14,10 +14,10 @@ use Rattle.rows.proofs.fill_same.Statement.{statement}
 use Rattle.rows.proofs.fill_same.Tie as tie
 
 abbrev Inv-loop : tie.InvT-loop
-Inv-loop part₀ rows value i₀ part i = (i ≤ rows) × (part ≡ fill 0 i (λ j. toZ w64 value) part₀) × (length part ≡ length part₀)
+Inv-loop rows value part₀ i₀ part i = (i ≤ rows) × (part ≡ fill 0 i (λ j. toZ w64 value) part₀) × (length part ≡ length part₀)
 
 abbrev μ-loop : tie.MeasureT-loop
-μ-loop part₀ rows value i₀ part i = rows - i
+μ-loop rows value part₀ i₀ part i = rows - i
 
 loop-holds : tie.Need-loop-holds Inv-loop μ-loop
 loop-holds c = (omega arith, fill-none _ _ _, refl)

@@ -9,19 +9,19 @@ use Rattle.lists.specs.Fill.{fill}
 use Rattle.lists.proofs.Filled.{fill-none, fill-next, fill-to}
 use Rattle.numbers.proofs.Bits.{back-ok}
 use Rattle.logic.specs.Reading.{margin-extreme}
-use Rattle.rows.specs.Cells.{cell, extremum-of}
+use Rattle.rows.specs.Cells.{cell}
 use Rattle.rows.proofs.Kept.{child-inside, child-kept}
 use Rattle.rows.proofs.joined_row.Statement.{statement}
 use Rattle.rows.proofs.joined_row.Tie as tie
 
 abbrev Inv-loop : tie.InvT-loop
-Inv-loop work₀ rows largest left right row base i₀ work i =
+Inv-loop rows e work₀ left right row base i₀ work i =
     (i ≤ rows)
-    × (work ≡ fill (row * rows) i (λ j. margin-extreme (extremum-of largest) (cell work₀ rows left j) (cell work₀ rows right j)) work₀)
+    × (work ≡ fill (row * rows) i (λ j. margin-extreme e (cell work₀ rows left j) (cell work₀ rows right j)) work₀)
     × (length work ≡ length work₀)
 
 abbrev μ-loop : tie.MeasureT-loop
-μ-loop work₀ rows largest left right row base i₀ work i = rows - i
+μ-loop rows e work₀ left right row base i₀ work i = rows - i
 
 mul-base : tie.Need-mul-base Inv-loop μ-loop
 mul-base c = omega arith
@@ -64,7 +64,7 @@ loop-again c =
     let y = c .before .cell-at2 in
     let l = back-ok (x .result) (x .ok) ∙ x .ensures ∙ child-kept _ _ _ _ _ (s .pre .0) (h .1) _ t in
     let r = back-ok (y .result) (y .ok) ∙ y .ensures ∙ child-kept _ _ _ _ _ (s .pre .1) (h .1) _ t in
-    (omega arith, fill-next _ _ _ _ (h .1) (back-ok (c .extreme .result) (c .extreme .ok) ∙ c .extreme .ensures ∙ ap₂ (margin-extreme (extremum-of (s .args .largest))) l r), simp length-set (h .2))
+    (omega arith, fill-next _ _ _ _ (h .1) (back-ok (c .extreme .result) (c .extreme .ok) ∙ c .extreme .ensures ∙ ap₂ (margin-extreme (s .args .e)) l r), simp length-set (h .2))
 
 same-length : tie.Need-same-length Inv-loop μ-loop
 same-length c = omega arith

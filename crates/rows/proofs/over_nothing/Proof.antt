@@ -1,14 +1,21 @@
--- The flag chooses.
+-- The extremum chooses.
 -- Assumes nothing.
 use mathlib.Core.Path.{refl}
+use borrow.Author.Needs.{needs}
 use Rattle.rows.proofs.over_nothing.Statement.{statement}
 use Rattle.rows.proofs.over_nothing.Tie as tie
 
+enum-told : tie.Need-enum-told
+enum-told c = search needs
+
+enum-told-2 : tie.Need-enum-told-2
+enum-told-2 c = search needs
+
 returns : tie.Need-returns
-returns c = rw (c .if1 .taken) refl
+returns c = rw (c .enum-told .given .1) refl
 
 returns-2 : tie.Need-returns-2
-returns-2 c = rw (c .if1 .left) refl
+returns-2 c = rw (c .enum-told2 .given .1) refl
 
 pub over-nothing-spec : {M : Type 1} → statement M
-over-nothing-spec = tie.close (tie.spec returns returns-2)
+over-nothing-spec = tie.close (tie.spec enum-told enum-told-2 returns returns-2)

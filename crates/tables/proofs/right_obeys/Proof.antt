@@ -1,19 +1,19 @@
--- Each arm of the match is a range of kinds, whose use of the right number `right-by-kind` gives.
+-- Where the right number is no child it is unused: `right-is`.
 -- Assumes nothing.
-use mathlib.Core.Logic.{inl, inr}
-use Rattle.tables.proofs.Uses.{right-by-kind, is-between, not-between}
+use mathlib.Core.Path.{sym, _∙_}
+use borrow.Author.Needs.{needs}
+use Rattle.tables.proofs.EveryKind.{right-is}
 use Rattle.tables.proofs.right_obeys.Statement.{statement}
 use Rattle.tables.proofs.right_obeys.Tie as tie
 
+has-right-requires : tie.Need-has-right-requires
+has-right-requires c κs = search needs
+
 returns : tie.Need-returns
-returns c =
-    let s = c .before .before in
-    rw (right-by-kind (s .args .kind), is-between 3 7 (s .args .kind) (c .before .if1 .left) (c .if2 .taken))
+returns c = rw (right-is (c .before .before .args .kind), sym (c .before .has-right .ensures) ∙ c .if1 .taken)
 
 returns-2 : tie.Need-returns-2
-returns-2 c =
-    let s = c .before in
-    rw (right-by-kind (s .args .kind), not-between 3 7 (s .args .kind) (elim (c .if1 .came) [ inl h ↦ inl (h .taken) | inr h ↦ inr (h .1 .left) ]))
+returns-2 c = rw (right-is (c .before .before .args .kind), sym (c .before .has-right .ensures) ∙ c .if1 .left)
 
 pub right-obeys-spec : {M : Type 1} → statement M
-right-obeys-spec = tie.close (tie.spec returns returns-2)
+right-obeys-spec = tie.close (tie.spec has-right-requires returns returns-2)

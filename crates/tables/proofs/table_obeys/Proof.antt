@@ -1,14 +1,15 @@
--- A count above 64 fails the first test; any other is safe to walk.
+-- A count above NODES fails the first test; any other is safe to walk.
 -- Assumes nothing.
 use borrow.Author.Needs.{needs}
 use borrow.Author.Tests.{le-leb, lt-leb}
+use Rattle.tables.specs.Tree.{NODES}
 use Rattle.tables.specs.Rules.{table-obeys}
 use Rattle.tables.proofs.table_obeys.Statement.{statement}
 use Rattle.tables.proofs.table_obeys.Tie as tie
 
 returns : tie.Need-returns
 unfolding table-obeys
-returns c = rw (lt-leb (c .before .args .table .count) 64 (c .if1 .taken))
+returns c = rw (lt-leb (c .before .args .table .count) NODES (c .if1 .taken))
 
 nodes-obey-requires : tie.Need-nodes-obey-requires
 nodes-obey-requires c κs = search needs
@@ -17,7 +18,7 @@ returns-2 : tie.Need-returns-2
 unfolding table-obeys
 returns-2 c =
     let s = c .before .before .before in
-    rw (le-leb (s .args .table .count) 64 (c .before .before .if1 .left), c .nodes-obey .ensures)
+    rw (le-leb (s .args .table .count) NODES (c .before .before .if1 .left), c .nodes-obey .ensures)
 
 pub table-obeys-spec : {M : Type 1} → statement M
 table-obeys-spec = tie.close (tie.spec returns nodes-obey-requires returns-2)

@@ -8,7 +8,7 @@ use lib.ListN.{length}
 use Rattle.numbers.proofs.Bits.{back-ok}
 use Rattle.logic.specs.Reading.{along, margins}
 use Rattle.recordings.specs.Distance.{TOP}
-use Rattle.rows.specs.Cells.{cell, extremum-of}
+use Rattle.rows.specs.Cells.{cell}
 use Rattle.temporal.specs.declared.Left.{Left}
 use Rattle.temporal.specs.Reading.{left-at, LeftInside}
 use Rattle.temporal.proofs.Along.{between, lone}
@@ -18,7 +18,7 @@ use Rattle.temporal.proofs.at_place.Tie as tie
 -- the reading with a given left operand
 abbrev reading : tie.Start → Left → ℤ
 reading s x =
-    along (margins TOP) (extremum-of (s .args .largest)) (between (s .args .first) (s .args .end)) (λ m. s .args .i + m) (λ m. left-at (extremum-of (s .args .largest)) (s .args .cells .now) (s .args .rows) x (s .args .i + m)) (λ m. cell (s .args .cells .now) (s .args .rows) (s .args .right) (s .args .i + m)) (s .args .rows - s .args .i)
+    along (margins TOP) (s .args .e) (between (s .args .first) (s .args .end)) (λ m. s .args .i + m) (λ m. left-at (s .args .e) (s .args .cells .now) (s .args .rows) x (s .args .i + m)) (λ m. cell (s .args .cells .now) (s .args .rows) (s .args .right) (s .args .i + m)) (s .args .rows - s .args .i)
 
 enum-known-left : tie.Need-enum-known-left
 enum-known-left c = search needs
@@ -44,7 +44,7 @@ returns-2 c =
     let s = c .before .before .before in
     let p = s .pre .0 .0 in
     back-ok (c .over-places .result) (c .over-places .ok) ∙ c .over-places .ensures
-    ∙ sym (lone (s .args .first) (s .args .end) TOP (extremum-of (s .args .largest)) (cell (s .args .cells .now) (s .args .rows) (s .args .right)) (s .args .i) (s .args .rows) (s .pre .1 .bounded) (p .from) (p .end-inside) (p .first-inside))
+    ∙ sym (lone (s .args .first) (s .args .end) TOP (s .args .e) (cell (s .args .cells .now) (s .args .rows) (s .args .right)) (s .args .i) (s .args .rows) (s .pre .1 .bounded) (p .from) (p .end-inside) (p .first-inside))
     ∙ sym (ap (reading s) (c .before .enum-told .given .1))
 
 pub at-place-spec : {M : Type 1} → statement M

@@ -9,19 +9,19 @@ use mir.Val.{toZ}
 use Rattle.numbers.proofs.Bits.{back-ok}
 use Rattle.logic.specs.Reading.{extremum, margins}
 use Rattle.recordings.specs.Distance.{TOP}
-use Rattle.rows.specs.Cells.{cell, extremum-of}
+use Rattle.rows.specs.Cells.{cell}
 use Rattle.temporal.proofs.Along.{turn-extremum}
 use Rattle.temporal.proofs.over_places.Statement.{statement}
 use Rattle.temporal.proofs.over_places.Tie as tie
 
 abbrev Inv-loop : tie.InvT-loop
-Inv-loop cells rows largest row first end best₀ j₀ best j =
+Inv-loop rows e cells row first end best₀ j₀ best j =
     (first ≤ j)
     × (j ≤ max first end)
-    × (toZ w64 best ≡ extremum (margins TOP) (extremum-of largest) (λ m. cell cells rows row (first + m)) (j - first))
+    × (toZ w64 best ≡ extremum (margins TOP) e (λ m. cell cells rows row (first + m)) (j - first))
 
 abbrev μ-loop : tie.MeasureT-loop
-μ-loop cells rows largest row first end best₀ j₀ best j = end - j
+μ-loop rows e cells row first end best₀ j₀ best j = end - j
 
 over-nothing-requires : tie.Need-over-nothing-requires Inv-loop μ-loop
 over-nothing-requires c κs = search needs
@@ -49,7 +49,7 @@ loop-again c =
     let s = c .before .before .before .before .before in
     let h = c .before .before .before .loop .inv in
     let x = c .before .cell-at in
-    (omega arith, omega arith, turn-extremum TOP (extremum-of (s .args .largest)) (cell (s .args .cells .now) (s .args .rows) (s .args .row)) _ _ (h .0) (h .2) (back-ok (x .result) (x .ok) ∙ x .ensures) (c .extreme .ensures) (back-ok (c .extreme .result) (c .extreme .ok)))
+    (omega arith, omega arith, turn-extremum TOP (s .args .e) (cell (s .args .cells .now) (s .args .rows) (s .args .row)) _ _ (h .0) (h .2) (back-ok (x .result) (x .ok) ∙ x .ensures) (c .extreme .ensures) (back-ok (c .extreme .result) (c .extreme .ok)))
 
 returns : tie.Need-returns Inv-loop μ-loop
 returns c =

@@ -9,7 +9,7 @@ use Rattle.lists.specs.Fill.{fill}
 use Rattle.lists.proofs.Filled.{fill-none, fill-next, fill-to, earlier-row}
 use Rattle.logic.specs.declared.Stop.the-variants.{Before}
 use Rattle.logic.specs.Formula.{future}
-use Rattle.rows.specs.Cells.{cell, extremum-of}
+use Rattle.rows.specs.Cells.{cell}
 use Rattle.temporal.specs.Reading.{places, left-at, temporal-at}
 use Rattle.temporal.specs.Edges.{Reached}
 use Rattle.temporal.proofs.Edges.{reached-none, reached-next}
@@ -18,15 +18,15 @@ use Rattle.temporal.proofs.temporal_row.Statement.{statement}
 use Rattle.temporal.proofs.temporal_row.Tie as tie
 
 abbrev Inv-loop : tie.InvT-loop
-Inv-loop work₀ times largest left right row rows base from begin stop first₀ end₀ i₀ work first end i =
+Inv-loop times e work₀ left right row rows base from begin stop first₀ end₀ i₀ work first end i =
     (i ≤ rows)
-    × (work ≡ fill (row * rows) i (temporal-at future (extremum-of largest) (record { from = from; stop = stop }) (places times) (left-at (extremum-of largest) work₀ rows left) (cell work₀ rows right)) work₀)
+    × (work ≡ fill (row * rows) i (temporal-at future e (record { from = from; stop = stop }) (places times) (left-at e work₀ rows left) (cell work₀ rows right)) work₀)
     × (length work ≡ length work₀)
     × Reached times (Before from) i first
     × Reached times stop i end
 
 abbrev μ-loop : tie.MeasureT-loop
-μ-loop work₀ times largest left right row rows base from begin stop first₀ end₀ i₀ work first end i = rows - i
+μ-loop times e work₀ left right row rows base from begin stop first₀ end₀ i₀ work first end i = rows - i
 
 mul-base : tie.Need-mul-base Inv-loop μ-loop
 mul-base c = omega (arith, c .before .pre .room)
@@ -80,7 +80,7 @@ loop-again c =
     let F = c .before .before .before .edge .ensures in
     let E = c .before .before .edge2 .ensures in (
       omega arith,
-      fill-next _ _ _ _ (h .1) (back-ok (c .at-place .result) (c .at-place .ok) ∙ c .at-place .ensures ∙ place-value (extremum-of (s .args .largest)) _ (s .args .left) (s .args .right) (s .args .row) _ _ _ _ _ (s .pre) (h .1) F E),
+      fill-next _ _ _ _ (h .1) (back-ok (c .at-place .result) (c .at-place .ok) ∙ c .at-place .ensures ∙ place-value (s .args .e) _ (s .args .left) (s .args .right) (s .args .row) _ _ _ _ _ (s .pre) (h .1) F E),
       simp length-set (h .2),
       reached-next (s .pre .times-rise) _ _ _ (F .short),
       reached-next (s .pre .times-rise) _ _ _ (E .short),

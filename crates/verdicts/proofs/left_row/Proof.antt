@@ -1,6 +1,6 @@
 -- Only "not" turns the sign.
 -- Assumes nothing.
-use Rattle.verdicts.proofs.Rows.{same-sign}
+use Rattle.tables.proofs.EveryKind.{no-not}
 use borrow.Author.Needs.{needs}
 use Rattle.verdicts.proofs.left_row.Statement.{statement}
 use Rattle.verdicts.proofs.left_row.Tie as tie
@@ -15,7 +15,7 @@ returns : tie.Need-returns
 returns c = rw (c .before .if1 .taken) (c .row-for .ensures)
 
 returns-2 : tie.Need-returns-2
-returns-2 c = rw (same-sign (c .before .before .args .affirmed) (c .before .before .args .node .kind) (c .before .if1 .left)) (c .row-for2 .ensures)
+returns-2 c = rw (no-not (c .before .before .args .node .kind) (c .before .if1 .left)) (c .row-for2 .ensures)
 
 pub left-row-spec : {M : Type 1} → statement M
 left-row-spec = tie.close (tie.spec row-for-requires row-for-requires-2 returns returns-2)

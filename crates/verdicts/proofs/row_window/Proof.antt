@@ -1,36 +1,34 @@
--- The table rules keep the window short, and the flag turns the operator.
+-- The sign turns the operator's extremum, which strengthens the node's window.
 -- Assumes nothing.
+use mathlib.Core.Path.{ap, ap₂, _∙_}
 use native.Mathlib.Omega.{arith}
-use Rattle.verdicts.proofs.Rows.{short, window-affirmed, window-denied}
 use borrow.Author.Needs.{needs}
+use Rattle.logic.specs.declared.Extremum.{Extremum}
+use Rattle.logic.specs.declared.Window.{Window}
+use Rattle.logic.specs.Negation.{turn}
+use Rattle.logic.specs.Strengthening.{strengthen-window}
 use Rattle.verdicts.proofs.row_window.Statement.{statement}
 use Rattle.verdicts.proofs.row_window.Tie as tie
 
-contracts-requires : tie.Need-contracts-requires
-contracts-requires c κs = search needs
+extremum-of-requires : tie.Need-extremum-of-requires
+extremum-of-requires c κs = search needs
+
+turn-requires : tie.Need-turn-requires
+turn-requires c κs = search needs
 
 plain-requires : tie.Need-plain-requires
-plain-requires c κs = short (c .before .args .node) (c .before .args .k) (c .before .pre .0) .1
+plain-requires c κs = search needs
 
 strengthened-requires : tie.Need-strengthened-requires
-strengthened-requires c κs = (rw (c .before .plain .ensures) (short (c .before .before .before .args .node) (c .before .before .before .args .k) (c .before .before .before .pre .0) .0), omega (arith, c .before .before .before .pre .1))
-
-strengthened-requires-2 : tie.Need-strengthened-requires-2
-strengthened-requires-2 c κs = (rw (c .before .plain .ensures) (short (c .before .before .before .args .node) (c .before .before .before .args .k) (c .before .before .before .pre .0) .0), omega (arith, c .before .before .before .pre .1))
+strengthened-requires c κs = let s = c .before .before .before in (rw (c .plain .ensures) (s .pre .1), omega (arith, s .pre .2))
 
 returns : tie.Need-returns
-returns c = window-affirmed (c .before .before .before .contracts .result) (c .before .before .before .before .args .step) (c .before .if1 .taken) (c .before .before .before .contracts .ensures) (c .before .before .plain .ensures) (c .strengthened .ensures)
-
-returns-2 : tie.Need-returns-2
-returns-2 c = window-denied (c .before .before .before .contracts .result) (c .before .before .before .before .args .step) (c .before .if1 .left) (c .before .before .before .contracts .ensures) (c .before .before .plain .ensures) (c .strengthened2 .ensures)
+returns c =
+    let s = c .before .before .before .before in
+    let e = c .before .before .turn .ensures ∙ ap (turn (s .args .affirmed)) (c .before .before .before .extremum-of .ensures) in
+    c .strengthened .ensures ∙ ap₂ (λ (x : Extremum) (w : Window). strengthen-window x (s .args .step) w) e (c .before .plain .ensures)
 
 pub row-window-spec : {M : Type 1} → statement M
 row-window-spec =
     tie.close
-    (tie.spec
-    contracts-requires
-    plain-requires
-    strengthened-requires
-    strengthened-requires-2
-    returns
-    returns-2)
+    (tie.spec extremum-of-requires turn-requires plain-requires strengthened-requires returns)

@@ -96,7 +96,7 @@ add-cell-at : tie.Need-add-cell-at
 add-cell-at c = omega (arith, sound-at (c .before .before .before .before .before .before .before .before .before) .ruled .few-nodes)
 
 cell-at-requires-2 : tie.Need-cell-at-requires-2
-cell-at-requires-2 c κs = root-inside _ _ _ _ (ready-at (c .before .before .before .before .before .before)) (c .before .before .before .before .strong-rows .ensures) false
+cell-at-requires-2 c κs = omega (arith, root-inside _ _ _ _ (ready-at (c .before .before .before .before .before .before)) (c .before .before .before .before .strong-rows .ensures) false)
 
 decided-requires : tie.Need-decided-requires
 decided-requires c κs = small-at (c .before .before .before .before .before .before .before) .1

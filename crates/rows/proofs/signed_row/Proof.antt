@@ -4,22 +4,21 @@ use mathlib.Core.Path.{_≡_, refl, _∙_, ap}
 use Prim.Native.Nat.{_*_, _-_, _≤_}
 use native.Mathlib.Omega.{arith}
 use lib.ListN.{length, length-set}
-use lib.IntN.{negℤ}
 use Rattle.lists.specs.Fill.{fill}
 use Rattle.lists.proofs.Filled.{fill-none, fill-next, fill-to}
 use Rattle.numbers.proofs.Parts.{within-neg}
 use Rattle.numbers.proofs.Bits.{back, back-ok}
-use Rattle.rows.specs.Cells.{cell}
+use Rattle.rows.specs.Cells.{cell, signed}
 use Rattle.rows.proofs.Kept.{child-inside, child-kept}
 use Rattle.rows.proofs.Fits.{top-fits}
-use Rattle.rows.proofs.negated_row.Statement.{statement}
-use Rattle.rows.proofs.negated_row.Tie as tie
+use Rattle.rows.proofs.signed_row.Statement.{statement}
+use Rattle.rows.proofs.signed_row.Tie as tie
 
 abbrev Inv-loop : tie.InvT-loop
-Inv-loop work₀ rows child row base i₀ work i = (i ≤ rows) × (work ≡ fill (row * rows) i (λ j. negℤ (cell work₀ rows child j)) work₀) × (length work ≡ length work₀)
+Inv-loop rows affirmed work₀ child row base i₀ work i = (i ≤ rows) × (work ≡ fill (row * rows) i (λ j. signed affirmed (cell work₀ rows child j)) work₀) × (length work ≡ length work₀)
 
 abbrev μ-loop : tie.MeasureT-loop
-μ-loop work₀ rows child row base i₀ work i = rows - i
+μ-loop rows affirmed work₀ child row base i₀ work i = rows - i
 
 -- the cell that is read, as it was
 value : (c : tie.After-cell-at Inv-loop μ-loop) → back (c .cell-at .result) ≡ cell (c .before .before .before .before .args .work .now) (c .before .before .before .before .args .rows) (c .before .before .before .before .args .child) (c .before .before .before .loop .i)
@@ -36,14 +35,14 @@ loop-holds c = (omega arith, fill-none _ _ _, refl)
 cell-at-requires : tie.Need-cell-at-requires Inv-loop μ-loop
 cell-at-requires c κs = let s = c .before .before .before in child-inside (c .before .before .loop .work) _ _ _ _ (s .pre .0) (c .before .before .loop .inv .2) (c .before .loop-test .taken)
 
-negated-requires : tie.Need-negated-requires Inv-loop μ-loop
-negated-requires c κs = rw (value c) (top-fits (within-neg (c .before .before .before .before .pre .1 .bounded _ (c .before .before .loop-test .taken))))
+signed-of-requires : tie.Need-signed-of-requires Inv-loop μ-loop
+signed-of-requires c κs = rw (value c) (top-fits (within-neg (c .before .before .before .before .pre .1 .bounded _ (c .before .before .loop-test .taken))))
 
-add-t12 : tie.Need-add-t12 Inv-loop μ-loop
-add-t12 c = omega arith
+add-t13 : tie.Need-add-t13 Inv-loop μ-loop
+add-t13 c = omega arith
 
-mul-t13 : tie.Need-mul-t13 Inv-loop μ-loop
-mul-t13 c = omega arith
+mul-t14 : tie.Need-mul-t14 Inv-loop μ-loop
+mul-t14 c = omega arith
 
 slice-set-from-work : tie.Need-slice-set-from-work Inv-loop μ-loop
 slice-set-from-work c = omega arith
@@ -57,7 +56,7 @@ loop-less c = omega arith
 loop-again : tie.Need-loop-again Inv-loop μ-loop
 loop-again c =
     let h = c .before .before .before .before .loop .inv in
-    (omega arith, fill-next _ _ _ _ (h .1) (back-ok (c .negated .result) (c .negated .ok) ∙ c .negated .ensures ∙ ap negℤ (value (c .before))), simp length-set (h .2))
+    (omega arith, fill-next _ _ _ _ (h .1) (back-ok (c .signed-of .result) (c .signed-of .ok) ∙ c .signed-of .ensures ∙ ap (signed (c .before .before .before .before .before .args .affirmed)) (value (c .before))), simp length-set (h .2))
 
 same-length : tie.Need-same-length Inv-loop μ-loop
 same-length c = omega arith
@@ -65,8 +64,8 @@ same-length c = omega arith
 returns : tie.Need-returns Inv-loop μ-loop
 returns c = let e : c .before .loop .i ≡ c .before .before .args .rows = omega arith in fill-to _ _ _ e (c .before .loop .inv .1)
 
-pub negated-row-spec : {M : Type 1} → statement M
-negated-row-spec =
+pub signed-row-spec : {M : Type 1} → statement M
+signed-row-spec =
     tie.close
     (tie.spec
     Inv-loop
@@ -74,9 +73,9 @@ negated-row-spec =
     mul-base
     loop-holds
     cell-at-requires
-    negated-requires
-    add-t12
-    mul-t13
+    signed-of-requires
+    add-t13
+    mul-t14
     slice-set-from-work
     add-i
     loop-less

@@ -1,0 +1,2 @@
+-- The rules keep a window's ends short (`Ends`).
+pub mod Ends
