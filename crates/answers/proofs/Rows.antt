@@ -123,10 +123,10 @@ module _ (s : List ℕ) (x : Sheet) (p : Checked s (x .channels)) where
 
   -- ---- what is judged: no rows where they are refused, else what stands in front of the slices
 
-  pub none-judged : (answer .number ≡ 0 → ⊥) → (t : Table) → refused-by (first (checks (card (x .channels) (x .predicates) [] []) t)) ≡ table-answer x (listing x s) t
+  pub none-judged : (answer .number ≡ 0 → ⊥) → (t : Table) → refused-by (first (checks (card (x .predicates) (x .channels) [] []) t)) ≡ table-answer x (listing x s) t
   none-judged h t =
       let c : Card = measured x (listing x s) in
-      let e : first (checks (card (x .channels) (x .predicates) [] []) t) ≡ first (table-run c t (x .step) (x .drift)) =
+      let e : first (checks (card (x .predicates) (x .channels) [] []) t) ≡ first (table-run c t (x .step) (x .drift)) =
       ⊎-elim (λ w. run-wide c t (x .step) (x .drift) w) (λ m. run-many c t (x .step) (x .drift) (rw (times-long (listing x s)) m)) (rows-refused h) in
       only-number _ c t (x .step) (x .drift) (filled-of (listing x s)) (none-refused c t (x .step) (x .drift))
       ∙ ap (λ (n : ℕ). outcome-by n c t (x .step) (x .drift) (filled-of (listing x s))) e
@@ -149,7 +149,7 @@ module _ (s : List ℕ) (x : Sheet) (p : Checked s (x .channels)) where
       values-taken = rw (g, z) (front-taken (values-of (listing x s)) values₀ (a .rows * x .channels) (ap (λ (n : ℕ). n * x .channels) (read .counted) ∙ sym (values-long (x .channels) s)))
 
       pub rows-judged : (t : Table)
-          → outcome-by (refusal (card (x .channels) (x .predicates) (take (a .rows) times) (take (a .rows * x .channels) values)) t (x .step) (x .drift) CELLS) (card (x .channels) (x .predicates) (take (a .rows) times) (take (a .rows * x .channels) values)) t (x .step) (x .drift) (a .filled)
+          → outcome-by (refusal (card (x .predicates) (x .channels) (take (a .rows) times) (take (a .rows * x .channels) values)) t (x .step) (x .drift) CELLS) (card (x .predicates) (x .channels) (take (a .rows) times) (take (a .rows * x .channels) values)) t (x .step) (x .drift) (a .filled)
           ≡ table-answer x (listing x s) t
       rows-judged t =
           let c : Card = measured x (listing x s) in

@@ -49,7 +49,7 @@ abbrev pub listing : Sheet → List ℕ → Listing
 listing x rows = rows-of (x .channels) rows
 
 abbrev pub measured : Sheet → Listing → Card
-measured x l = card (x .channels) (x .predicates) (times-of l) (values-of l)
+measured x l = card (x .predicates) (x .channels) (times-of l) (values-of l)
 
 -- 1: a line breaks the text form or is missing, or the text is too long
 abbrev pub sheet-check : List ℕ → Check

@@ -93,7 +93,7 @@ fn judge(
     drift: u64,
     filled: usize,
 ) -> Outcome
-    ensures { λ r. ⌜ r ≡ answered (refusal (lent channels predicates (times .entry) (values .entry)) table step drift CELLS) (lent channels predicates (times .entry) (values .entry)) table step drift filled ⌝ }
+    ensures { λ r. ⌜ r ≡ answered (refusal (lent predicates channels (times .entry) (values .entry)) table step drift CELLS) (lent predicates channels (times .entry) (values .entry)) table step drift filled ⌝ }
 {
     let mut work = [0i64; 8192];
     let judged = verdicts::verdict(

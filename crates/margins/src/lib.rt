@@ -31,8 +31,8 @@ fn margin_row(
     work: &mut [i64],
     k: usize,
 )
-    requires { ⌜ RowAsks (lent channels predicates times values) node k (now work) ⌝ }
-    ensures { λ _. ⌜ ((φ : ℕ → Formula ℕ) → Holds (lent channels predicates (times .entry) (values .entry)) (now (work .entry)) k φ → now (work .exit) ≡ fill (k * length (now (times .entry))) (length (now (times .entry))) (margin (lent channels predicates (times .entry) (values .entry)) (formula (operator (node .kind)) node φ)) (now (work .entry))) ⌝ }
+    requires { ⌜ RowAsks (lent predicates channels times values) node k (now work) ⌝ }
+    ensures { λ _. ⌜ ((φ : ℕ → Formula ℕ) → Holds (lent predicates channels (times .entry) (values .entry)) (now (work .entry)) k φ → now (work .exit) ≡ fill (k * length (now (times .entry))) (length (now (times .entry))) (margin (lent predicates channels (times .entry) (values .entry)) (formula (operator (node .kind)) node φ)) (now (work .entry))) ⌝ }
 {
     let left = node.left;
     let right = node.right;
@@ -65,8 +65,8 @@ fn fill_margins(
     values: &[i64],
     work: &mut [i64],
 )
-    requires { ⌜ TableAsks (lent channels predicates times values) table (now work) ⌝ }
-    ensures { λ _. ⌜ now (work .exit) ≡ fill-rows (length (now (times .entry))) (λ k. margin (lent channels predicates (times .entry) (values .entry)) (tree (table .nodes) k)) (table .count) (now (work .entry)) ⌝ }
+    requires { ⌜ TableAsks (lent predicates channels times values) table (now work) ⌝ }
+    ensures { λ _. ⌜ now (work .exit) ≡ fill-rows (length (now (times .entry))) (λ k. margin (lent predicates channels (times .entry) (values .entry)) (tree (table .nodes) k)) (table .count) (now (work .entry)) ⌝ }
 {
     let nodes = table.nodes;
     let count = table.count;
@@ -87,7 +87,7 @@ fn refusal_of(
     values: &[i64],
     cells: usize,
 ) -> u64
-    ensures { λ r. ⌜ r ≡ refusal (lent channels predicates (times .entry) (values .entry)) table cells ⌝ }
+    ensures { λ r. ⌜ r ≡ refusal (lent predicates channels (times .entry) (values .entry)) table cells ⌝ }
 {
     let earlier = rules::refusal(table, predicates, channels, times, values);
     if earlier != 0 {
@@ -109,8 +109,8 @@ pub fn margin(
     values: &[i64],
     work: &mut [i64],
 ) -> Answer
-    ensures answer { λ r. ⌜ outcome r ≡ judged (lent channels predicates (times .entry) (values .entry)) table (length (now (work .entry))) ⌝ }
-    ensures cells { λ _. ⌜ now (work .exit) ≡ cells-after (lent channels predicates (times .entry) (values .entry)) table (now (work .entry)) ⌝ }
+    ensures answer { λ r. ⌜ outcome r ≡ judged (lent predicates channels (times .entry) (values .entry)) table (length (now (work .entry))) ⌝ }
+    ensures cells { λ _. ⌜ now (work .exit) ≡ cells-after (lent predicates channels (times .entry) (values .entry)) table (now (work .entry)) ⌝ }
 {
     let number = refusal_of(table, predicates, channels, times, values, work.len());
     if number != 0 {

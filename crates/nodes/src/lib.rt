@@ -27,8 +27,8 @@ pub fn node_row(
     right: usize,
     row: usize,
 )
-    requires { ⌜ NodeAsks (now work) (lent channels predicates times values) node left right row ⌝ }
-    ensures { λ _. ⌜ now (work .exit) ≡ fill (row * length (now (times .entry))) (length (now (times .entry))) (node-value (lent channels predicates (times .entry) (values .entry)) affirmed window (operator (node .kind)) node (cell (now (work .entry)) (length (now (times .entry))) left) (cell (now (work .entry)) (length (now (times .entry))) right)) (now (work .entry)) ⌝ }
+    requires { ⌜ NodeAsks (now work) (lent predicates channels times values) node left right row ⌝ }
+    ensures { λ _. ⌜ now (work .exit) ≡ fill (row * length (now (times .entry))) (length (now (times .entry))) (node-value (lent predicates channels (times .entry) (values .entry)) affirmed window (operator (node .kind)) node (cell (now (work .entry)) (length (now (times .entry))) left) (cell (now (work .entry)) (length (now (times .entry))) right)) (now (work .entry)) ⌝ }
 {
     let rows = times.len();
     let kind = node.kind;

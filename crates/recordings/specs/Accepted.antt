@@ -41,7 +41,6 @@ abbrev pub LARGEST-DRIFT : ℕ
 LARGEST-DRIFT = 1_000_000_000
 
 -- ---- a predicate
-
 -- a range's ends obey the range of values, and lo ≤ hi
 abbrev pub Ends : Range → Type 0
 Ends Unset = Unit

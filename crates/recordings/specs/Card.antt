@@ -10,10 +10,10 @@ use Rattle.recordings.specs.declared.Predicate.{Predicate}
 use Rattle.recordings.specs.declared.Range.the-variants.{Unset}
 
 pub record Card : Type 0 where
+  pub predicates : List Predicate
   pub channels : ℕ
   pub times : List ℕ
   pub values : List ℤ
-  pub predicates : List Predicate
 
 abbrev pub rows : Card → ℕ
 rows c = length (c .times)
@@ -50,9 +50,9 @@ abbrev pub span : Card → Places
 span c = record { first = first-time c; end = suc (last-time c); time = λ t. t }
 
 -- what the library's callers hand over, as a card
-abbrev pub card : ℕ → List Predicate → List ℕ → List ℤ → Card
-card channels predicates times values = record { channels = channels; times = times; values = values; predicates = predicates }
+abbrev pub card : List Predicate → ℕ → List ℕ → List ℤ → Card
+card predicates channels times values = record { predicates = predicates; channels = channels; times = times; values = values }
 
 -- the card of two slices, as they are at a call's entry or exit
-abbrev pub lent : ℕ → List Predicate → RefT (List ℕ) → RefT (List ℤ) → Card
-lent channels predicates times values = card channels predicates (now times) (now values)
+abbrev pub lent : List Predicate → ℕ → RefT (List ℕ) → RefT (List ℤ) → Card
+lent predicates channels times values = card predicates channels (now times) (now values)

@@ -8,12 +8,12 @@ use Rattle.recordings.specs.Card.{Card}
 -- p0 is "at least 5"; step 1, drift 2
 abbrev pub example : Card
 example = record {
+  predicates = record { channel = 0; range = AtLeast (pos 5) } ∷ [];
   channels = 1;
   times = 0 ∷ 1 ∷ 2 ∷ 3 ∷ 4 ∷ [];
   values = pos 10 ∷ pos 11 ∷ pos 10 ∷ pos 9 ∷ pos 10 ∷ [];
-  predicates = record { channel = 0; range = AtLeast (pos 5) } ∷ [];
 }
 
 -- a steep ramp; step 1, drift 1
 abbrev pub ramp : Card
-ramp = record { channels = 1; times = 0 ∷ 1 ∷ 2 ∷ []; values = pos 5 ∷ pos 7 ∷ pos 9 ∷ []; predicates = [] }
+ramp = record { predicates = []; channels = 1; times = 0 ∷ 1 ∷ 2 ∷ []; values = pos 5 ∷ pos 7 ∷ pos 9 ∷ [] }

@@ -84,7 +84,7 @@ pub fn refusal(
     times: &[u64],
     values: &[i64],
 ) -> u64
-    ensures { λ r. ⌜ r ≡ first (checks (lent channels predicates (times .entry) (values .entry)) table) ⌝ }
+    ensures { λ r. ⌜ r ≡ first (checks (lent predicates channels (times .entry) (values .entry)) table) ⌝ }
 {
     let three = predicates::requirement_obeys(table, predicates);
     if !three {

@@ -37,7 +37,7 @@ checks c step drift =
 
 -- no predicate is looked at
 abbrev pub samples-alone : ℕ → List ℕ → List ℤ → Card
-samples-alone channels times values = card channels [] times values
+samples-alone channels times values = card [] channels times values
 
 -- what the tests may rely on, from refusals 5, 7 and 9
 pub record Comparable (from to : ℤ) (drift : ℕ) : Type 0 where

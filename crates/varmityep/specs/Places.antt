@@ -16,7 +16,7 @@ use Rattle.flat.specs.Written.{written}
 
 -- what a requirement is read against: predicates in flat numbers, and a recording
 unfoldable pub card-from : List ℕ → List ℤ → ℕ → List ℕ → List ℤ → Card
-card-from ranges ends channels times values = card channels (predicates-from ranges ends) times values
+card-from ranges ends channels times values = card (predicates-from ranges ends) channels times values
 
 -- what a slice holds afterwards: new contents in front, and under a refusal what it held before
 abbrev pub handed : {X : Type 0} → ℕ → List X → List X → List X

@@ -67,8 +67,8 @@ fn strong_row(
     work: &mut [i64],
     row: usize,
 )
-    requires { ⌜ Filled (lent channels predicates times values) table step (now work) row ⌝ }
-    ensures { λ _. ⌜ now (work .exit) ≡ fill (row * length (now (times .entry))) (length (now (times .entry))) (row-value (lent channels predicates (times .entry) (values .entry)) step (table .nodes) row) (now (work .entry)) ⌝ }
+    requires { ⌜ Filled (lent predicates channels times values) table step (now work) row ⌝ }
+    ensures { λ _. ⌜ now (work .exit) ≡ fill (row * length (now (times .entry))) (length (now (times .entry))) (row-value (lent predicates channels (times .entry) (values .entry)) step (table .nodes) row) (now (work .entry)) ⌝ }
 {
     let k = row / 2;
     let affirmed = row % 2 == 0;
@@ -101,8 +101,8 @@ fn strong_rows(
     step: u64,
     work: &mut [i64],
 )
-    requires { ⌜ Ready (lent channels predicates times values) table step (length (now work)) ⌝ }
-    ensures { λ _. ⌜ now (work .exit) ≡ cells (lent channels predicates (times .entry) (values .entry)) step (table .nodes) (table .count) (now (work .entry)) ⌝ }
+    requires { ⌜ Ready (lent predicates channels times values) table step (length (now work)) ⌝ }
+    ensures { λ _. ⌜ now (work .exit) ≡ cells (lent predicates channels (times .entry) (values .entry)) step (table .nodes) (table .count) (now (work .entry)) ⌝ }
 {
     let end = 2 * table.count;
     let mut row = 0;
@@ -145,8 +145,8 @@ pub fn verdict(
     drift: u64,
     work: &mut [i64],
 ) -> Answer
-    ensures answer { λ r. ⌜ outcome r ≡ judged (lent channels predicates (times .entry) (values .entry)) table step drift (length (now (work .entry))) ⌝ }
-    ensures cells { λ _. ⌜ now (work .exit) ≡ cells-after (lent channels predicates (times .entry) (values .entry)) table step drift (now (work .entry)) ⌝ }
+    ensures answer { λ r. ⌜ outcome r ≡ judged (lent predicates channels (times .entry) (values .entry)) table step drift (length (now (work .entry))) ⌝ }
+    ensures cells { λ _. ⌜ now (work .exit) ≡ cells-after (lent predicates channels (times .entry) (values .entry)) table step drift (now (work .entry)) ⌝ }
 {
     let early = rules::refusal(table, predicates, channels, times, values);
     if early != 0 {

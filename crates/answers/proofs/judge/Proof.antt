@@ -23,7 +23,7 @@ use Rattle.margins.proofs.margin.Reads as margin-reads
 use Rattle.verdicts.proofs.verdict.Reads as verdict-reads
 
 abbrev card-of : tie.Start → Card
-card-of s = card (s .args .channels) (s .args .predicates) (s .args .times .now) (s .args .values .now)
+card-of s = card (s .args .predicates) (s .args .channels) (s .args .times .now) (s .args .values .now)
 
 slice-aggregate-verdict : tie.Need-slice-aggregate-verdict
 slice-aggregate-verdict c = search needs

@@ -18,7 +18,7 @@ use Rattle.margins.proofs.fill_margins.Tie as tie
 abbrev Inv-loop : tie.InvT-loop
 Inv-loop predicates channels times values work₀ nodes count k₀ work k =
     (k ≤ count)
-    × (work ≡ fill-rows (length times) (λ q. margin (card channels predicates times values) (tree nodes q)) k work₀)
+    × (work ≡ fill-rows (length times) (λ q. margin (card predicates channels times values) (tree nodes q)) k work₀)
     × (length work ≡ length work₀)
 
 abbrev μ-loop : tie.MeasureT-loop
@@ -28,7 +28,7 @@ abbrev start : tie.At-loop Inv-loop μ-loop → tie.Start Inv-loop μ-loop
 start c = c .before .before .before
 
 abbrev card-of : tie.Start Inv-loop μ-loop → Card
-card-of s = card (s .args .channels) (s .args .predicates) (s .args .times .now) (s .args .values .now)
+card-of s = card (s .args .predicates) (s .args .channels) (s .args .times .now) (s .args .values .now)
 
 -- the rows before k hold the margins of their nodes
 hold : (c : tie.At-loop Inv-loop μ-loop) → c .loop .k < start c .args .table .count → Holds (card-of (start c)) (c .loop .work) (c .loop .k) (tree (start c .args .table .nodes))

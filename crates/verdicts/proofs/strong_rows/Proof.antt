@@ -14,7 +14,7 @@ use Rattle.recordings.specs.Card.{card}
 
 abbrev Inv-loop : tie.InvT-loop
 Inv-loop table predicates channels times values step work₀ end row₀ work row =
-    (end ≡ 2 * table .count) × (row ≤ end) × (work ≡ fill-rows (length times) (row-value (card channels predicates times values) step (table .nodes)) row work₀)
+    (end ≡ 2 * table .count) × (row ≤ end) × (work ≡ fill-rows (length times) (row-value (card predicates channels times values) step (table .nodes)) row work₀)
 
 abbrev μ-loop : tie.MeasureT-loop
 μ-loop table predicates channels times values step work₀ end row₀ work row = end - row

@@ -26,7 +26,7 @@ use Rattle.verdicts.proofs.verdict.Lts as lts
 
 -- what is handed over
 abbrev card-of : tie.Start → Card
-card-of s = card (s .args .channels) (s .args .predicates) (s .args .times .now) (s .args .values .now)
+card-of s = card (s .args .predicates) (s .args .channels) (s .args .times .now) (s .args .values .now)
 
 -- past the first branch refusals 3 to 7 do not apply
 early-zero : (c : tie.Else1) → first (checks (card-of (c .before .before .before)) (c .before .before .before .args .table)) ≡ 0
