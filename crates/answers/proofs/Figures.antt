@@ -7,10 +7,10 @@ use lib.IntN.{ℤ}
 use Rattle.recordings.specs.declared.Verdict.{Verdict}
 use Rattle.recordings.specs.Card.{Card, rows}
 use Rattle.tables.specs.declared.Table.{Table}
-use Rattle.margins.specs.Answers.{judged as margin-judged}
+use Rattle.margins.specs.Answers.{margin-judged}
 use Rattle.margins.proofs.Promises.{none-number, margin-is}
-use Rattle.verdicts.specs.Answer.{refusal, judged}
-use Rattle.verdicts.proofs.Promises.{number-sound, number-room, verdict-is, hold-is, fail-is}
+use Rattle.verdicts.specs.Answer.{verdict-refusal as refusal, verdict-judged as judged}
+use Rattle.verdicts.proofs.Promises.{number-none, verdict-is, hold-is, fail-is}
 use Rattle.answers.specs.Answers.{CELLS, refused-by, answered}
 
 -- under a refusal nothing but its number is left
@@ -34,8 +34,8 @@ module _ (c : Card) (t : Table) (step drift filled : ℕ) where
   module _ (e : judged c t step drift CELLS .number ≡ 0) where
     margin-accepts : margin-judged c t CELLS .number ≡ 0
     margin-accepts =
-        let r : 2 * t .count * rows c ≤ CELLS = number-room c t step drift CELLS e .0 in
-        none-number c t CELLS (number-sound c t step drift CELLS e) (omega arith)
+        let r : 2 * t .count * rows c ≤ CELLS = number-none c t step drift CELLS e .1 in
+        none-number c t CELLS (number-none c t step drift CELLS e .0) (omega arith)
 
     pub judge-accepted : (m h f : ℤ) (v : Verdict) → m ≡ margin-judged c t CELLS .margin → h ≡ judged c t step drift CELLS .hold → f ≡ judged c t step drift CELLS .fail → v ≡ judged c t step drift CELLS .verdict
         → record { number = 0; rows = rows c; filled = filled; margin = m; hold = h; fail = f; verdict = v } ≡ answered (refusal c t step drift CELLS) c t step drift filled

@@ -20,7 +20,7 @@ use Rattle.refusals.specs.First.{Check, first, Exact, AllExact, Refused, Passed
 use Rattle.rules.specs.Refusals.{table-checks, sample-checks}
 use Rattle.refusals.proofs.First.{first-passes, first-fails, passed, none-fails, refused, first-is, first-append, first-of-whole, exact-append, exact-parts}
 use Rattle.sampling.specs.Sampling.{checks as sampling-checks}
-use Rattle.verdicts.specs.Answer.{room-check, refusal, judged}
+use Rattle.verdicts.specs.Answer.{verdict-room as room-check, verdict-refusal as refusal, verdict-judged as judged}
 use Rattle.verdicts.proofs.Promises.{exact-checks, verdict-is, holds as verdict-holds, fails as verdict-fails}
 use Rattle.requirements.specs.declared.Requirement.{Requirement}
 use Rattle.requirements.specs.Requirement.{requirement-of}

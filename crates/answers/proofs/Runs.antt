@@ -14,7 +14,7 @@ use Rattle.rules.specs.Recording.{lengths-obey}
 use Rattle.rules.specs.Refusals.{table-checks, sample-checks, checks}
 use Rattle.refusals.proofs.First.{first-passes}
 use Rattle.sampling.specs.Sampling.{checks as sampling-checks}
-use Rattle.verdicts.specs.Answer.{room-check, refusal}
+use Rattle.verdicts.specs.Answer.{verdict-room as room-check, verdict-refusal as refusal}
 use Rattle.answers.specs.Answers.{ROWS, CELLS, rows-check, table-run}
 
 -- a test that passes, among others

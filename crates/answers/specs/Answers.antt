@@ -16,7 +16,7 @@ use Rattle.tables.specs.Tree.{root}
 use Rattle.refusals.specs.First.{Check, first, unless-refused}
 use Rattle.rules.specs.Refusals.{table-checks, sample-checks}
 use Rattle.sampling.specs.Sampling.{checks as sampling-checks}
-use Rattle.verdicts.specs.Answer.{room-check}
+use Rattle.verdicts.specs.Answer.{verdict-room as room-check}
 use Rattle.grammar.specs.Tree.{Tree}
 use Rattle.grammar.specs.Grammar.{Requires}
 use Rattle.requirements.specs.Requirement.{requirement-of}

@@ -2,8 +2,8 @@
 pub mod printed;
 
 ghost use mathlib.Core.Path.{_≡_};
-ghost use Rattle.margins.specs.Answers.{outcome as margin-outcome};
-ghost use Rattle.verdicts.specs.Answer.{outcome, refusal};
+ghost use Rattle.margins.specs.Answers.{margin-outcome};
+ghost use Rattle.verdicts.specs.Answer.{verdict-outcome as outcome, verdict-refusal as refusal};
 ghost use Rattle.answers.specs.Answers.{CELLS, listing, rows-part, requirement-part, refused-by, answered, table-answer, answer-for, answer-of-text, Checked, Placed};
 ghost use Rattle.recordings.specs.Card.{lent};
 use recordings::Predicate;

@@ -12,8 +12,8 @@ use Rattle.predicates.specs.Predicates.{names-set, all-named, requirement-obeys
 use Rattle.refusals.specs.First.{first}
 use Rattle.rules.specs.Recording.{lengths-obey, all-rising, all-early, times-obey, values-obey}
 use Rattle.sampling.specs.Sampling.{step-obeys, times-close, near, values-near}
-use Rattle.margins.specs.Answers.{judged as margin-judged}
-use Rattle.verdicts.specs.Answer.{refusal, judged}
+use Rattle.margins.specs.Answers.{margin-judged}
+use Rattle.verdicts.specs.Answer.{verdict-refusal as refusal, verdict-judged as judged}
 use Rattle.text.specs.Mark.{prefix-of, mark-at}
 use Rattle.text.specs.Number.{digits, value, number-at, field-at}
 use Rattle.grammar.specs.Tree.{size}

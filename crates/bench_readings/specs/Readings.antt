@@ -11,8 +11,8 @@ use Rattle.recordings.specs.Card.{Card}
 use Rattle.recordings.specs.Distance.{TOP, distance}
 use Rattle.recordings.specs.Examples.{example}
 use Rattle.tables.specs.declared.Table.{Table}
-use Rattle.margins.specs.Answers.{Outcome as MarginOutcome, judged as margin-judged}
-use Rattle.verdicts.specs.Answer.{Outcome as VerdictOutcome, judged as verdict-judged}
+use Rattle.margins.specs.Answers.{MarginOutcome, margin-judged}
+use Rattle.verdicts.specs.Answer.{VerdictOutcome, verdict-judged}
 use Rattle.text.specs.Bytes.{bytes}
 use Rattle.requirements.specs.Requirement.{requirement-of}
 

@@ -16,30 +16,30 @@ use Rattle.margins.specs.declared.Answer.{Answer}
 use Rattle.margins.specs.declared.Answer.the-variants.{Margin, Refused}
 
 -- what document 01 hands back: a number, 0 for no refusal, and a margin, 0 under a refusal
-pub record Outcome : Type 0 where
+pub record MarginOutcome : Type 0 where
   pub number : ℕ
   pub margin : ℤ
 
 -- the paper's number and margin of each answer
-abbrev pub outcome : Answer → Outcome
-outcome (Margin m) = record { number = 0; margin = m }
-outcome (Refused n) = record { number = n; margin = pos 0 }
+abbrev pub margin-outcome : Answer → MarginOutcome
+margin-outcome (Margin m) = record { number = 0; margin = m }
+margin-outcome (Refused n) = record { number = n; margin = pos 0 }
 
 -- 8: work shorter than n × rows cells
-abbrev pub room-check : Card → Table → ℕ → Check
-room-check c t cells = record { number = 8; sentence = t .count * rows c ≤ cells; passes = leb (t .count * rows c) cells }
+abbrev pub margin-room : Card → Table → ℕ → Check
+margin-room c t cells = record { number = 8; sentence = t .count * rows c ≤ cells; passes = leb (t .count * rows c) cells }
 
 -- refusals 3 to 8, in the order in which they count
 abbrev pub margin-checks : Card → Table → ℕ → List Check
-margin-checks c t cells = checks c t ++ (room-check c t cells ∷ [])
+margin-checks c t cells = checks c t ++ (margin-room c t cells ∷ [])
 
-abbrev pub refusal : Card → Table → ℕ → ℕ
-refusal c t cells = first (margin-checks c t cells)
+abbrev pub margin-refusal : Card → Table → ℕ → ℕ
+margin-refusal c t cells = first (margin-checks c t cells)
 
 -- the recording's margin is the root's at sample 0
-unfoldable pub judged : Card → Table → ℕ → Outcome
-judged c t cells = record { number = refusal c t cells; margin = unless-refused (refusal c t cells) (margin c (root t) 0) (pos 0) }
+unfoldable pub margin-judged : Card → Table → ℕ → MarginOutcome
+margin-judged c t cells = record { number = margin-refusal c t cells; margin = unless-refused (margin-refusal c t cells) (margin c (root t) 0) (pos 0) }
 
 -- node k owns the cells from k × rows on: cell k × rows + i ends as its margin at i, later cells keep their contents; under a refusal all do
-unfoldable pub cells-after : Card → Table → List ℤ → List ℤ
-cells-after c t w = unless-refused (refusal c t (length w)) (fill-rows (rows c) (λ k. margin c (tree (t .nodes) k)) (t .count) w) w
+unfoldable pub margin-cells : Card → Table → List ℤ → List ℤ
+margin-cells c t w = unless-refused (margin-refusal c t (length w)) (fill-rows (rows c) (λ k. margin c (tree (t .nodes) k)) (t .count) w) w

@@ -31,5 +31,5 @@ pub record Holds (c : Card) (work : List ℤ) (k : ℕ) (φ : ℕ → Formula �
 
 -- refusals 3 to 8 do not apply
 pub record TableAsks (c : Card) (t : Table) (work : List ℤ) : Type 0 where
-  pub judged : Sound c t
+  pub sound : Sound c t
   pub room : t .count * rows c ≤ length work

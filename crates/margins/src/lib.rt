@@ -8,7 +8,7 @@ ghost use Rattle.recordings.specs.Margin.{margin};
 ghost use Rattle.tables.specs.Kind.{operator};
 ghost use Rattle.tables.specs.Tree.{formula, tree};
 ghost use Rattle.margins.specs.Nodes.{RowAsks, Holds, TableAsks};
-ghost use Rattle.margins.specs.Answers.{outcome, refusal, judged, cells-after};
+ghost use Rattle.margins.specs.Answers.{margin-outcome, margin-refusal, margin-judged, margin-cells};
 ghost use Rattle.recordings.specs.Card.{lent};
 use recordings::Predicate;
 use tables::Node;
@@ -87,7 +87,7 @@ fn refusal_of(
     values: &[i64],
     cells: usize,
 ) -> u64
-    ensures { λ r. ⌜ r ≡ refusal (lent predicates channels (times .entry) (values .entry)) table cells ⌝ }
+    ensures { λ r. ⌜ r ≡ margin-refusal (lent predicates channels (times .entry) (values .entry)) table cells ⌝ }
 {
     let earlier = rules::refusal(table, predicates, channels, times, values);
     if earlier != 0 {
@@ -109,8 +109,8 @@ pub fn margin(
     values: &[i64],
     work: &mut [i64],
 ) -> Answer
-    ensures answer { λ r. ⌜ outcome r ≡ judged (lent predicates channels (times .entry) (values .entry)) table (length (now (work .entry))) ⌝ }
-    ensures cells { λ _. ⌜ now (work .exit) ≡ cells-after (lent predicates channels (times .entry) (values .entry)) table (now (work .entry)) ⌝ }
+    ensures answer { λ r. ⌜ margin-outcome r ≡ margin-judged (lent predicates channels (times .entry) (values .entry)) table (length (now (work .entry))) ⌝ }
+    ensures cells { λ _. ⌜ now (work .exit) ≡ margin-cells (lent predicates channels (times .entry) (values .entry)) table (now (work .entry)) ⌝ }
 {
     let number = refusal_of(table, predicates, channels, times, values, work.len());
     if number != 0 {

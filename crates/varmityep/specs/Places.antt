@@ -7,8 +7,8 @@ use Rattle.recordings.specs.declared.Verdict.{Verdict}
 use Rattle.recordings.specs.declared.Verdict.the-variants.{Holds, Fails, NotShown}
 use Rattle.recordings.specs.Card.{Card, card}
 use Rattle.refusals.specs.First.{unless-refused}
-use Rattle.margins.specs.Answers.{Outcome as Margin}
-use Rattle.verdicts.specs.Answer.{Outcome as Judgement}
+use Rattle.margins.specs.Answers.{MarginOutcome as Margin}
+use Rattle.verdicts.specs.Answer.{VerdictOutcome as Judgement}
 use Rattle.sheets.specs.declared.Sheet.{Sheet}
 use Rattle.sheet_rows.specs.declared.Answer.{Answer as Rows}
 use Rattle.flat.specs.Predicates.{predicates-from}

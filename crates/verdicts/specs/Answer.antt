@@ -19,35 +19,35 @@ use Rattle.verdicts.specs.declared.Answer.the-variants.{Judged, Refused}
 use Rattle.verdicts.specs.Cells.{cells}
 
 -- what document 01 hands back: a number, 0 for no refusal; the verdict, hold and fail, under a refusal "not shown", 0, 0
-pub record Outcome : Type 0 where
+pub record VerdictOutcome : Type 0 where
   pub number : ℕ
   pub verdict : Verdict
   pub hold : ℤ
   pub fail : ℤ
 
-abbrev pub outcome : Answer → Outcome
-outcome (Judged v h f) = record { number = 0; verdict = v; hold = h; fail = f }
-outcome (Refused n) = record { number = n; verdict = NotShown; hold = pos 0; fail = pos 0 }
+abbrev pub verdict-outcome : Answer → VerdictOutcome
+verdict-outcome (Judged v h f) = record { number = 0; verdict = v; hold = h; fail = f }
+verdict-outcome (Refused n) = record { number = n; verdict = NotShown; hold = pos 0; fail = pos 0 }
 
 -- 8: work shorter than 2 × n × rows cells
-abbrev pub room-check : Card → Table → ℕ → Check
-room-check c t size = record { number = 8; sentence = 2 * t .count * rows c ≤ size; passes = leb (2 * t .count * rows c) size }
+abbrev pub verdict-room : Card → Table → ℕ → Check
+verdict-room c t size = record { number = 8; sentence = 2 * t .count * rows c ≤ size; passes = leb (2 * t .count * rows c) size }
 
 -- refusals 3 to 11, in the order in which they count
 abbrev pub verdict-checks : Card → Table → ℕ → ℕ → ℕ → List Check
-verdict-checks c t step drift size = checks c t ++ (room-check c t size ∷ sampling-checks c step drift)
+verdict-checks c t step drift size = checks c t ++ (verdict-room c t size ∷ sampling-checks c step drift)
 
-unfoldable pub refusal : Card → Table → ℕ → ℕ → ℕ → ℕ
-refusal c t step drift size = first (verdict-checks c t step drift size)
+unfoldable pub verdict-refusal : Card → Table → ℕ → ℕ → ℕ → ℕ
+verdict-refusal c t step drift size = first (verdict-checks c t step drift size)
 
-unfoldable pub judged : Card → Table → ℕ → ℕ → ℕ → Outcome
-judged c t step drift size = record {
-  number = refusal c t step drift size;
-  verdict = unless-refused (refusal c t step drift size) (verdict c step drift (root t)) NotShown;
-  hold = unless-refused (refusal c t step drift size) (hold c step (root t)) (pos 0);
-  fail = unless-refused (refusal c t step drift size) (fail c step (root t)) (pos 0);
+unfoldable pub verdict-judged : Card → Table → ℕ → ℕ → ℕ → VerdictOutcome
+verdict-judged c t step drift size = record {
+  number = verdict-refusal c t step drift size;
+  verdict = unless-refused (verdict-refusal c t step drift size) (verdict c step drift (root t)) NotShown;
+  hold = unless-refused (verdict-refusal c t step drift size) (hold c step (root t)) (pos 0);
+  fail = unless-refused (verdict-refusal c t step drift size) (fail c step (root t)) (pos 0);
 }
 
 -- under a refusal the cells keep their contents
-unfoldable pub cells-after : Card → Table → ℕ → ℕ → List ℤ → List ℤ
-cells-after c t step drift w = unless-refused (refusal c t step drift (length w)) (cells c step (t .nodes) (t .count) w) w
+unfoldable pub verdict-cells : Card → Table → ℕ → ℕ → List ℤ → List ℤ
+verdict-cells c t step drift w = unless-refused (verdict-refusal c t step drift (length w)) (cells c step (t .nodes) (t .count) w) w

@@ -11,7 +11,7 @@ ghost use Rattle.tables.specs.Tree.{NODES, NO-END, window};
 ghost use Rattle.windows.specs.Bounds.{Short};
 ghost use Rattle.verdicts.specs.Cells.{row-value, cells};
 ghost use Rattle.verdicts.specs.Rows.{strong-window, left-sign, row-of, Ready, Filled};
-ghost use Rattle.verdicts.specs.Answer.{outcome, judged, cells-after};
+ghost use Rattle.verdicts.specs.Answer.{verdict-outcome, verdict-judged, verdict-cells};
 ghost use Rattle.recordings.specs.Card.{lent};
 use logic::Window;
 use recordings::Predicate;
@@ -145,8 +145,8 @@ pub fn verdict(
     drift: u64,
     work: &mut [i64],
 ) -> Answer
-    ensures answer { λ r. ⌜ outcome r ≡ judged (lent predicates channels (times .entry) (values .entry)) table step drift (length (now (work .entry))) ⌝ }
-    ensures cells { λ _. ⌜ now (work .exit) ≡ cells-after (lent predicates channels (times .entry) (values .entry)) table step drift (now (work .entry)) ⌝ }
+    ensures answer { λ r. ⌜ verdict-outcome r ≡ verdict-judged (lent predicates channels (times .entry) (values .entry)) table step drift (length (now (work .entry))) ⌝ }
+    ensures cells { λ _. ⌜ now (work .exit) ≡ verdict-cells (lent predicates channels (times .entry) (values .entry)) table step drift (now (work .entry)) ⌝ }
 {
     let early = rules::refusal(table, predicates, channels, times, values);
     if early != 0 {

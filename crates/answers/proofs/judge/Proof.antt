@@ -4,8 +4,8 @@ use mathlib.Core.Path.{_≡_, sym, ap, _∙_}
 use lib.ListN.{length}
 use Rattle.numbers.proofs.Bits.{back-ok}
 use Rattle.recordings.specs.Card.{Card, card}
-use Rattle.margins.specs.Answers.{Outcome as MarginOutcome, outcome as margin-outcome, judged as margin-judged}
-use Rattle.verdicts.specs.Answer.{Outcome, outcome, judged}
+use Rattle.margins.specs.Answers.{MarginOutcome, margin-outcome, margin-judged}
+use Rattle.verdicts.specs.Answer.{VerdictOutcome as Outcome, verdict-outcome as outcome, verdict-judged as judged}
 use Rattle.answers.specs.Answers.{CELLS}
 use Rattle.answers.proofs.Figures.{judge-refused, judge-accepted}
 use borrow.Author.Needs.{needs}

@@ -43,7 +43,7 @@ mul-node : tie.Need-mul-node Inv-loop μ-loop
 mul-node c = search needs
 
 array-copy-out-node : tie.Need-array-copy-out-node Inv-loop μ-loop
-array-copy-out-node c = omega (arith, c .before .before .before .before .pre .judged .ruled .few-nodes)
+array-copy-out-node c = omega (arith, c .before .before .before .before .pre .sound .ruled .few-nodes)
 
 margin-row-requires : tie.Need-margin-row-requires Inv-loop μ-loop
 margin-row-requires c κs =
@@ -53,11 +53,11 @@ margin-row-requires c κs =
     let H = hold l (c .before .before .loop-test .taken) in
     let g : length (l .loop .work) ≡ length (s .args .work .now) = l .loop .inv .2 in
     record {
-      ruled = s .pre .judged .ruled .each (l .loop .k) t;
-      named = s .pre .judged .named .set (l .loop .k) t;
-      recorded = s .pre .judged .recorded;
+      ruled = s .pre .sound .ruled .each (l .loop .k) t;
+      named = s .pre .sound .named .set (l .loop .k) t;
+      recorded = s .pre .sound .recorded;
       room = omega (arith, s .pre .room, earlier-row (l .loop .k) (s .args .table .count) (length (s .args .times .now)) t);
-      bounded = holds-bounded (card-of s) (tree (s .args .table .nodes)) (l .loop .k) (s .pre .judged .recorded) H;
+      bounded = holds-bounded (card-of s) (tree (s .args .table .nodes)) (l .loop .k) (s .pre .sound .recorded) H;
     }
 
 add-k : tie.Need-add-k Inv-loop μ-loop
@@ -73,7 +73,7 @@ loop-again c =
     let t = c .before .before .before .before .loop-test .taken in
     let k = l .loop .k in (
       omega arith,
-      filled-next (card-of s) (s .args .table .nodes) k (s .args .work .now) (s .pre .judged .ruled .each k t) (l .loop .inv .1) (c .before .margin-row .ensures (tree (s .args .table .nodes)) (hold l t)),
+      filled-next (card-of s) (s .args .table .nodes) k (s .args .work .now) (s .pre .sound .ruled .each k t) (l .loop .inv .1) (c .before .margin-row .ensures (tree (s .args .table .nodes)) (hold l t)),
       c .before .margin-row .kept .1 .1 .1 .1 .1 .0 ∙ l .loop .inv .2,
     )
 

@@ -9,7 +9,7 @@ use Rattle.numbers.proofs.Bits.{back-ok}
 use Rattle.recordings.specs.Card.{Card, card}
 use Rattle.rules.specs.Refusals.{Sound}
 use Rattle.lists.proofs.Filled.{earlier-row}
-use Rattle.margins.proofs.Answers.{accepted, few-cells, refused-outcome, margin-outcome, cells-kept, cells-filled, root-cell}
+use Rattle.margins.proofs.Answers.{accepted, few-cells, refused-outcome, accepted-outcome, cells-kept, cells-filled, root-cell}
 use Rattle.margins.proofs.margin.Statement.{statement}
 use Rattle.margins.proofs.margin.Tie as tie
 
@@ -45,7 +45,7 @@ returns c =
     (refused-outcome (card-of s) (s .args .table) (length (s .args .work .now)) _ e (c .if1 .taken), cells-kept (card-of s) (s .args .table) (s .args .work .now) _ e (c .if1 .taken))
 
 fill-margins-requires : tie.Need-fill-margins-requires
-fill-margins-requires c κs = let t = fine (c .before) in record { judged = t .0; room = t .1 }
+fill-margins-requires c κs = let t = fine (c .before) in record { sound = t .0; room = t .1 }
 
 sub-at : tie.Need-sub-at
 sub-at c = omega (arith, fine (c .before .before .before) .0 .ruled .some-node)
@@ -69,7 +69,7 @@ returns-2 c =
     let f = fine e in
     let z = sym (e .before .refusal-of .ensures) ∙ e .if1 .left in
     let g = c .before .before .fill-margins .ensures in (
-      margin-outcome (card-of s) (s .args .table) (length (s .args .work .now)) _ z (back-ok _ (c .value .given) ∙ root-cell (card-of s) (s .args .table) (s .args .work .now) (f .0 .ruled .some-node) (f .0 .recorded .lengths .some-row) (f .1) g),
+      accepted-outcome (card-of s) (s .args .table) (length (s .args .work .now)) _ z (back-ok _ (c .value .given) ∙ root-cell (card-of s) (s .args .table) (s .args .work .now) (f .0 .ruled .some-node) (f .0 .recorded .lengths .some-row) (f .1) g),
       cells-filled (card-of s) (s .args .table) (s .args .work .now) z g,
     )
 

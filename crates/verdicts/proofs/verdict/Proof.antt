@@ -17,8 +17,8 @@ use Rattle.sampling.specs.Sampling.{checks as sampling-checks}
 use Rattle.sampling.proofs.Sampling.{measured, accepted, first-alone}
 use Rattle.verdicts.specs.Cells.{strong}
 use Rattle.verdicts.specs.Rows.{Ready}
-use Rattle.verdicts.specs.Answer.{refusal}
-use Rattle.verdicts.proofs.Entry.{refused-early, refused-room, refused-late, refused-outcome, judged-outcome, cells-kept, cells-filled, few-cells, root-cell, root-inside}
+use Rattle.verdicts.specs.Answer.{verdict-refusal}
+use Rattle.verdicts.proofs.Entry.{refused-early, refused-room, refused-late, refused-outcome, accepted-outcome, cells-kept, cells-filled, few-cells, root-cell, root-inside}
 use Rattle.verdicts.proofs.verdict.Statement.{statement}
 use Rattle.verdicts.proofs.verdict.Tie as tie
 use Rattle.verdicts.proofs.verdict.Reads as reads
@@ -55,7 +55,7 @@ returns c =
     let s = c .before .before .before in
     let e = c .before .refusal .ensures in
     let n : first (checks (card-of s) (s .args .table)) ≡ 0 → ⊥ = λ z. c .if1 .taken (e ∙ z) in
-    let r : refusal (card-of s) (s .args .table) (s .args .step) (s .args .drift) (length (s .args .work .now)) ≡ c .before .refusal .result = refused-early (card-of s) (s .args .table) (s .args .step) (s .args .drift) (length (s .args .work .now)) n ∙ sym e in
+    let r : verdict-refusal (card-of s) (s .args .table) (s .args .step) (s .args .drift) (length (s .args .work .now)) ≡ c .before .refusal .result = refused-early (card-of s) (s .args .table) (s .args .step) (s .args .drift) (length (s .args .work .now)) n ∙ sym e in
     (refused-outcome (card-of s) (s .args .table) (s .args .step) (s .args .drift) (length (s .args .work .now)) _ r (c .if1 .taken), cells-kept (card-of s) (s .args .table) (s .args .step) (s .args .drift) (s .args .work .now) _ r (c .if1 .taken))
 
 mul-if2 : tie.Need-mul-if2
@@ -110,12 +110,12 @@ returns-4 c =
     let q = c .before .before .before .before .before .before .before .before in
     let s = q .before .before .before .before .before .before in
     let w = c .before .before .before .before .before .before .strong-rows .ensures in
-    let r : refusal (card-of s) (s .args .table) (s .args .step) (s .args .drift) (length (s .args .work .now)) ≡ 0 = refused-late (card-of s) (s .args .table) (s .args .step) (s .args .drift) (length (s .args .work .now)) (early-zero (q .before .before .before)) (q .before .before .if2 .left) ∙ late-zero q in
+    let r : verdict-refusal (card-of s) (s .args .table) (s .args .step) (s .args .drift) (length (s .args .work .now)) ≡ 0 = refused-late (card-of s) (s .args .table) (s .args .step) (s .args .drift) (length (s .args .work .now)) (early-zero (q .before .before .before)) (q .before .before .if2 .left) ∙ late-zero q in
     let h = c .before .before .before .cell-at .ensures ∙ root-cell (card-of s) (s .args .table) (s .args .step) (s .args .work .now) (ready-at q) w true in
     let f = c .before .cell-at2 .ensures ∙ root-cell (card-of s) (s .args .table) (s .args .step) (s .args .work .now) (ready-at q) w false in
     let bh = back-ok _ (c .before .before .before .cell-at .ok) ∙ h in
     let bf = back-ok _ (c .before .cell-at2 .ok) ∙ f in
-    (judged-outcome (card-of s) (s .args .table) (s .args .step) (s .args .drift) (length (s .args .work .now)) r (c .decided .ensures ∙ ap₂ (decide (s .args .drift)) bh bf) bh bf, cells-filled (card-of s) (s .args .table) (s .args .step) (s .args .drift) (s .args .work .now) r w)
+    (accepted-outcome (card-of s) (s .args .table) (s .args .step) (s .args .drift) (length (s .args .work .now)) r (c .decided .ensures ∙ ap₂ (decide (s .args .drift)) bh bf) bh bf, cells-filled (card-of s) (s .args .table) (s .args .step) (s .args .drift) (s .args .work .now) r w)
 
 pub verdict-spec : {M : Type 1} → statement M
 verdict-spec =
