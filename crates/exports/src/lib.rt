@@ -156,7 +156,7 @@ fn write_verdict(answer: verdicts::Answer, result: &mut [i64]) -> u64
 {
     match answer {
         verdicts::Answer::Judged(verdict, hold, fail) => {
-            let places = [verdict_number(verdict), fail, hold];
+            let places = [verdict_number(verdict), hold, fail];
             flat::write_values(&places, result);
             0
         }
