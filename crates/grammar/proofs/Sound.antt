@@ -15,7 +15,8 @@ use Rattle.text.proofs.Answers.{mark-is, field-is, past-mark, past-number}
 use Rattle.grammar.specs.declared.Span.{Span}
 use Rattle.grammar.specs.declared.Operator.{Operator}
 use Rattle.grammar.specs.declared.Operator.the-variants.{Absent, Over, Bad as Operator·Bad}
-use Rattle.grammar.specs.Operators.{letter, true-kind, predicate-kind, not-kind, and-kind, or-kind, binders, prefixes}
+use Rattle.tables.specs.Kind.{true-kind, predicate-kind, not-kind, and-kind, or-kind}
+use Rattle.grammar.specs.Operators.{letter, binders, prefixes}
 use Rattle.grammar.specs.Tree.{Tree, truth, predicate, one, two, no-span}
 use Rattle.grammar.specs.Grammar.{Part, alternative, conjunction, bind, unary, Derives, alternative-one, alternative-more, conjunction-one, conjunction-more, bind-one, bind-two, unary-not, unary-timed, unary-true, unary-predicate, unary-group}
 use Rattle.grammar.specs.Reading.{Reading, got, none, on-got, Reads, leaf-at, binder-at, prefix-at, timed-among, more-turns, bind-by, bind-of, conjunction-of, alternative-of, closing, unary-by, enclosing, unary-at, bind-at, conjunction-at, alternative-at}

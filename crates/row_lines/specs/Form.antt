@@ -10,8 +10,9 @@ use lib.Dec.{eqb}
 use Rattle.text.specs.Bytes.{bytes}
 use Rattle.text.specs.Number.{largest}
 use Rattle.text.specs.Numeral.{Numeral, Signed}
+use Rattle.recordings.specs.Accepted.{MOST-CHANNELS}
 
--- a text cut after each line feed; what follows the last one is a line too, which no form has
+-- a text cut after each line feed; what follows the last one is a line too, which is no row, since it lacks its line feed
 abbrev pub cut : ℕ → Bool → List (List ℕ) → List (List ℕ)
 cut b true ls = (b ∷ []) ∷ ls
 cut b false [] = (b ∷ []) ∷ []
@@ -65,4 +66,4 @@ AreRows channels ls = (samples : List Sample) × (filled : ℕ) × Rows channels
 
 -- 1 to 8 channels: rows are read only then
 abbrev pub ChannelsInRange : ℕ → Type 0
-ChannelsInRange channels = (1 ≤ channels) × (channels ≤ 8)
+ChannelsInRange channels = (1 ≤ channels) × (channels ≤ MOST-CHANNELS)

@@ -13,6 +13,7 @@ use Rattle.text.specs.declared.Mark.{Mark}
 use Rattle.text.specs.declared.Mark.the-variants.{Next, Bad as Mark·Bad}
 use Rattle.text.specs.declared.signed.Field.{Field as Signed}
 use Rattle.text.specs.declared.signed.Field.the-variants.{Bad as Signed·Bad}
+use Rattle.recordings.specs.Accepted.{MOST-CHANNELS}
 use Rattle.row_lines.specs.declared.Row.{Row}
 use Rattle.row_lines.specs.declared.Row.the-variants.{Measured, Filled, Bad}
 use Rattle.row_lines.specs.declared.Counts.{Counts}
@@ -25,7 +26,7 @@ limit = 65_536
 
 -- the test of `ChannelsInRange`
 abbrev pub channels-in-range : ℕ → Bool
-channels-in-range channels = leb 1 channels && leb channels 8
+channels-in-range channels = leb 1 channels && leb channels MOST-CHANNELS
 
 -- the value of channel c at a place
 unfoldable pub value-at : List ℕ → ℕ → ℕ → Signed

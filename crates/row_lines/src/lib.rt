@@ -25,7 +25,11 @@ pub enum Counts {
 pub fn channels_in_range(channels: usize) -> bool
     ensures { λ r. ⌜ r ≡ channels-in-range channels ⌝ }
 {
-    if channels < 1 { false } else { channels <= 8 }
+    if channels < 1 {
+        false
+    } else {
+        channels <= recordings::MOST_CHANNELS
+    }
 }
 
 // The value of a channel: ` v`, the channel's number, `=` and a signed number.

@@ -7,6 +7,7 @@ ghost use mathlib.Core.Path.{_≡_};
 ghost use Prim.Native.Nat.{_≤_};
 ghost use lib.ListN.{length};
 ghost use lib.Seq.{sets};
+ghost use Rattle.recordings.specs.Accepted.{MOST-CHANNELS};
 ghost use Rattle.refusals.specs.First.{unless-refused};
 ghost use Rattle.row_lines.specs.Rows.{values-from, all-of, rows-of};
 ghost use Rattle.sheet_rows.specs.Answer.{has-room, no-rows, answer-of, times-of, values-of, in-front};
@@ -31,10 +32,10 @@ fn refused(number: u64) -> Answer
 
 // Whether measured rows exceed neither a recording nor the slices.
 fn has_room(rows: usize, channels: usize, times: usize, values: usize) -> bool
-    requires { ⌜ channels ≤ 8 ⌝ }
+    requires { ⌜ channels ≤ MOST-CHANNELS ⌝ }
     ensures { λ r. ⌜ r ≡ has-room rows channels times values ⌝ }
 {
-    if 4_096 < rows {
+    if recordings::MOST_ROWS < rows {
         return false;
     }
     if times < rows {

@@ -35,6 +35,11 @@ right-use (joined e) = child
 right-use (binary d e) = child
 right-use (unary d e) = unused
 
+abbrev pub is-child : Use → Bool
+is-child child = true
+is-child number = false
+is-child unused = false
+
 -- the temporal operators alone have a window
 abbrev pub timed : Operator → Bool
 timed constant = false

@@ -14,6 +14,10 @@ use Rattle.tables.specs.declared.Node.{Node}
 use Rattle.tables.specs.declared.Table.{Table}
 use Rattle.tables.specs.Kind.{Operator, constant, named, negated, unknown, joined, binary, unary, operator}
 
+-- a table has up to so many nodes
+abbrev pub NODES : ℕ
+NODES = 64
+
 -- the ends of a window go up to this; and hi for a window without end
 abbrev pub LONGEST : ℕ
 LONGEST = 1_000_000_000

@@ -1,5 +1,5 @@
 // Reads marks and number fields out of bytes. Every reader answers the place after what it read, or Bad.
-// A place past the end reads as byte 0, which no form has, so no caller tests a length.
+// A place past the end reads as byte 0, which is no digit, so no caller tests a length.
 pub mod signed;
 
 ghost use mathlib.Core.Path.{_≡_};
