@@ -205,7 +205,3 @@ number-made s at max v w r e n l m f =
         by-test (eqb v 0)
         (λ z. rw (le-ltb 1 (length w) (let k : length w ≡ 1 = numeral-zero n (eqb-true v 0 z) in omega arith)) (never (eqb (getD w 0 0) 48)))
         (λ z. rw (ne-eqb (getD w 0 0) 48 (numeral-leads n (above-zero v (eqb-false v 0 z)))))
-
--- a numeral has one value
-pub numeral-one : {w : List ℕ} {v u : ℕ} → Numeral w v → Numeral w u → v ≡ u
-numeral-one n m = sym (numeral-value n) ∙ numeral-value m

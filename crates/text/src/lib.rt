@@ -59,13 +59,13 @@ fn in_form(first: u8, count: usize, value: u64, max: u64) -> bool
     if count < 1 {
         return false;
     }
-    if 10 < count {
-        return false;
-    }
     if padded(first, count) {
         return false;
     }
-    value <= max
+    if max < value {
+        return false;
+    }
+    count <= 10
 }
 
 // A number of up to ten digits without a leading zero, at most max.
