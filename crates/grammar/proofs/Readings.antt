@@ -32,7 +32,7 @@ reading-sound s a n h =
   where
     all : {b : Tree} {m : ℕ} → Stands alternative 32 s 0 b m → m ≡ length s → Derives alternative 32 s b
     all {b} {m} q e =
-        let w : s ≡ q .written = q .between .bytes ∙ rw (e, drop-length s) (append-nil (q .written)) in
+        let w : s ≡ q .word = q .between .bytes ∙ rw (e, drop-length s) (append-nil (q .word)) in
         subst (λ (l : List ℕ). Derives alternative 32 l b) (sym w) (q .derives)
 
     same : {b : Tree} {m : ℕ} → got b m ≡ got a n → Requires s b → Requires s a

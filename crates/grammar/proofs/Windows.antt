@@ -35,9 +35,9 @@ use Rattle.grammar.proofs.Letters.{letter-one, all-in, lettered, none-o
 
 -- a window's bytes stand between two places
 pub record WindowIs (s : List ℕ) (at : ℕ) (r : Span) (n : ℕ) : Type 0 where
-  pub written : List ℕ
-  pub between : Between s at n written
-  pub window : WindowText written r
+  pub word : List ℕ
+  pub between : Between s at n word
+  pub window : WindowText word r
 
 bad-ends : {r : Span} {n : ℕ} → Window·Bad ≡ Ends r n → ⊥
 bad-ends h = let z : _≡_ {A = ℕ} 0 1 = cc in omega arith
@@ -57,7 +57,7 @@ module _ (s : List ℕ) (at : ℕ) (r : Span) (n : ℕ) where
       let y : p ≡ n = cc in
       let z : span lo NO-END ≡ r = cc in
       record {
-        written = bytes "[" ++ (b .written ++ (bytes "," ++ bytes "*]"));
+        word = bytes "[" ++ (b .word ++ (bytes "," ++ bytes "*]"));
         between = rw (← y) (between-both a (between-both (b .between) (between-both c (mark-is (bytes "*]") s end p e))));
         window = rw (← z) (endless (b .numeral) (b .bound));
       }
@@ -76,7 +76,7 @@ module _ (s : List ℕ) (at : ℕ) (r : Span) (n : ℕ) where
           let y : next ≡ n = cc in
           let z : span lo hi ≡ r = cc in
           record {
-            written = bytes "[" ++ (b .written ++ (bytes "," ++ (j .written ++ bytes "]")));
+            word = bytes "[" ++ (b .word ++ (bytes "," ++ (j .word ++ bytes "]")));
             between = rw (← y) (between-both a (between-both (b .between) (between-both c (between-both (j .between) q))));
             window = rw (← z) (closed (b .numeral) (j .numeral) (ltb-false hi lo g) (j .bound));
           }
@@ -130,9 +130,9 @@ window-made (endless {v} {lo} a l) s at t e =
 -- a kind's letter and its window's bytes stand between two places
 pub record OperatorIs (ks s : List ℕ) (at k : ℕ) (r : Span) (n : ℕ) : Type 0 where
   pub among : k ∈ ks
-  pub written : List ℕ
-  pub between : Between s at n (letter k ++ written)
-  pub window : WindowText written r
+  pub word : List ℕ
+  pub between : Between s at n (letter k ++ word)
+  pub window : WindowText word r
 
 pub timed-is : (ks s : List ℕ) (at k : ℕ) (r : Span) (n : ℕ) → timed-among ks s at ≡ Over k r n → OperatorIs ks s at k r n
 unfolding timed-among timed-at
@@ -147,7 +147,7 @@ timed-is (j ∷ ks) s at k r n h = go (timed-is ks s at k r n) (mark-at (letter 
         let w = window-is s m r n (f ∙ cc) in
         record {
           among = List·Memᴰ·head (sym a);
-          written = w .written;
+          word = w .word;
           between = rw (← a) (between-both (mark-is (letter j) s at m e) (w .between));
           window = w .window;
         }
@@ -158,7 +158,7 @@ timed-is (j ∷ ks) s at k r n h = go (timed-is ks s at k r n) (mark-at (letter 
     go more (Next m) e g = over m e (window-at s m) refl g
     go more Mark·Bad e g =
         let o = more g in
-        record { among = List·Memᴰ·tail (o .among); written = o .written; between = o .between; window = o .window }
+        record { among = List·Memᴰ·tail (o .among); word = o .word; between = o .between; window = o .window }
 
 -- the letter of one of the kinds and a window's bytes are read
 pub timed-made : (ks : List ℕ) → lettered ks ≡ true → {k : ℕ} {x : List ℕ} {r : Span} → k ∈ ks → WindowText x r

@@ -1,4 +1,4 @@
--- Worked texts: what document 01's grammar reads-as of each, written out by hand.
+-- Worked texts: what document 01's grammar says of each, written out by hand.
 use Prim.Native.Nat.{ℕ, zero, suc}
 use Prim.Native.String.{String}
 use mathlib.Core.List.{List, [], _∷_, _++_}

@@ -13,15 +13,15 @@ use borrow.Author.Tests.{leb-true, le-leb}
 use Rattle.text.proofs.Tests.{both}
 use Rattle.recordings.specs.Accepted.{MOST-ROWS, MOST-CHANNELS}
 use Rattle.refusals.specs.First.{first, unless-refused}
-use Rattle.row_lines.specs.declared.Counts.the-variants.{Rows as Counts·Rows, Bad as Counts·Bad}
+use Rattle.row_lines.specs.declared.Counts.the-variants.{Found, Bad as Counts·Bad}
 use Rattle.row_lines.specs.Form.{Sample, ChannelsInRange}
-use Rattle.row_lines.specs.Rows.{limit, channels-in-range, Listing, listed, broken, rows-of, counts}
+use Rattle.row_lines.specs.Reading.{limit, channels-in-range, Listing, listed, broken, rows-of, counts}
 use Rattle.row_lines.specs.Same.{SameButFilled}
 use Rattle.row_lines.proofs.Exact.{rows-alike}
 use Rattle.sheet_rows.specs.Answer.{has-room, RoomFor, no-rows, answer-of, times-of, values-of, in-front}
 use Rattle.sheet_rows.specs.Room.{Fitting}
 
-listed-as : (x : Listing) (m k : ℕ) → counts x ≡ Counts·Rows m k → (xs : List Sample) × (x ≡ listed xs k) × (length xs ≡ m)
+listed-as : (x : Listing) (m k : ℕ) → counts x ≡ Found m k → (xs : List Sample) × (x ≡ listed xs k) × (length xs ≡ m)
 listed-as (listed xs j) m k h = let e : j ≡ k = cc in (xs, rw e, cc)
 listed-as broken m k h = let z : _≡_ {A = ℕ} 0 1 = cc in absurd (omega arith)
 
@@ -63,7 +63,7 @@ module _ (s : List ℕ) (ch nt nv : ℕ) where
       unfolding first
       answer-broken h = rw (l, w, uncounted (rows-of ch s) h)
 
-      module _ (m k : ℕ) (h : counts (rows-of ch s) ≡ Counts·Rows m k) where
+      module _ (m k : ℕ) (h : counts (rows-of ch s) ≡ Found m k) where
         pub answer-many : has-room m ch nt nv ≡ false → no-rows 5 ≡ answer-of s ch nt nv
         unfolding first
         answer-many t = let c = listed-as (rows-of ch s) m k h in rw (l, w, c .1, c .2, t)

@@ -135,9 +135,9 @@ numeral-short {w} {v} n l = by-test (eqb v 0) (λ z. zeros (eqb-true v 0 z)) (λ
 
 -- a number that was read: within its bound, and its bytes are a numeral from `at` up to `n`
 pub record Numbered (s : List ℕ) (at max v n : ℕ) : Type 0 where
-  pub written : List ℕ
-  pub numeral : Numeral written v
-  pub between : Between s at n written
+  pub word : List ℕ
+  pub numeral : Numeral word v
+  pub between : Between s at n word
   pub bound : v ≤ max
   pub past : at < n
 
@@ -171,7 +171,7 @@ number-is s at max v n h =
     let l : length (digits (drop at s)) ≤ length s - at = rw length-drop at (run-inside (drop at s)) in
     let e : at + length (digits (drop at s)) ≡ n = a .2 in
     record {
-      written = digits (drop at s);
+      word = digits (drop at s);
       numeral = rw (← a .1) (r .0);
       between = record {
         bytes = rw (← e, ← drop-drop (length (digits (drop at s))) at s) (digits-split (drop at s));
