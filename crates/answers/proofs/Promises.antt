@@ -25,7 +25,7 @@ use Rattle.verdicts.proofs.Promises.{exact-checks, verdict-is, holds as verdict
 use Rattle.requirements.specs.declared.Requirement.{Requirement}
 use Rattle.requirements.specs.Requirement.{requirement-of}
 use Rattle.requirements.proofs.Answers.{answer-sound, answer-complete}
-use Rattle.row_lines.specs.Rows.{limit, Listing}
+use Rattle.row_lines.specs.Reading.{limit, Listing}
 use Rattle.sheet_rows.specs.Answer.{filled-of}
 use Rattle.row_lines.specs.Same.{SameButFilled}
 use Rattle.row_lines.proofs.Exact.{rows-alike}

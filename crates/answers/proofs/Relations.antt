@@ -20,7 +20,7 @@ use Rattle.requirements.specs.declared.Requirement.{Requirement}
 use Rattle.requirements.specs.Requirement.{requirement-of, accepted}
 use Rattle.requirements.proofs.Answers.{answer-complete}
 use Rattle.row_lines.specs.Form.{lines, Sample, Rows}
-use Rattle.row_lines.specs.Rows.{channels-in-range, Listing, listed}
+use Rattle.row_lines.specs.Reading.{channels-in-range, Listing, listed}
 use Rattle.row_lines.proofs.Exact.{rows-exact}
 use Rattle.sheet_rows.specs.Answer.{times-in, values-in}
 use Rattle.sheets.specs.declared.Sheet.{Sheet}

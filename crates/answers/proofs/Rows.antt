@@ -20,7 +20,7 @@ use Rattle.predicates.specs.Predicates.{channels-obey, predicates-obey}
 use Rattle.refusals.specs.First.{first, unless-refused}
 use Rattle.rules.specs.Refusals.{checks}
 use Rattle.verdicts.specs.Answer.{verdict-refusal as refusal}
-use Rattle.row_lines.specs.Rows.{limit, channels-in-range, Listing, listed, broken, rows-of}
+use Rattle.row_lines.specs.Reading.{limit, channels-in-range, Listing, listed, broken, rows-of}
 use Rattle.row_lines.proofs.Exact.{rows-exact}
 use Rattle.sheet_rows.specs.declared.Answer.{Answer}
 use Rattle.sheet_rows.specs.Answer.{measured-of, filled-of, has-room, answer-of, times-of, values-of, in-front}

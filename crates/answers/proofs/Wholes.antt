@@ -12,7 +12,7 @@ use Rattle.refusals.proofs.First.{first-passes}
 use Rattle.requirements.specs.Requirement.{requirement-of}
 use Rattle.text.specs.Bytes.{bytes}
 use Rattle.text.proofs.Places.{length-behind}
-use Rattle.row_lines.specs.Rows.{Listing}
+use Rattle.row_lines.specs.Reading.{Listing}
 use Rattle.row_lines.proofs.Exact.{rows-exact}
 use Rattle.sheets.specs.declared.Sheet.{Sheet}
 use Rattle.sheets.specs.Form.{Form}

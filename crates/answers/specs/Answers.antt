@@ -20,7 +20,7 @@ use Rattle.verdicts.specs.Answer.{verdict-room as room-check}
 use Rattle.grammar.specs.Tree.{Tree}
 use Rattle.grammar.specs.Grammar.{Requires}
 use Rattle.requirements.specs.Requirement.{requirement-of}
-use Rattle.row_lines.specs.Rows.{limit, channels-in-range, Listing, is-broken, rows-of}
+use Rattle.row_lines.specs.Reading.{limit, channels-in-range, Listing, is-broken, rows-of}
 use Rattle.sheet_rows.specs.Answer.{times-of, values-of, filled-of}
 use Rattle.sheets.specs.declared.Sheet.{Sheet}
 use Rattle.sheets.specs.Form.{Form}

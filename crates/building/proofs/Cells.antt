@@ -9,9 +9,10 @@ use native.Mathlib.Omega.{arith}
 use lib.ListN.{length, getD, take, set, replicate, length-append, length-take}
 use lib.Seq.{sets, sets-eq, set-at, take-suc, take-all}
 use Rattle.tables.specs.declared.Node.{Node}
+use Rattle.tables.specs.Tree.{NODES}
 use Rattle.grammar.specs.Tree.{Tree, truth, predicate, one, two, size}
 use Rattle.building.specs.Nodes.{empty-node, nodes-of}
-use Rattle.building.specs.Storing.{cells-of, node-from, nodes-from}
+use Rattle.building.specs.Storing.{CELLS, cells-of, node-from, nodes-from, WIDTH}
 
 -- ---- counts
 
@@ -30,10 +31,10 @@ length-nodes o (one k w a) = rw (length-append, length-nodes o a)
 length-nodes o (two k w a b) =
     rw (length-append, length-nodes o a) (rw (length-append, length-nodes (o + size a) b) (omega arith))
 
-pub length-cells : (xs : List Node) → length (cells-of xs) ≡ 5 * length xs
+pub length-cells : (xs : List Node) → length (cells-of xs) ≡ WIDTH * length xs
 unfolding cells-of
 length-cells [] = refl
-length-cells (x ∷ xs) = let h : length (cells-of xs) ≡ 5 * length xs = length-cells xs in omega arith
+length-cells (x ∷ xs) = let h : length (cells-of xs) ≡ WIDTH * length xs = length-cells xs in omega arith
 
 pub cells-append : (xs ys : List Node) → cells-of (xs ++ ys) ≡ cells-of xs ++ cells-of ys
 unfolding cells-of
@@ -53,10 +54,10 @@ sets-five l i a b c d e = simp towards-suc
 
 -- nodes after nodes
 pub sets-nodes : (l : List ℕ) (o m : ℕ) (xs ys : List Node) → length xs ≡ m
-    → sets (sets l (5 * o) (cells-of xs)) (5 * (o + m)) (cells-of ys) ≡ sets l (5 * o) (cells-of (xs ++ ys))
+    → sets (sets l (WIDTH * o) (cells-of xs)) (WIDTH * (o + m)) (cells-of ys) ≡ sets l (WIDTH * o) (cells-of (xs ++ ys))
 sets-nodes l o m xs ys e =
-    let n : 5 * (o + m) ≡ 5 * o + length (cells-of xs) = rw (length-cells xs) (omega arith) in
-    sym (rw (cells-append xs ys, sets-append l (5 * o) (cells-of xs) (cells-of ys), n))
+    let n : WIDTH * (o + m) ≡ WIDTH * o + length (cells-of xs) = rw (length-cells xs) (omega arith) in
+    sym (rw (cells-append xs ys, sets-append l (WIDTH * o) (cells-of xs) (cells-of ys), n))
 
 -- ---- reading back
 
@@ -66,29 +67,29 @@ unfolding cells-of
 node-back [] r k l = absurd (omega arith)
 node-back (x ∷ xs) r zero l = refl
 node-back (x ∷ xs) r (suc k) l =
-    let e : 5 * suc k ≡ suc (suc (suc (suc (suc (5 * k))))) = omega arith in
-    let i1 : 5 * suc k + 1 ≡ suc (suc (suc (suc (suc (5 * k + 1))))) = omega arith in
-    let i2 : 5 * suc k + 2 ≡ suc (suc (suc (suc (suc (5 * k + 2))))) = omega arith in
-    let i3 : 5 * suc k + 3 ≡ suc (suc (suc (suc (suc (5 * k + 3))))) = omega arith in
-    let i4 : 5 * suc k + 4 ≡ suc (suc (suc (suc (suc (5 * k + 4))))) = omega arith in
+    let e : WIDTH * suc k ≡ suc (suc (suc (suc (suc (WIDTH * k))))) = omega arith in
+    let i1 : WIDTH * suc k + 1 ≡ suc (suc (suc (suc (suc (WIDTH * k + 1))))) = omega arith in
+    let i2 : WIDTH * suc k + 2 ≡ suc (suc (suc (suc (suc (WIDTH * k + 2))))) = omega arith in
+    let i3 : WIDTH * suc k + 3 ≡ suc (suc (suc (suc (suc (WIDTH * k + 3))))) = omega arith in
+    let i4 : WIDTH * suc k + 4 ≡ suc (suc (suc (suc (suc (WIDTH * k + 4))))) = omega arith in
     rw (i1, i2, i3, i4, e) (node-back xs r k (omega arith))
 
 -- the table of the first n of the nodes
-nodes-back : (xs : List Node) (r : List ℕ) (n : ℕ) → n ≤ length xs → length xs ≤ 64
-    → nodes-from (cells-of xs ++ r) n ≡ take n xs ++ replicate (64 - n) empty-node
+nodes-back : (xs : List Node) (r : List ℕ) (n : ℕ) → n ≤ length xs → length xs ≤ NODES
+    → nodes-from (cells-of xs ++ r) n ≡ take n xs ++ replicate (NODES - n) empty-node
 unfolding nodes-from
 nodes-back xs r zero l m = refl
 nodes-back xs r (suc n) l m =
-    let e : 64 - n ≡ suc (64 - suc n) = omega arith in
+    let e : NODES - n ≡ suc (NODES - suc n) = omega arith in
     let f : length (take n xs) ≡ n = rw length-take (omega arith) in
-    rw (nodes-back xs r n (omega arith) m, node-back xs r n (omega arith), e, set-at (take n xs) empty-node (replicate (64 - suc n) empty-node) (getD xs n empty-node) n f, take-suc xs n empty-node)
-    (sym (append-assoc (take n xs) (getD xs n empty-node ∷ []) (replicate (64 - suc n) empty-node)))
+    rw (nodes-back xs r n (omega arith) m, node-back xs r n (omega arith), e, set-at (take n xs) empty-node (replicate (NODES - suc n) empty-node) (getD xs n empty-node) n f, take-suc xs n empty-node)
+    (sym (append-assoc (take n xs) (getD xs n empty-node ∷ []) (replicate (NODES - suc n) empty-node)))
 
 -- a table that was written from number 0 on is read back
 abbrev pub zeros : List ℕ
-zeros = replicate 320 0
+zeros = replicate CELLS 0
 
-pub table-back : (xs : List Node) → length xs ≤ 64 → nodes-from (sets zeros 0 (cells-of xs)) (length xs) ≡ xs ++ replicate (64 - length xs) empty-node
+pub table-back : (xs : List Node) → length xs ≤ NODES → nodes-from (sets zeros 0 (cells-of xs)) (length xs) ≡ xs ++ replicate (NODES - length xs) empty-node
 table-back xs l =
     let e : 0 + length (cells-of xs) ≤ length zeros = rw (length-cells xs) (omega arith) in
     rw (sets-eq (cells-of xs) zeros 0 e, nodes-back xs _ (length xs) (omega arith) l, take-all (length xs) xs (omega arith))

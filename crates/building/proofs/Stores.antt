@@ -17,25 +17,27 @@ use Rattle.text.specs.declared.Mark.the-variants.{Next, Bad as Mark·Bad}
 use Rattle.text.specs.declared.Field.the-variants.{Number, Bad as Field·Bad}
 use Rattle.text.proofs.Tests.{by-le}
 use Rattle.tables.specs.declared.Node.{Node}
+use Rattle.tables.specs.Tree.{NODES}
 use Rattle.grammar.specs.declared.Span.{Span}
-use Rattle.grammar.specs.Operators.{letter, true-kind, predicate-kind}
+use Rattle.tables.specs.Kind.{true-kind, predicate-kind}
+use Rattle.grammar.specs.Operators.{letter}
 use Rattle.grammar.specs.Tree.{Tree, truth, predicate, one, two, size, no-span}
 use Rattle.grammar.specs.Reading.{Reading, got, none, on-got, closing, leaf-at}
 use Rattle.building.specs.declared.Step.{Step}
 use Rattle.building.specs.declared.Step.the-variants.{Read, Refused}
 use Rattle.building.specs.Nodes.{node, nodes-of}
-use Rattle.building.specs.Storing.{cells-of, step-of, leaf-cells, Wrote, Done, pushed-step, pushed-cells, parent-step, wrap-cells, join-cells, closed-step}
+use Rattle.building.specs.Storing.{cells-of, step-of, leaf-cells, Wrote, Done, pushed-step, pushed-cells, parent-step, wrap-cells, join-cells, closed-step, WIDTH}
 use Rattle.building.proofs.Cells.{length-nodes, sets-nodes}
 
 -- ---- steps and readings
 
-step-small : (o : ℕ) (a : Tree) (n : ℕ) → o + size a ≤ 64 → step-of o (got a n) ≡ Read n (o + size a - 1) (o + size a)
+step-small : (o : ℕ) (a : Tree) (n : ℕ) → o + size a ≤ NODES → step-of o (got a n) ≡ Read n (o + size a - 1) (o + size a)
 unfolding step-of
-step-small o a n h = rw (le-leb (o + size a) 64 h)
+step-small o a n h = rw (le-leb (o + size a) NODES h)
 
-pub step-big : (o : ℕ) (a : Tree) (n : ℕ) → 64 < o + size a → step-of o (got a n) ≡ Refused
+pub step-big : (o : ℕ) (a : Tree) (n : ℕ) → NODES < o + size a → step-of o (got a n) ≡ Refused
 unfolding step-of
-step-big o a n h = rw (lt-leb (o + size a) 64 h)
+step-big o a n h = rw (lt-leb (o + size a) NODES h)
 
 pub step-none : (o : ℕ) → step-of o none ≡ Refused
 unfolding step-of
@@ -45,21 +47,21 @@ refused-read : {e r f : ℕ} → Refused ≡ Read e r f → ⊥
 refused-read h = let z : _≡_ {A = ℕ} 0 1 = cc in omega arith
 
 -- a tree that is refused for its size, or none
-pub refused-big : (o : ℕ) (a : Tree) (n : ℕ) → step-of o (got a n) ≡ Refused → 64 < o + size a
-refused-big o a n h = by-le (o + size a) 64 (λ l. absurd (refused-read (sym h ∙ step-small o a n l))) (λ l. l)
+pub refused-big : (o : ℕ) (a : Tree) (n : ℕ) → step-of o (got a n) ≡ Refused → NODES < o + size a
+refused-big o a n h = by-le (o + size a) NODES (λ l. absurd (refused-read (sym h ∙ step-small o a n l))) (λ l. l)
 
 -- what a reading is that was not refused
 pub record ReadIs (o : ℕ) (x : Reading) (e r f : ℕ) : Type 0 where
   pub tree : Tree
   pub reading : x ≡ got tree e
-  pub fits : o + size tree ≤ 64
+  pub fits : o + size tree ≤ NODES
   pub root : r ≡ o + size tree - 1
   pub free : f ≡ o + size tree
 
 pub read-is : (o : ℕ) (x : Reading) (e r f : ℕ) → step-of o x ≡ Read e r f → ReadIs o x e r f
 read-is o none e r f h = absurd (refused-read (sym (step-none o) ∙ h))
 read-is o (got a n) e r f h =
-    by-le (o + size a) 64
+    by-le (o + size a) NODES
     (λ l.
     let s : Read n (o + size a - 1) (o + size a) ≡ Read e r f = sym (step-small o a n l) ∙ h in
     let z : n ≡ e = cc in
@@ -79,27 +81,27 @@ done-as o x y r before after e d = rw e at d
 -- ---- a parent after its children's nodes us
 
 parent-done : (o m : ℕ) (us : List Node) (x : Node) (b : Tree) (e : ℕ) (r : Step) (before mid after : List ℕ) → length us ≡ m → size b ≡ m + 1
-    → nodes-of o b ≡ us ++ (x ∷ []) → mid ≡ sets before (5 * o) (cells-of us) → r ≡ pushed-step (o + m) e → after ≡ pushed-cells (o + m) x mid
+    → nodes-of o b ≡ us ++ (x ∷ []) → mid ≡ sets before (WIDTH * o) (cells-of us) → r ≡ pushed-step (o + m) e → after ≡ pushed-cells (o + m) x mid
     → Done o (got b e) r before after
 unfolding Wrote cells-of
-parent-done o m us x b e r before mid after l z w h p q = by-le (o + m + 1) 64 small big
+parent-done o m us x b e r before mid after l z w h p q = by-le (o + m + 1) NODES small big
   where
-    small : o + m + 1 ≤ 64 → Done o (got b e) r before after
+    small : o + m + 1 ≤ NODES → Done o (got b e) r before after
     small g =
-        let t : leb 64 (o + m) ≡ false = lt-leb 64 (o + m) (omega arith) in
+        let t : leb NODES (o + m) ≡ false = lt-leb NODES (o + m) (omega arith) in
         let root : o + m ≡ o + size b - 1 = omega arith in
         let free : o + m + 1 ≡ o + size b = omega arith in
         let r1 : r ≡ Read e (o + m) (o + m + 1) = rw t at p in
-        let a1 : after ≡ sets mid (5 * (o + m)) (cells-of (x ∷ [])) = rw t at q in
+        let a1 : after ≡ sets mid (WIDTH * (o + m)) (cells-of (x ∷ [])) = rw t at q in
         let same : Read e (o + m) (o + m + 1) ≡ Read e (o + size b - 1) (o + size b) = cc in
         record {
           step = r1 ∙ (same ∙ sym (step-small o b e (omega arith)));
-          cells = λ _. a1 ∙ (rw h (sets-nodes before o m us (x ∷ []) l) ∙ ap (λ (ns : List Node). sets before (5 * o) (cells-of ns)) (sym w));
+          cells = λ _. a1 ∙ (rw h (sets-nodes before o m us (x ∷ []) l) ∙ ap (λ (ns : List Node). sets before (WIDTH * o) (cells-of ns)) (sym w));
         }
 
-    big : 64 < o + m + 1 → Done o (got b e) r before after
+    big : NODES < o + m + 1 → Done o (got b e) r before after
     big g =
-        let t : leb 64 (o + m) ≡ true = le-leb 64 (o + m) (omega arith) in
+        let t : leb NODES (o + m) ≡ true = le-leb NODES (o + m) (omega arith) in
         let r1 : r ≡ Refused = rw t at p in
         rw r1 (refused-done o (got b e) before after (step-big o b e (omega arith)))
 
@@ -111,7 +113,7 @@ parent-refused o x y i r before mid after d h p q =
     let f : r ≡ Refused = rw e at p in
     rw f (refused-done o y before after q)
 
-pub cells-small : (o : ℕ) (a : Tree) (n : ℕ) (i : Step) (before mid : List ℕ) → Done o (got a n) i before mid → o + size a ≤ 64 → mid ≡ sets before (5 * o) (cells-of (nodes-of o a))
+pub cells-small : (o : ℕ) (a : Tree) (n : ℕ) (i : Step) (before mid : List ℕ) → Done o (got a n) i before mid → o + size a ≤ NODES → mid ≡ sets before (WIDTH * o) (cells-of (nodes-of o a))
 unfolding Wrote
 cells-small o a n i before mid d h = d .cells h
 
@@ -120,34 +122,34 @@ pub one-done : (o k : ℕ) (w : Span) (x : Reading) (i r : Step) (before mid aft
     → r ≡ parent-step i → after ≡ wrap-cells k w i mid → Done o (on-got x (λ a e. got (one k w a) e)) r before after
 unfolding size nodes-of
 one-done o k w none i r before mid after d p q = parent-refused o none none i r before mid after d (step-none o) p (step-none o)
-one-done o k w (got a e) i r before mid after d p q = by-le (o + size a) 64 small big
+one-done o k w (got a e) i r before mid after d p q = by-le (o + size a) NODES small big
   where
-    small : o + size a ≤ 64 → Done o (got (one k w a) e) r before after
+    small : o + size a ≤ NODES → Done o (got (one k w a) e) r before after
     small h =
         let f : i ≡ Read e (o + size a - 1) (o + size a) = d .step ∙ step-small o a e h in
         parent-done o (size a) (nodes-of o a) (node k (o + size a - 1) 0 w) (one k w a) e r before mid after (length-nodes o a) refl refl
         (cells-small o a e i before mid d h) (rw f at p) (rw f at q)
 
-    big : 64 < o + size a → Done o (got (one k w a) e) r before after
+    big : NODES < o + size a → Done o (got (one k w a) e) r before after
     big h = parent-refused o (got a e) _ i r before mid after d (step-big o a e h) p (step-big o (one k w a) e (omega arith))
 
 -- the parent of a left reading, whose nodes stand, and of the reading after it
-pub two-done : (o k : ℕ) (w : Span) (a : Tree) (y : Reading) (j r : Step) (before mid later after : List ℕ) → o + size a ≤ 64
-    → mid ≡ sets before (5 * o) (cells-of (nodes-of o a)) → Done (o + size a) y j mid later → r ≡ parent-step j → after ≡ join-cells k w (o + size a - 1) j later
+pub two-done : (o k : ℕ) (w : Span) (a : Tree) (y : Reading) (j r : Step) (before mid later after : List ℕ) → o + size a ≤ NODES
+    → mid ≡ sets before (WIDTH * o) (cells-of (nodes-of o a)) → Done (o + size a) y j mid later → r ≡ parent-step j → after ≡ join-cells k w (o + size a - 1) j later
     → Done o (on-got y (λ b e. got (two k w a b) e)) r before after
 unfolding size nodes-of
 two-done o k w a none j r before mid later after l c d p q =
     let e : j ≡ Refused = d .step ∙ step-none (o + size a) in
     let f : r ≡ Refused = rw e at p in
     rw f (refused-done o none before after (step-none o))
-two-done o k w a (got b n) j r before mid later after l c d p q = by-le (o + size a + size b) 64 small big
+two-done o k w a (got b n) j r before mid later after l c d p q = by-le (o + size a + size b) NODES small big
   where
-    small : o + size a + size b ≤ 64 → Done o (got (two k w a b) n) r before after
+    small : o + size a + size b ≤ NODES → Done o (got (two k w a b) n) r before after
     small h =
         let f : j ≡ Read n (o + size a + size b - 1) (o + size a + size b) = d .step ∙ step-small (o + size a) b n h in
         let g : o + size a + size b ≡ o + (size a + size b) = omega arith in
         let us = nodes-of o a ++ nodes-of (o + size a) b in
-        let m : later ≡ sets before (5 * o) (cells-of us) =
+        let m : later ≡ sets before (WIDTH * o) (cells-of us) =
         cells-small (o + size a) b n j mid later d h ∙ rw c (sets-nodes before o (size a) (nodes-of o a) (nodes-of (o + size a) b) (length-nodes o a)) in
         let r1 : r ≡ pushed-step (o + size a + size b) n = rw f at p in
         let a1 : after ≡ pushed-cells (o + size a + size b) (node k (o + size a - 1) (o + size a + size b - 1) w) later = rw f at q in
@@ -156,7 +158,7 @@ two-done o k w a (got b n) j r before mid later after l c d p q = by-le (o + siz
         (sym (append-assoc (nodes-of o a) (nodes-of (o + size a) b) (node k (o + size a - 1) (o + size a + size b - 1) w ∷ [])))
         m (r1 ∙ ap (λ (c : ℕ). pushed-step c n) g) (a1 ∙ ap (λ (c : ℕ). pushed-cells c (node k (o + size a - 1) (o + size a + size b - 1) w) later) g)
 
-    big : 64 < o + size a + size b → Done o (got (two k w a b) n) r before after
+    big : NODES < o + size a + size b → Done o (got (two k w a b) n) r before after
     big h =
         let e : j ≡ Refused = d .step ∙ step-big (o + size a) b n h in
         let f : r ≡ Refused = rw e at p in
@@ -168,12 +170,12 @@ close-done o s none i r before after d p =
     let e : i ≡ Refused = d .step ∙ step-none o in
     let f : r ≡ Refused = rw e at p in
     rw f (refused-done o none before after (step-none o))
-close-done o s (got a n) i r before after d p = by-le (o + size a) 64 (λ h. small h (mark-at (bytes ")") s n) refl) (λ h. big h (mark-at (bytes ")") s n) refl)
+close-done o s (got a n) i r before after d p = by-le (o + size a) NODES (λ h. small h (mark-at (bytes ")") s n) refl) (λ h. big h (mark-at (bytes ")") s n) refl)
   where
     moved : (m : ℕ) → Wrote o (got a n) before after → Wrote o (got a m) before after
     moved m w = unfold Wrote in w
 
-    small : o + size a ≤ 64 → (m : Mark) → mark-at (bytes ")") s n ≡ m → Done o (after-mark m (λ e. got a e) none) r before after
+    small : o + size a ≤ NODES → (m : Mark) → mark-at (bytes ")") s n ≡ m → Done o (after-mark m (λ e. got a e) none) r before after
     small h (Next m) e =
         let f : i ≡ Read n (o + size a - 1) (o + size a) = d .step ∙ step-small o a n h in
         let g : r ≡ Read m (o + size a - 1) (o + size a) = rw (f, e) at p in
@@ -183,10 +185,10 @@ close-done o s (got a n) i r before after d p = by-le (o + size a) 64 (λ h. sma
         let g : r ≡ Refused = rw (f, e) at p in
         rw g (refused-done o none before after (step-none o))
 
-    refused : 64 < o + size a → r ≡ Refused
+    refused : NODES < o + size a → r ≡ Refused
     refused h = let f : i ≡ Refused = d .step ∙ step-big o a n h in rw f at p
 
-    big : 64 < o + size a → (m : Mark) → mark-at (bytes ")") s n ≡ m → Done o (after-mark m (λ e. got a e) none) r before after
+    big : NODES < o + size a → (m : Mark) → mark-at (bytes ")") s n ≡ m → Done o (after-mark m (λ e. got a e) none) r before after
     big h (Next m) e = rw (refused h) (refused-done o (got a m) before after (step-big o a m h))
     big h Mark·Bad e = rw (refused h) (refused-done o none before after (step-none o))
 
@@ -195,27 +197,27 @@ close-done o s (got a n) i r before after d p = by-le (o + size a) 64 (λ h. sma
 pub stored-done : (o : ℕ) (x : Reading) (r : Step) (before after : List ℕ) → r ≡ step-of o x → after ≡ leaf-cells o x before → Done o x r before after
 unfolding Wrote leaf-cells
 stored-done o none r before after p q = record { step = p; cells = tt }
-stored-done o (got a n) r before after p q = record { step = p; cells = λ l. q ∙ rw (le-leb (o + size a) 64 l) refl }
+stored-done o (got a n) r before after p q = record { step = p; cells = λ l. q ∙ rw (le-leb (o + size a) NODES l) refl }
 
 node-stored : (o : ℕ) (a : Tree) (x : Node) (n : ℕ) (r : Step) (before after : List ℕ) → size a ≡ 1 → nodes-of o a ≡ x ∷ [] → r ≡ pushed-step o n → after ≡ pushed-cells o x before
     → (r ≡ step-of o (got a n)) × (after ≡ leaf-cells o (got a n) before)
 unfolding leaf-cells cells-of
-node-stored o a x n r before after z w p q = by-le (o + 1) 64 small big
+node-stored o a x n r before after z w p q = by-le (o + 1) NODES small big
   where
-    small : o + 1 ≤ 64 → (r ≡ step-of o (got a n)) × (after ≡ leaf-cells o (got a n) before)
+    small : o + 1 ≤ NODES → (r ≡ step-of o (got a n)) × (after ≡ leaf-cells o (got a n) before)
     small h =
-        let t : leb 64 o ≡ false = lt-leb 64 o (omega arith) in
-        let g : o + size a ≤ 64 = omega arith in
+        let t : leb NODES o ≡ false = lt-leb NODES o (omega arith) in
+        let g : o + size a ≤ NODES = omega arith in
         let root : o ≡ o + size a - 1 = omega arith in
         let free : o + 1 ≡ o + size a = omega arith in
         let same : Read n o (o + 1) ≡ Read n (o + size a - 1) (o + size a) = cc in
-        ((rw t at p) ∙ (same ∙ sym (step-small o a n g)), (rw t at q) ∙ rw (le-leb (o + size a) 64 g, w) refl)
+        ((rw t at p) ∙ (same ∙ sym (step-small o a n g)), (rw t at q) ∙ rw (le-leb (o + size a) NODES g, w) refl)
 
-    big : 64 < o + 1 → (r ≡ step-of o (got a n)) × (after ≡ leaf-cells o (got a n) before)
+    big : NODES < o + 1 → (r ≡ step-of o (got a n)) × (after ≡ leaf-cells o (got a n) before)
     big h =
-        let t : leb 64 o ≡ true = le-leb 64 o (omega arith) in
-        let g : 64 < o + size a = omega arith in
-        ((rw t at p) ∙ sym (step-big o a n g), (rw t at q) ∙ rw (lt-leb (o + size a) 64 g) refl)
+        let t : leb NODES o ≡ true = le-leb NODES o (omega arith) in
+        let g : NODES < o + size a = omega arith in
+        ((rw t at p) ∙ sym (step-big o a n g), (rw t at q) ∙ rw (lt-leb (o + size a) NODES g) refl)
 
 module _ (o : ℕ) (s : List ℕ) (at : ℕ) (r : Step) (before after : List ℕ) where
   pub true-stored : (n : ℕ) → mark-at (letter true-kind) s at ≡ Next n → r ≡ pushed-step o n → after ≡ pushed-cells o (node true-kind 0 0 no-span) before

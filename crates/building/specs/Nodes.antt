@@ -5,7 +5,8 @@ use lib.ListN.{replicate}
 use Rattle.tables.specs.declared.Node.{Node}
 use Rattle.tables.specs.declared.Table.{Table}
 use Rattle.grammar.specs.declared.Span.{Span}
-use Rattle.grammar.specs.Operators.{true-kind, predicate-kind}
+use Rattle.tables.specs.Tree.{NODES}
+use Rattle.tables.specs.Kind.{true-kind, predicate-kind}
 use Rattle.grammar.specs.Tree.{Tree, truth, predicate, one, two, size, no-span}
 
 -- a node: kind, children, window
@@ -18,7 +19,7 @@ empty-node = node 0 0 0 no-span
 
 -- the empty table
 abbrev pub empty-table : Table
-empty-table = record { nodes = replicate 64 empty-node; count = 0 }
+empty-table = record { nodes = replicate NODES empty-node; count = 0 }
 
 -- the nodes of a tree, the first of which has the number o: those of the left child, of the right child, the parent last
 unfoldable pub nodes-of : ℕ → Tree → List Node
@@ -30,4 +31,4 @@ nodes-of o (two k w a b) =
 
 -- the table of a tree; places beyond its nodes are empty
 abbrev pub table-of : Tree → Table
-table-of a = record { nodes = nodes-of 0 a ++ replicate (64 - size a) empty-node; count = size a }
+table-of a = record { nodes = nodes-of 0 a ++ replicate (NODES - size a) empty-node; count = size a }

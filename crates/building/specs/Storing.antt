@@ -1,7 +1,7 @@
--- A reading while its nodes are kept in cells, five numbers to a node.
+-- A reading while its nodes are kept in cells, WIDTH numbers to a node.
 use Prim.Native.Nat.{ℕ, zero, suc, _+_, _-_, _*_, _≤_}
 use mathlib.Core.Path.{_≡_}
-use mathlib.Core.List.{List, [], _∷_}
+use mathlib.Core.List.{List, [], _∷_, _++_}
 use mathlib.Core.Bool.{cond}
 use lib.ListN.{getD, set}
 use lib.Seq.{sets}
@@ -10,6 +10,7 @@ use Rattle.text.specs.Bytes.{bytes}
 use Rattle.text.specs.Mark.{mark-at, after-mark}
 use Rattle.tables.specs.declared.Node.{Node}
 use Rattle.tables.specs.declared.Table.{Table}
+use Rattle.tables.specs.Tree.{NODES}
 use Rattle.grammar.specs.declared.Span.{Span}
 use Rattle.grammar.specs.Tree.{size}
 use Rattle.grammar.specs.Reading.{Reading, got, none}
@@ -17,24 +18,35 @@ use Rattle.building.specs.declared.Step.{Step}
 use Rattle.building.specs.declared.Step.the-variants.{Read, Refused}
 use Rattle.building.specs.Nodes.{node, empty-table, nodes-of}
 
+-- a node has five numbers
+abbrev pub WIDTH : ℕ
+WIDTH = 5
+
+-- cells for all nodes of a table
+abbrev pub CELLS : ℕ
+CELLS = WIDTH * NODES
+
+abbrev pub numbers-of : Node → List ℕ
+numbers-of x = x .kind ∷ x .left ∷ x .right ∷ x .lo ∷ x .hi ∷ []
+
 -- the numbers of nodes, one node after the other
 unfoldable pub cells-of : List Node → List ℕ
 cells-of [] = []
-cells-of (x ∷ xs) = x .kind ∷ x .left ∷ x .right ∷ x .lo ∷ x .hi ∷ cells-of xs
+cells-of (x ∷ xs) = numbers-of x ++ cells-of xs
 
--- what a reading gives where its first node has the number o and 64 nodes are allowed
+-- what a reading gives where its first node has the number o and a table has room for NODES
 unfoldable pub step-of : ℕ → Reading → Step
-step-of o (got a n) = cond (leb (o + size a) 64) (Read n (o + size a - 1) (o + size a)) Refused
+step-of o (got a n) = cond (leb (o + size a) NODES) (Read n (o + size a - 1) (o + size a)) Refused
 step-of o none = Refused
 
 -- a leaf: the cells of its node are written where it has room, and no other; a refused one writes nothing
 unfoldable pub leaf-cells : ℕ → Reading → List ℕ → List ℕ
-leaf-cells o (got a n) cells = cond (leb (o + size a) 64) (sets cells (5 * o) (cells-of (nodes-of o a))) cells
+leaf-cells o (got a n) cells = cond (leb (o + size a) NODES) (sets cells (WIDTH * o) (cells-of (nodes-of o a))) cells
 leaf-cells o none cells = cells
 
 -- a larger part: the same where it is not refused; a refused one may leave what it had written of its beginning
 unfoldable pub Wrote : ℕ → Reading → List ℕ → List ℕ → Type 0
-Wrote o (got a n) before after = o + size a ≤ 64 → after ≡ sets before (5 * o) (cells-of (nodes-of o a))
+Wrote o (got a n) before after = o + size a ≤ NODES → after ≡ sets before (WIDTH * o) (cells-of (nodes-of o a))
 Wrote o none before after = Unit {0}
 
 -- a reading is done
@@ -49,10 +61,10 @@ after-step Refused f a = a
 
 -- one node more, which is the root
 abbrev pub pushed-step : ℕ → ℕ → Step
-pushed-step free at = cond (leb 64 free) Refused (Read at free (free + 1))
+pushed-step free at = cond (leb NODES free) Refused (Read at free (free + 1))
 
 abbrev pub pushed-cells : ℕ → Node → List ℕ → List ℕ
-pushed-cells free x cells = cond (leb 64 free) cells (sets cells (5 * free) (x .kind ∷ x .left ∷ x .right ∷ x .lo ∷ x .hi ∷ []))
+pushed-cells free x cells = cond (leb NODES free) cells (sets cells (WIDTH * free) (numbers-of x))
 
 -- the parent of a reading; of one reading it is the left child, after another the right one
 abbrev pub parent-step : Step → Step
@@ -72,11 +84,11 @@ closed-step s p = after-step p (λ at root free. after-mark (mark-at (bytes ")")
 abbrev pub node-from : List ℕ → ℕ → Node
 node-from cells k =
     record {
-      kind = getD cells (5 * k) 0;
-      left = getD cells (5 * k + 1) 0;
-      right = getD cells (5 * k + 2) 0;
-      lo = getD cells (5 * k + 3) 0;
-      hi = getD cells (5 * k + 4) 0;
+      kind = getD cells (WIDTH * k) 0;
+      left = getD cells (WIDTH * k + 1) 0;
+      right = getD cells (WIDTH * k + 2) 0;
+      lo = getD cells (WIDTH * k + 3) 0;
+      hi = getD cells (WIDTH * k + 4) 0;
     }
 
 unfoldable pub nodes-from : List ℕ → ℕ → List Node
@@ -84,4 +96,4 @@ nodes-from cells zero = empty-table .nodes
 nodes-from cells (suc k) = set (nodes-from cells k) k (node-from cells k)
 
 abbrev pub table-from : List ℕ → ℕ → Table
-table-from cells count = cond (leb count 64) (record { nodes = nodes-from cells count; count = count }) empty-table
+table-from cells count = cond (leb count NODES) (record { nodes = nodes-from cells count; count = count }) empty-table

@@ -7,11 +7,15 @@ use text::Mark;
 ghost use mathlib.Core.Path.{_≡_};
 ghost use Prim.Native.Nat.{_<_};
 ghost use Rattle.grammar.specs.Reading.{leaf-at};
+ghost use Rattle.tables.specs.Tree.{NODES};
 ghost use Rattle.building.specs.Nodes.{empty-table};
 ghost use Rattle.building.specs.Storing.{step-of, leaf-cells, pushed-step, pushed-cells, parent-step, wrap-cells, join-cells, closed-step, node-from, table-from};
 
-// Cells for 64 nodes.
-pub const CELLS: usize = 320;
+// A node has so many numbers.
+pub const WIDTH: usize = 5;
+
+// Cells for all nodes of a table.
+pub const CELLS: usize = WIDTH * tables::NODES;
 
 // What reading a part of the grammar gives: the place after it, its root's number and the next free number; or a refusal.
 pub enum Step {
@@ -19,15 +23,15 @@ pub enum Step {
     Refused,
 }
 
-// One node more, which is the root; refused where 64 stand.
+// One node more, which is the root; refused where the table is full.
 pub fn push(at: usize, free: usize, x: Node, cells: &mut [u64; CELLS]) -> Step
     ensures step { λ r. ⌜ r ≡ pushed-step free at ⌝ }
     ensures cells { λ r. ⌜ now (cells .exit) ≡ pushed-cells free x (now (cells .entry)) ⌝ }
 {
-    if 64 <= free {
+    if tables::NODES <= free {
         return Step::Refused;
     }
-    let first = 5 * free;
+    let first = WIDTH * free;
     cells[first] = x.kind;
     cells[first + 1] = x.left as u64;
     cells[first + 2] = x.right as u64;
@@ -95,7 +99,7 @@ pub fn empty_table() -> Table
         lo: 0,
         hi: 0,
     };
-    let nodes = [none; 64];
+    let nodes = [none; tables::NODES];
     Table {
         nodes: nodes,
         count: 0,
@@ -103,10 +107,10 @@ pub fn empty_table() -> Table
 }
 
 fn node_at(cells: &[u64; CELLS], k: usize) -> Node
-    requires { ⌜ k < 64 ⌝ }
+    requires { ⌜ k < NODES ⌝ }
     ensures { λ r. ⌜ r ≡ node-from (now (cells .entry)) k ⌝ }
 {
-    let first = 5 * k;
+    let first = WIDTH * k;
     Node {
         kind: cells[first],
         left: cells[first + 1] as usize,
@@ -120,7 +124,7 @@ fn node_at(cells: &[u64; CELLS], k: usize) -> Node
 pub fn table_from(cells: &[u64; CELLS], count: usize) -> Table
     ensures { λ r. ⌜ r ≡ table-from (now (cells .entry)) count ⌝ }
 {
-    if 64 < count {
+    if tables::NODES < count {
         return empty_table();
     }
     let mut table = empty_table();
@@ -136,9 +140,9 @@ pub fn read_leaf(s: &[u8], at: usize, free: usize, cells: &mut [u64; CELLS]) -> 
     ensures step { λ r. ⌜ r ≡ step-of free (leaf-at (now (s .entry)) at) ⌝ }
     ensures cells { λ r. ⌜ now (cells .exit) ≡ leaf-cells free (leaf-at (now (s .entry)) at) (now (cells .entry)) ⌝ }
 {
-    if let Mark::Next(next) = operators::read_letter(s, at, operators::TRUE) {
+    if let Mark::Next(next) = operators::read_letter(s, at, tables::TRUE) {
         let x = Node {
-            kind: operators::TRUE,
+            kind: tables::TRUE,
             left: 0,
             right: 0,
             lo: 0,
@@ -150,7 +154,7 @@ pub fn read_leaf(s: &[u8], at: usize, free: usize, cells: &mut [u64; CELLS]) -> 
         return Step::Refused;
     };
     let x = Node {
-        kind: operators::PREDICATE,
+        kind: tables::PREDICATE,
         left: value as usize,
         right: 0,
         lo: 0,

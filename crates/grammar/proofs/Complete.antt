@@ -13,7 +13,8 @@ use Rattle.text.specs.Number.{is-digit}
 use Rattle.text.proofs.Tests.{both}
 use Rattle.text.proofs.Places.{after-bytes}
 use Rattle.text.proofs.Answers.{mark-made, mark-first, field-made}
-use Rattle.grammar.specs.Operators.{letters, letter, true-kind, predicate-kind, not-kind, and-kind, or-kind, binders, prefixes}
+use Rattle.tables.specs.Kind.{true-kind, predicate-kind, not-kind, and-kind, or-kind}
+use Rattle.grammar.specs.Operators.{letters, letter, binders, prefixes}
 use Rattle.grammar.specs.Tree.{Tree, two, no-span}
 use Rattle.grammar.specs.Grammar.{Part, alternative, conjunction, bind, unary, Derives, alternative-one, alternative-more, conjunction-one, conjunction-more, bind-one, bind-two, unary-not, unary-timed, unary-true, unary-predicate, unary-group}
 use Rattle.grammar.specs.Reading.{Reading, got, Reads, leaf-at, more, bind-by, unary-by, unary-at, bind-at, conjunction-at, alternative-at}

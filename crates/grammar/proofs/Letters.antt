@@ -24,17 +24,17 @@ pub letter-one : (j k : ℕ) → j < length letters → k < length letters → g
 letter-one j k a b e = sym (places j a) ∙ (ap (λ (c : ℕ). place-of c letters) e ∙ places k b)
 
 -- a test that holds of all of some kinds
-abbrev pub all-of : (ℕ → Bool) → List ℕ → Bool
-all-of f [] = true
-all-of f (k ∷ ks) = f k && all-of f ks
+abbrev pub every : (ℕ → Bool) → List ℕ → Bool
+every f [] = true
+every f (k ∷ ks) = f k && every f ks
 
-pub all-in : (f : ℕ → Bool) {k : ℕ} {ks : List ℕ} → k ∈ ks → all-of f ks ≡ true → f k ≡ true
-all-in f (List·Memᴰ·head {x} {xs} e) h = rw e (both (f x) (all-of f xs) h .0)
-all-in f (List·Memᴰ·tail {x} {xs} m) h = all-in f m (both (f x) (all-of f xs) h .1)
+pub all-in : (f : ℕ → Bool) {k : ℕ} {ks : List ℕ} → k ∈ ks → every f ks ≡ true → f k ≡ true
+all-in f (List·Memᴰ·head {x} {xs} e) h = rw e (both (f x) (every f xs) h .0)
+all-in f (List·Memᴰ·tail {x} {xs} m) h = all-in f m (both (f x) (every f xs) h .1)
 
 -- whether all of some kinds are in the table, and a byte is the letter of none of them
 abbrev pub lettered : List ℕ → Bool
-lettered ks = all-of (λ k. ltb k (length letters)) ks
+lettered ks = every (λ k. ltb k (length letters)) ks
 
 abbrev pub none-of : ℕ → List ℕ → Bool
-none-of b ks = all-of (λ k. not (eqb b (getD letters k 0))) ks
+none-of b ks = every (λ k. not (eqb b (getD letters k 0))) ks

@@ -15,7 +15,8 @@ use Rattle.text.proofs.Answers.{mark-is, field-is, past-mark, past-number}
 use Rattle.grammar.specs.declared.Span.{Span}
 use Rattle.grammar.specs.declared.Operator.{Operator}
 use Rattle.grammar.specs.declared.Operator.the-variants.{Absent, Over, Bad as Operator·Bad}
-use Rattle.grammar.specs.Operators.{letter, true-kind, predicate-kind, not-kind, and-kind, or-kind, binders, prefixes}
+use Rattle.tables.specs.Kind.{true-kind, predicate-kind, not-kind, and-kind, or-kind}
+use Rattle.grammar.specs.Operators.{letter, binders, prefixes}
 use Rattle.grammar.specs.Tree.{Tree, truth, predicate, one, two, no-span}
 use Rattle.grammar.specs.Grammar.{Part, alternative, conjunction, bind, unary, Derives, alternative-one, alternative-more, conjunction-one, conjunction-more, bind-one, bind-two, unary-not, unary-timed, unary-true, unary-predicate, unary-group}
 use Rattle.grammar.specs.Reading.{Reading, got, none, on-got, Reads, leaf-at, binder-at, prefix-at, timed-among, more-turns, bind-by, bind-of, conjunction-of, alternative-of, closing, unary-by, enclosing, unary-at, bind-at, conjunction-at, alternative-at}
@@ -24,9 +25,9 @@ use Rattle.grammar.proofs.Turns.{Onward}
 
 -- a part of the grammar stands between two places and says a tree
 pub record Stands (p : Part) (d : ℕ) (s : List ℕ) (at : ℕ) (a : Tree) (n : ℕ) : Type 0 where
-  pub written : List ℕ
-  pub between : Between s at n written
-  pub derives : Derives p d written a
+  pub word : List ℕ
+  pub between : Between s at n word
+  pub derives : Derives p d word a
 
 -- a reader of a part answers only what stands there
 abbrev pub Sound : Part → ℕ → Reads → Type 0
@@ -63,7 +64,7 @@ leaf-sound d s at a n h = go (mark-at (letter true-kind) s at) refl h
         let q = f .2 in
         stands-as (i .3)
         (record {
-          written = letter predicate-kind ++ q .written;
+          word = letter predicate-kind ++ q .word;
           between = between-both (f .1) (q .between);
           derives = unary-predicate (q .numeral) (q .bound);
         })
@@ -72,7 +73,7 @@ leaf-sound d s at a n h = go (mark-at (letter true-kind) s at) refl h
         → after-mark m (λ k. got truth k) (after-number (field-at (letter predicate-kind) s at 15) (λ p k. got (predicate p) k) none) ≡ got a n
         → Stands unary d s at a n
     go (Next m) e g =
-        stands-as g (record { written = letter true-kind; between = mark-is (letter true-kind) s at m e; derives = unary-true })
+        stands-as g (record { word = letter true-kind; between = mark-is (letter true-kind) s at m e; derives = unary-true })
     go Mark·Bad e g = number g
 
 -- ---- turns, for `|` and `&` alike
@@ -92,9 +93,9 @@ module _ (outer inner : Part) (k d : ℕ)
           let l = h b m refl in
           let r = sound s i c j g in
           record {
-            written = l .written ++ (letter k ++ r .written);
+            word = l .word ++ (letter k ++ r .word);
             between = between-both (l .between) (between-both w (r .between));
-            derives = join (l .written) (r .written) b c (l .derives) (r .derives);
+            derives = join (l .word) (r .word) b c (l .derives) (r .derives);
           }
 
       turned : (i : ℕ) → Between s m i (letter k) → (y : Reading) → part s i ≡ y → (c : Tree) (j : ℕ) → on-got y (λ q o. got (two k no-span b q) o) ≡ got c j → Stands outer d s at c j
@@ -122,14 +123,14 @@ module _ (d : ℕ) (part : Reads) (sound : Sound unary d part) where
       second b m l k r i o c j e =
           let q = sound s i c j e in
           record {
-            written = l .written ++ (letter k ++ (o .written ++ q .written));
+            word = l .word ++ (letter k ++ (o .word ++ q .word));
             between = rw append-assoc at (between-both (l .between) (between-both (o .between) (q .between)));
             derives = bind-two (l .derives) (o .among) (o .window) (q .derives);
           }
 
       go : (b : Tree) (m : ℕ) → Stands unary d s at b m → (o : Operator) → binder-at s m ≡ o → bind-by part s b m o ≡ got a n → Stands bind d s at a n
       go b m l Absent e g =
-          stands-as g (record { written = l .written; between = l .between; derives = bind-one (l .derives) })
+          stands-as g (record { word = l .word; between = l .between; derives = bind-one (l .derives) })
       go b m l (Over k r i) e g =
           let x = got-taken a n (part s i) _ g in
           stands-as (x .3) (second b m l k r i (timed-is binders s m k r i e) (x .0) (x .1) (x .2))
@@ -138,13 +139,13 @@ module _ (d : ℕ) (part : Reads) (sound : Sound unary d part) where
   conjunction-sound : Sound conjunction d (conjunction-of part)
   conjunction-sound s at a n h =
       turns-sound conjunction bind and-kind d (λ v w a b. conjunction-more) (bind-of part) bind-sound s at (length s) (bind-of part s at)
-      (λ b m e. let x = bind-sound s at b m e in record { written = x .written; between = x .between; derives = conjunction-one (x .derives) })
+      (λ b m e. let x = bind-sound s at b m e in record { word = x .word; between = x .between; derives = conjunction-one (x .derives) })
       a n h
 
   alternative-sound : Sound alternative d (alternative-of part)
   alternative-sound s at a n h =
       turns-sound alternative conjunction or-kind d (λ v w a b. alternative-more) (conjunction-of part) conjunction-sound s at (length s) (conjunction-of part s at)
-      (λ b m e. let x = conjunction-sound s at b m e in record { written = x .written; between = x .between; derives = alternative-one (x .derives) })
+      (λ b m e. let x = conjunction-sound s at b m e in record { word = x .word; between = x .between; derives = alternative-one (x .derives) })
       a n h
 
   enclosing-sound : Sound unary (suc d) (enclosing part)
@@ -159,7 +160,7 @@ module _ (d : ℕ) (part : Reads) (sound : Sound unary d part) where
           let q = alternative-sound s m (x .0) (x .1) (x .2) in
           stands-as (y .2)
           (record {
-            written = bytes "(" ++ (q .written ++ bytes ")");
+            word = bytes "(" ++ (q .word ++ bytes ")");
             between = between-both l (between-both (q .between) (mark-is (bytes ")") s (x .1) (y .0) (y .1)));
             derives = unary-group (q .derives);
           })
@@ -172,16 +173,16 @@ module _ (d : ℕ) (part : Reads) (sound : Sound unary d part) where
           let q = sound s m (x .0) (x .1) (x .2) in
           stands-as (x .3)
           (record {
-            written = w ++ q .written;
+            word = w ++ q .word;
             between = between-both l (q .between);
-            derives = make (q .written) (x .0) (q .derives);
+            derives = make (q .word) (x .0) (q .derives);
           })
 
       timed : (o : Operator) → timed-among prefixes s at ≡ o → unary-by part s at o ≡ got a n → Stands unary (suc d) s at a n
       timed Absent e g = leaf-sound (suc d) s at a n g
       timed (Over k r m) e g =
           let o = timed-is prefixes s at k r m e in
-          over k r m (letter k ++ o .written) (o .between) (λ v b t. unary-timed (o .among) (o .window) t) g
+          over k r m (letter k ++ o .word) (o .between) (λ v b t. unary-timed (o .among) (o .window) t) g
       timed Operator·Bad e g = absurd (none-got g)
 
       prefix : (m : Mark) → mark-at (letter not-kind) s at ≡ m

@@ -25,7 +25,8 @@ use Rattle.grammar.specs.declared.Window.{Window}
 use Rattle.grammar.specs.declared.Window.the-variants.{Ends, Bad as Window·Bad}
 use Rattle.grammar.specs.declared.Operator.the-variants.{Absent, Over}
 use Rattle.grammar.specs.Operators.{letters, letter, _∈_}
-use Rattle.grammar.specs.Tree.{span, no-end, furthest}
+use Rattle.tables.specs.Tree.{LONGEST, NO-END}
+use Rattle.grammar.specs.Tree.{span}
 use Rattle.grammar.specs.Grammar.{WindowText, closed, endless}
 use Rattle.grammar.specs.Reading.{window-at, over-window, timed-at, or-else, timed-among}
 use Rattle.grammar.proofs.Letters.{letter-one, all-in, lettered, none-of}
@@ -34,48 +35,48 @@ use Rattle.grammar.proofs.Letters.{letter-one, all-in, lettered, none-o
 
 -- a window's bytes stand between two places
 pub record WindowIs (s : List ℕ) (at : ℕ) (r : Span) (n : ℕ) : Type 0 where
-  pub written : List ℕ
-  pub between : Between s at n written
-  pub window : WindowText written r
+  pub word : List ℕ
+  pub between : Between s at n word
+  pub window : WindowText word r
 
 bad-ends : {r : Span} {n : ℕ} → Window·Bad ≡ Ends r n → ⊥
 bad-ends h = let z : _≡_ {A = ℕ} 0 1 = cc in omega arith
 
 module _ (s : List ℕ) (at : ℕ) (r : Span) (n : ℕ) where
   -- after `[lo,`: the end, or none
-  upper-is : (lo comma end m : ℕ) → Between s at m (bytes "[") → Numbered s m furthest lo comma → Between s comma end (bytes ",")
+  upper-is : (lo comma end m : ℕ) → Between s at m (bytes "[") → Numbered s m LONGEST lo comma → Between s comma end (bytes ",")
       → (x : Mark) → mark-at (bytes "*]") s end ≡ x
       → after-mark x
-      (λ next. Ends (span lo no-end) next)
-      (after-number (number-at s end furthest)
+      (λ next. Ends (span lo NO-END) next)
+      (after-number (number-at s end LONGEST)
       (λ hi close. after-mark (mark-at (bytes "]") s close) (λ next. cond (ltb hi lo) Window·Bad (Ends (span lo hi) next)) Window·Bad)
       Window·Bad)
       ≡ Ends r n
       → WindowIs s at r n
   upper-is lo comma end m a b c (Next p) e h =
       let y : p ≡ n = cc in
-      let z : span lo no-end ≡ r = cc in
+      let z : span lo NO-END ≡ r = cc in
       record {
-        written = bytes "[" ++ (b .written ++ (bytes "," ++ bytes "*]"));
+        word = bytes "[" ++ (b .word ++ (bytes "," ++ bytes "*]"));
         between = rw (← y) (between-both a (between-both (b .between) (between-both c (mark-is (bytes "*]") s end p e))));
         window = rw (← z) (endless (b .numeral) (b .bound));
       }
   upper-is lo comma end m a b c Mark·Bad e h =
-      let i = past-number Window·Bad (Ends r n) bad-ends (number-at s end furthest) _ h in
+      let i = past-number Window·Bad (Ends r n) bad-ends (number-at s end LONGEST) _ h in
       let hi = i .0 in
       let close = i .1 in
-      let j = number-is s end furthest hi close (i .2) in
+      let j = number-is s end LONGEST hi close (i .2) in
       let k = past-mark Window·Bad (Ends r n) bad-ends (mark-at (bytes "]") s close) _ (i .3) in
       last hi close j (k .0) (mark-is (bytes "]") s close (k .0) (k .1)) (ltb hi lo) refl (k .2)
     where
-      last : (hi close : ℕ) → Numbered s end furthest hi close → (next : ℕ) → Between s close next (bytes "]") → (t : Bool) → ltb hi lo ≡ t
+      last : (hi close : ℕ) → Numbered s end LONGEST hi close → (next : ℕ) → Between s close next (bytes "]") → (t : Bool) → ltb hi lo ≡ t
           → cond t Window·Bad (Ends (span lo hi) next) ≡ Ends r n → WindowIs s at r n
       last hi close j next q true g f = absurd (bad-ends f)
       last hi close j next q false g f =
           let y : next ≡ n = cc in
           let z : span lo hi ≡ r = cc in
           record {
-            written = bytes "[" ++ (b .written ++ (bytes "," ++ (j .written ++ bytes "]")));
+            word = bytes "[" ++ (b .word ++ (bytes "," ++ (j .word ++ bytes "]")));
             between = rw (← y) (between-both a (between-both (b .between) (between-both c (between-both (j .between) q))));
             window = rw (← z) (closed (b .numeral) (j .numeral) (ltb-false hi lo g) (j .bound));
           }
@@ -83,8 +84,8 @@ module _ (s : List ℕ) (at : ℕ) (r : Span) (n : ℕ) where
   pub window-is : window-at s at ≡ Ends r n → WindowIs s at r n
   unfolding window-at
   window-is h =
-      let i = past-number Window·Bad (Ends r n) bad-ends (field-at (bytes "[") s at furthest) _ h in
-      let f = field-is (bytes "[") s at furthest (i .0) (i .1) (i .2) in
+      let i = past-number Window·Bad (Ends r n) bad-ends (field-at (bytes "[") s at LONGEST) _ h in
+      let f = field-is (bytes "[") s at LONGEST (i .0) (i .1) (i .2) in
       let k = past-mark Window·Bad (Ends r n) bad-ends (mark-at (bytes ",") s (i .1)) _ (i .3) in
       upper-is (i .0) (i .1) (k .0) (f .0) (f .1) (f .2) (mark-is (bytes ",") s (i .1) (k .0) (k .1)) (mark-at (bytes "*]") s (k .0)) refl (k .2)
 
@@ -107,10 +108,10 @@ window-made (closed {v} {w} {lo} {hi} a b l m) s at t e =
     let e4 : drop (at + 1 + length v + 1 + length w) s ≡ bytes "]" ++ t = after-bytes s (at + 1 + length v + 1) w _ e3 in
     let n : at + 1 + length v + 1 + length w + 1 ≡ at + length (bytes "[" ++ (v ++ (bytes "," ++ (w ++ bytes "]")))) =
     rw (length-append v _, length-append w _) (omega arith) in
-    rw (field-made (bytes "[") s at furthest lo v _ (omega arith) e0 a (omega arith) (omega arith) refl)
+    rw (field-made (bytes "[") s at LONGEST lo v _ (omega arith) e0 a (omega arith) (omega arith) refl)
     (rw (mark-made (bytes ",") s _ (at + 1 + length v) (omega arith) e2)
     (rw (star-missing b s (at + 1 + length v + 1) _ e3)
-    (rw (number-made s (at + 1 + length v + 1) furthest hi w _ e3 b m (omega arith) refl)
+    (rw (number-made s (at + 1 + length v + 1) LONGEST hi w _ e3 b m (omega arith) refl)
     (rw (mark-made (bytes "]") s _ (at + 1 + length v + 1 + length w) (omega arith) e4)
     (rw (le-ltb hi lo l, n))))))
 window-made (endless {v} {lo} a l) s at t e =
@@ -120,7 +121,7 @@ window-made (endless {v} {lo} a l) s at t e =
     let e2 : drop (at + 1 + length v) s ≡ bytes "," ++ (bytes "*]" ++ t) = after-bytes s (at + 1) v _ e1 in
     let e3 : drop (at + 1 + length v + 1) s ≡ bytes "*]" ++ t = after-bytes s (at + 1 + length v) (bytes ",") _ e2 in
     let n : at + 1 + length v + 1 + 2 ≡ at + length (bytes "[" ++ (v ++ (bytes "," ++ bytes "*]"))) = rw (length-append v _) (omega arith) in
-    rw (field-made (bytes "[") s at furthest lo v _ (omega arith) e0 a l (omega arith) refl)
+    rw (field-made (bytes "[") s at LONGEST lo v _ (omega arith) e0 a l (omega arith) refl)
     (rw (mark-made (bytes ",") s _ (at + 1 + length v) (omega arith) e2)
     (rw (mark-made (bytes "*]") s _ (at + 1 + length v + 1) (omega arith) e3, n)))
 
@@ -129,9 +130,9 @@ window-made (endless {v} {lo} a l) s at t e =
 -- a kind's letter and its window's bytes stand between two places
 pub record OperatorIs (ks s : List ℕ) (at k : ℕ) (r : Span) (n : ℕ) : Type 0 where
   pub among : k ∈ ks
-  pub written : List ℕ
-  pub between : Between s at n (letter k ++ written)
-  pub window : WindowText written r
+  pub word : List ℕ
+  pub between : Between s at n (letter k ++ word)
+  pub window : WindowText word r
 
 pub timed-is : (ks s : List ℕ) (at k : ℕ) (r : Span) (n : ℕ) → timed-among ks s at ≡ Over k r n → OperatorIs ks s at k r n
 unfolding timed-among timed-at
@@ -146,7 +147,7 @@ timed-is (j ∷ ks) s at k r n h = go (timed-is ks s at k r n) (mark-at (letter 
         let w = window-is s m r n (f ∙ cc) in
         record {
           among = List·Memᴰ·head (sym a);
-          written = w .written;
+          word = w .word;
           between = rw (← a) (between-both (mark-is (letter j) s at m e) (w .between));
           window = w .window;
         }
@@ -157,7 +158,7 @@ timed-is (j ∷ ks) s at k r n h = go (timed-is ks s at k r n) (mark-at (letter 
     go more (Next m) e g = over m e (window-at s m) refl g
     go more Mark·Bad e g =
         let o = more g in
-        record { among = List·Memᴰ·tail (o .among); written = o .written; between = o .between; window = o .window }
+        record { among = List·Memᴰ·tail (o .among); word = o .word; between = o .between; window = o .window }
 
 -- the letter of one of the kinds and a window's bytes are read
 pub timed-made : (ks : List ℕ) → lettered ks ≡ true → {k : ℕ} {x : List ℕ} {r : Span} → k ∈ ks → WindowText x r

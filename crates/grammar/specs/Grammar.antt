@@ -4,15 +4,17 @@ use mathlib.Core.List.{List, _++_}
 use Rattle.text.specs.Bytes.{bytes}
 use Rattle.text.specs.Numeral.{Numeral}
 use Rattle.grammar.specs.declared.Span.{Span}
-use Rattle.grammar.specs.Operators.{letter, true-kind, predicate-kind, not-kind, and-kind, or-kind, binders, prefixes, _∈_}
-use Rattle.grammar.specs.Tree.{Tree, truth, predicate, one, two, size, span, no-span, no-end, furthest}
+use Rattle.tables.specs.Kind.{true-kind, predicate-kind, not-kind, and-kind, or-kind}
+use Rattle.grammar.specs.Operators.{letter, binders, prefixes, _∈_}
+use Rattle.tables.specs.Tree.{NODES, LONGEST, NO-END}
+use Rattle.grammar.specs.Tree.{Tree, truth, predicate, one, two, size, span, no-span}
 
 -- a window is `[lo,hi]`, hi perhaps `*`; the ends obey the table's limits
 pub data WindowText : List ℕ → Span → Type 0 where
-  closed : {v w : List ℕ} {lo hi : ℕ} → Numeral v lo → Numeral w hi → lo ≤ hi → hi ≤ furthest
+  closed : {v w : List ℕ} {lo hi : ℕ} → Numeral v lo → Numeral w hi → lo ≤ hi → hi ≤ LONGEST
       → WindowText (bytes "[" ++ (v ++ (bytes "," ++ (w ++ bytes "]")))) (span lo hi)
-  endless : {v : List ℕ} {lo : ℕ} → Numeral v lo → lo ≤ furthest
-      → WindowText (bytes "[" ++ (v ++ (bytes "," ++ bytes "*]"))) (span lo no-end)
+  endless : {v : List ℕ} {lo : ℕ} → Numeral v lo → lo ≤ LONGEST
+      → WindowText (bytes "[" ++ (v ++ (bytes "," ++ bytes "*]"))) (span lo NO-END)
 
 pub data Part : Type 0 where
   alternative conjunction bind unary : Part
@@ -46,4 +48,4 @@ pub data Derives : Part → ℕ → List ℕ → Tree → Type 0 where
 -- a requirement: an alternative with at most 32 enclosings and at most 64 nodes
 pub record Requires (text : List ℕ) (tree : Tree) : Type 0 where
   pub derives : Derives alternative 32 text tree
-  pub nodes : size tree ≤ 64
+  pub nodes : size tree ≤ NODES

@@ -3,6 +3,7 @@ use Prim.Native.Nat.{ℕ}
 use mathlib.Core.List.{List, [], _∷_, List·Memᴰ}
 use lib.ListN.{getD}
 use Rattle.text.specs.Bytes.{bytes}
+use Rattle.tables.specs.Kind.{until-kind, release-kind, eventually-kind, always-kind}
 
 -- the letter of each kind of node, at the kind's place: true, predicate, not, and, or, until, release, eventually, always
 abbrev pub letters : List ℕ
@@ -11,28 +12,12 @@ letters = bytes "Tp!&|URFG"
 abbrev pub letter : ℕ → List ℕ
 letter k = getD letters k 0 ∷ []
 
--- the kinds that stand alone in a production
-abbrev pub true-kind : ℕ
-true-kind = 0
-
-abbrev pub predicate-kind : ℕ
-predicate-kind = 1
-
-abbrev pub not-kind : ℕ
-not-kind = 2
-
-abbrev pub and-kind : ℕ
-and-kind = 3
-
-abbrev pub or-kind : ℕ
-or-kind = 4
-
 -- the kinds with a window that stand between two unaries (until, release), and before one (eventually, always)
 abbrev pub binders : List ℕ
-binders = 5 ∷ 6 ∷ []
+binders = until-kind ∷ release-kind ∷ []
 
 abbrev pub prefixes : List ℕ
-prefixes = 7 ∷ 8 ∷ []
+prefixes = eventually-kind ∷ always-kind ∷ []
 
 infix 50 _∈_
 abbrev pub _∈_ : ℕ → List ℕ → Type 0

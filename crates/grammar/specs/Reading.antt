@@ -11,17 +11,19 @@ use Rattle.grammar.specs.declared.Window.{Window}
 use Rattle.grammar.specs.declared.Window.the-variants.{Ends, Bad as Window·Bad}
 use Rattle.grammar.specs.declared.Operator.{Operator}
 use Rattle.grammar.specs.declared.Operator.the-variants.{Absent, Over, Bad as Operator·Bad}
-use Rattle.grammar.specs.Operators.{letter, true-kind, predicate-kind, not-kind, and-kind, or-kind, binders, prefixes}
-use Rattle.grammar.specs.Tree.{Tree, truth, predicate, one, two, size, span, no-span, no-end, furthest}
+use Rattle.tables.specs.Kind.{true-kind, predicate-kind, not-kind, and-kind, or-kind}
+use Rattle.grammar.specs.Operators.{letter, binders, prefixes}
+use Rattle.tables.specs.Tree.{NODES, LONGEST, NO-END}
+use Rattle.grammar.specs.Tree.{Tree, truth, predicate, one, two, size, span, no-span}
 
 -- a window: `[lo,hi]` or `[lo,*]`
 unfoldable pub window-at : List ℕ → ℕ → Window
 window-at s at =
-    after-number (field-at (bytes "[") s at furthest)
+    after-number (field-at (bytes "[") s at LONGEST)
     (λ lo comma. after-mark (mark-at (bytes ",") s comma)
     (λ end. after-mark (mark-at (bytes "*]") s end)
-    (λ next. Ends (span lo no-end) next)
-    (after-number (number-at s end furthest)
+    (λ next. Ends (span lo NO-END) next)
+    (after-number (number-at s end LONGEST)
     (λ hi close. after-mark (mark-at (bytes "]") s close) (λ next. cond (ltb hi lo) Window·Bad (Ends (span lo hi) next)) Window·Bad)
     Window·Bad))
     Window·Bad)
@@ -128,7 +130,7 @@ alternative-at d = alternative-of (unary-at d)
 
 -- a reading that ends with the text and has at most 64 nodes
 abbrev pub whole : List ℕ → Reading → Reading
-whole s x = on-got x (λ a n. cond (eqb n (length s)) (cond (leb (size a) 64) (got a n) none) none)
+whole s x = on-got x (λ a n. cond (eqb n (length s)) (cond (leb (size a) NODES) (got a n) none) none)
 
 -- the tree of a whole text
 unfoldable pub requirement-tree : List ℕ → Reading

@@ -1,6 +1,5 @@
 -- Requirements as trees: what a text says, before its nodes have numbers.
 use Prim.Native.Nat.{ℕ, _+_}
-use Rattle.tables.specs.Tree.{LONGEST, NO-END}
 use Rattle.grammar.specs.declared.Span.{Span}
 
 -- a window's ends, and those of a kind without a window
@@ -9,13 +8,6 @@ span lo hi = record { lo = lo; hi = hi }
 
 abbrev pub no-span : Span
 no-span = span 0 0
-
--- the high end that stands for no end, and the limit of the others
-abbrev pub no-end : ℕ
-no-end = NO-END
-
-abbrev pub furthest : ℕ
-furthest = LONGEST
 
 -- true, a predicate, or a kind with its window over one or two requirements
 pub data Tree : Type 0 where

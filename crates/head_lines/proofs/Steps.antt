@@ -11,7 +11,7 @@ use Rattle.text.specs.Bytes.{bytes}
 use Rattle.text.specs.Mark.{mark-at}
 use Rattle.text.specs.declared.Mark.the-variants.{Next, Bad as Mark·Bad}
 use Rattle.head_lines.specs.declared.Requirement.the-variants.{At, Bad}
-use Rattle.head_lines.specs.Lines.{until-feed, requirement-at}
+use Rattle.head_lines.specs.Reading.{until-feed, requirement-at}
 
 -- ---- the search for a line feed
 module _ (s : List ℕ) (at : ℕ) where

@@ -23,7 +23,7 @@ use Rattle.row_lines.proofs.Lines.{lines-split, count, count-append, numeral-co
 use Rattle.head_lines.specs.declared.Requirement.{Requirement}
 use Rattle.head_lines.specs.declared.Requirement.the-variants.{At, Bad}
 use Rattle.head_lines.specs.Form.{NumberLine}
-use Rattle.head_lines.specs.Lines.{number-at, until-feed, requirement-at}
+use Rattle.head_lines.specs.Reading.{number-line-at, until-feed, requirement-at}
 
 -- ---- a key and a number
 
@@ -31,33 +31,33 @@ abbrev NumberHere : List ℕ → List ℕ → ℕ → Field → Type 0
 NumberHere key s at (Number v n) = (l : List ℕ) × Between s at n l × NumberLine key l v
 NumberHere key s at Field·Bad = Unit
 
-number-here : (key s : List ℕ) (at : ℕ) → NumberHere key s at (number-at key s at)
-unfolding number-at
+number-here : (key s : List ℕ) (at : ℕ) → NumberHere key s at (number-line-at key s at)
+unfolding number-line-at
 number-here key s at =
     number-case (NumberHere key s at) (field-at key s at largest) _ _
     (λ v e h. mark-case (NumberHere key s at) (mark-at (bytes "\n") s e) _ _
     (λ n k. let a = field-is key s at largest v e h in (
-      key ++ a .2 .written ++ bytes "\n",
+      key ++ a .2 .word ++ bytes "\n",
       between-both (between-both (a .1) (a .2 .between)) (mark-is (bytes "\n") s e n k),
-      record { digits = a .2 .written; numeral = a .2 .numeral; bound = a .2 .bound; written = refl },
+      record { digits = a .2 .word; numeral = a .2 .numeral; bound = a .2 .bound; spelled = refl },
     ))
     (λ k. tt))
     (λ h. tt)
 
-pub number-line-is : (key s : List ℕ) (at v n : ℕ) → number-at key s at ≡ Number v n → (l : List ℕ) × Between s at n l × NumberLine key l v
+pub number-line-is : (key s : List ℕ) (at v n : ℕ) → number-line-at key s at ≡ Number v n → (l : List ℕ) × Between s at n l × NumberLine key l v
 number-line-is key s at v n h = rw h at (number-here key s at)
 
 pub number-line-taken : (key s : List ℕ) (at : ℕ) {l : List ℕ} {v : ℕ} (ls : List (List ℕ)) → 0 < length key → NumberLine key l v → lines (drop at s) ≡ l ∷ ls
-    → (n : ℕ) × (number-at key s at ≡ Number v n) × (lines (drop n s) ≡ ls) × (n ≡ at + length l)
-unfolding number-at
+    → (n : ℕ) × (number-line-at key s at ≡ Number v n) × (lines (drop n s) ≡ ls) × (n ≡ at + length l)
+unfolding number-line-at
 number-line-taken key s at {l} {v} ls p f h =
     let t = lines-split (drop at s) l ls h in
     let r : List ℕ = t .0 in
-    let g : drop at s ≡ key ++ (f .digits ++ (bytes "\n" ++ r)) = simp append-assoc at (t .1 ∙ ap (λ (x : List ℕ). x ++ r) (f .written)) in
+    let g : drop at s ≡ key ++ (f .digits ++ (bytes "\n" ++ r)) = simp append-assoc at (t .1 ∙ ap (λ (x : List ℕ). x ++ r) (f .spelled)) in
     let k = field-taken s at (bytes "\n" ++ r) refl key p largest g (f .numeral) (f .bound) (omega arith) in
     let n = mark-taken s (k .0) r (bytes "\n") (omega arith) (k .2) in
     let i : n .0 ≤ length s = mark-is (bytes "\n") s (k .0) (n .0) (n .1) .inside in
-    let w : length l ≡ length (key ++ f .digits) + 1 = ap length (f .written) ∙ length-append (key ++ f .digits) (bytes "\n") in
+    let w : length l ≡ length (key ++ f .digits) + 1 = ap length (f .spelled) ∙ length-append (key ++ f .digits) (bytes "\n") in
     let o = place-inside s at l r (t .1) (omega arith) in
     (n .0, rw (k .1, n .1), rw (n .2) (t .2), place-after s at (n .0) l r (t .1) (n .2) (omega arith) i)
 
@@ -65,7 +65,7 @@ pub number-line-fed : {key l : List ℕ} {v : ℕ} → count 10 key ≡ 0 → Nu
 number-line-fed {key} c f =
     record {
       body = key ++ f .digits;
-      ends = f .written;
+      ends = f .spelled;
       clear = count-append 10 key (f .digits) ∙ omega (arith, numeral-count 10 refl (f .numeral));
     }
 

@@ -12,4 +12,4 @@ pub record NumberLine (key line : List ℕ) (value : ℕ) : Type 0 where
   pub digits : List ℕ
   pub numeral : Numeral digits value
   pub bound : value ≤ largest
-  pub written : line ≡ key ++ digits ++ bytes "\n"
+  pub spelled : line ≡ key ++ digits ++ bytes "\n"

@@ -4,7 +4,7 @@ use text::Mark;
 ghost use mathlib.Core.Path.{_≡_};
 ghost use Prim.Native.Nat.{_+_};
 ghost use lib.ListN.{length, drop};
-ghost use Rattle.head_lines.specs.Lines.{number-at, until-feed, requirement-at};
+ghost use Rattle.head_lines.specs.Reading.{number-line-at, until-feed, requirement-at};
 
 // The requirement's place, and that of the line after it.
 pub enum Requirement {
@@ -14,7 +14,7 @@ pub enum Requirement {
 
 // A line of a key and a number.
 pub fn read_number(s: &[u8], at: usize, key: &[u8]) -> Field
-    ensures { λ r. ⌜ r ≡ number-at (now (key .entry)) (now (s .entry)) at ⌝ }
+    ensures { λ r. ⌜ r ≡ number-line-at (now (key .entry)) (now (s .entry)) at ⌝ }
 {
     let Field::Number(value, end) = text::read_field(s, at, key, text::LARGEST) else {
         return Field::Bad;

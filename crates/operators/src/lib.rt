@@ -1,4 +1,4 @@
-// The pieces of a requirement text that hold no other requirement: letters, windows, operators and leaves.
+// The pieces of a requirement text that hold no other requirement: letters, windows and operators.
 use grammar::Operator;
 use grammar::Span;
 use grammar::Window;
@@ -12,17 +12,6 @@ ghost use Rattle.text.specs.Mark.{mark-at};
 ghost use Rattle.grammar.specs.Operators.{letter};
 ghost use Rattle.grammar.specs.Reading.{window-at, over-window, timed-at, or-else, binder-at, prefix-at};
 
-// The kinds that stand alone in a production; kinds with a window have their numbers where they are read.
-pub const TRUE: u64 = 0;
-
-pub const PREDICATE: u64 = 1;
-
-pub const NOT: u64 = 2;
-
-pub const AND: u64 = 3;
-
-pub const OR: u64 = 4;
-
 fn read_among(s: &[u8], at: usize, letters: &[u8], kind: u64) -> Mark
     requires { ⌜ kind < length (now letters) ⌝ }
     ensures { λ r. ⌜ r ≡ mark-at (getD (now (letters .entry)) kind 0 ∷ []) (now (s .entry)) at ⌝ }
@@ -32,11 +21,11 @@ fn read_among(s: &[u8], at: usize, letters: &[u8], kind: u64) -> Mark
     text::read_mark(s, at, &letters[from..to])
 }
 
-// The letter of a kind, which stands at the kind's place of the one table of letters. A kind without one has NUL, which no text has.
+// The letter of a kind, which stands at the kind's place of the one table of letters. A number that is no kind's is read as NUL, which the table gives past its end.
 pub fn read_letter(s: &[u8], at: usize, kind: u64) -> Mark
     ensures { λ r. ⌜ r ≡ mark-at (letter kind) (now (s .entry)) at ⌝ }
 {
-    if kind < 9 {
+    if kind < tables::KINDS {
         read_among(s, at, b"Tp!&|URFG", kind)
     } else {
         text::read_mark(s, at, b"\0")
@@ -47,7 +36,7 @@ pub fn read_letter(s: &[u8], at: usize, kind: u64) -> Mark
 fn read_window(s: &[u8], at: usize) -> Window
     ensures { λ r. ⌜ r ≡ window-at (now (s .entry)) at ⌝ }
 {
-    let Field::Number(lo, comma) = text::read_field(s, at, b"[", 1_000_000_000) else {
+    let Field::Number(lo, comma) = text::read_field(s, at, b"[", tables::LONGEST) else {
         return Window::Bad;
     };
     let Mark::Next(end) = text::read_mark(s, comma, b",") else {
@@ -57,12 +46,12 @@ fn read_window(s: &[u8], at: usize) -> Window
         return Window::Ends(
             Span {
                 lo: lo,
-                hi: 4_294_967_295,
+                hi: tables::NO_END,
             },
             past,
         );
     }
-    let Field::Number(hi, close) = text::read_number(s, end, 1_000_000_000) else {
+    let Field::Number(hi, close) = text::read_number(s, end, tables::LONGEST) else {
         return Window::Bad;
     };
     let Mark::Next(next) = text::read_mark(s, close, b"]") else {
@@ -108,15 +97,21 @@ fn or_else(first: Operator, second: Operator) -> Operator
 pub fn read_binder(s: &[u8], at: usize) -> Operator
     ensures { λ r. ⌜ r ≡ binder-at (now (s .entry)) at ⌝ }
 {
-    or_else(read_timed(s, at, 5), read_timed(s, at, 6))
+    or_else(
+        read_timed(s, at, tables::UNTIL),
+        read_timed(s, at, tables::RELEASE),
+    )
 }
 
 // What a unary begins with, where it is an operator: not, eventually or always.
 pub fn read_prefix(s: &[u8], at: usize) -> Operator
     ensures { λ r. ⌜ r ≡ prefix-at (now (s .entry)) at ⌝ }
 {
-    if let Mark::Next(next) = read_letter(s, at, NOT) {
-        return Operator::Over(NOT, Span { lo: 0, hi: 0 }, next);
+    if let Mark::Next(next) = read_letter(s, at, tables::NOT) {
+        return Operator::Over(tables::NOT, Span { lo: 0, hi: 0 }, next);
     }
-    or_else(read_timed(s, at, 7), read_timed(s, at, 8))
+    or_else(
+        read_timed(s, at, tables::EVENTUALLY),
+        read_timed(s, at, tables::ALWAYS),
+    )
 }

@@ -20,10 +20,10 @@ use Rattle.predicate_lines.specs.declared.Bound.the-variants.{Missing, A
 use Rattle.predicate_lines.specs.declared.Line.{Line}
 use Rattle.predicate_lines.specs.declared.Line.the-variants.{Set, Bad}
 use Rattle.predicate_lines.specs.declared.Predicates.{Predicates}
-use Rattle.predicate_lines.specs.Form.{range-of, Line as Form·Line, unset, Lines, over, more}
-use Rattle.recordings.specs.Card.{unset-predicate as none}
+use Rattle.predicate_lines.specs.Form.{range-of, PredicateLine, unset, PredicateLines, over, more}
+use Rattle.recordings.specs.Card.{unset-predicate}
 use Rattle.recordings.specs.Distance.{is-unset}
-use Rattle.predicate_lines.specs.Lines.{line-at, after-line, broken-set, stored-in, with-line, lines-from, lines-at}
+use Rattle.predicate_lines.specs.Reading.{line-at, after-line, broken-set, stored-in, with-line, lines-from, lines-at}
 use Rattle.predicate_lines.proofs.Written.{line-is, line-taken, line-fed}
 
 -- ---- sound
@@ -32,7 +32,7 @@ use Rattle.predicate_lines.proofs.Written.{line-is, line-taken, line-fe
 pub record LinesRead (s : List ℕ) (at : ℕ) (ps : List Predicate) (n : ℕ) (qs : List Predicate) : Type 0 where
   pub taken : List (List ℕ)
   pub cuts : lines (drop at s) ≡ taken ++ lines (drop n s)
-  pub form : Lines ps taken qs
+  pub form : PredicateLines ps taken qs
   pub place : n ≡ at + size taken
 
 LinesHere : List ℕ → Predicates → Predicates → Type 0
@@ -44,14 +44,14 @@ record Stored (s : List ℕ) (ps q : Predicates) : Type 0 where
   predicate : Predicate
   next : ℕ
   reads : line-at s (ps .next) ≡ Set number predicate next
-  free : is-unset (getD (ps .all) number none .range) ≡ true
+  free : is-unset (getD (ps .all) number unset-predicate .range) ≡ true
   same : q ≡ record { ok = true; next = next; all = set (ps .all) number predicate }
 
 with-ok : (s : List ℕ) (ps : Predicates) → with-line s ps .ok ≡ true → Stored s ps (with-line s ps)
 unfolding with-line stored-in
 with-ok s ps h = go (line-at s (ps .next)) refl h
   where
-    then : (k : ℕ) (p : Predicate) (n : ℕ) → line-at s (ps .next) ≡ Set k p n → (t : Bool) → is-unset (getD (ps .all) k none .range) ≡ t
+    then : (k : ℕ) (p : Predicate) (n : ℕ) → line-at s (ps .next) ≡ Set k p n → (t : Bool) → is-unset (getD (ps .all) k unset-predicate .range) ≡ t
         → cond t (record { ok = true; next = n; all = set (ps .all) k p }) broken-set .ok ≡ true
         → Stored s ps (cond t (record { ok = true; next = n; all = set (ps .all) k p }) broken-set)
     then k p n e true f g = record { number = k; predicate = p; next = n; reads = e; free = f; same = refl }
@@ -59,7 +59,7 @@ with-ok s ps h = go (line-at s (ps .next)) refl h
 
     go : (x : Line) → line-at s (ps .next) ≡ x → after-line x (λ k p n. stored-in ps k p n) broken-set .ok ≡ true
         → Stored s ps (after-line x (λ k p n. stored-in ps k p n) broken-set)
-    go (Set k p n) e g = then k p n e (is-unset (getD (ps .all) k none .range)) refl g
+    go (Set k p n) e g = then k p n e (is-unset (getD (ps .all) k unset-predicate .range)) refl g
     go Bad e g = absurd (false-true g)
 
 more-here : (s : List ℕ) (ps q : Predicates) → Stored s ps q → (r : Predicates) → LinesHere s q r → LinesHere s ps r
@@ -101,7 +101,7 @@ range-set (At lo) Missing = refl
 range-set Missing (At hi) = refl
 range-set (At lo) (At hi) = refl
 
-unsets-set : (ps : List Predicate) (k : ℕ) (p : Predicate) → k < length ps → is-unset (getD ps k none .range) ≡ true → is-unset (p .range) ≡ false
+unsets-set : (ps : List Predicate) (k : ℕ) (p : Predicate) → k < length ps → is-unset (getD ps k unset-predicate .range) ≡ true → is-unset (p .range) ≡ false
     → unsets ps ≡ suc (unsets (set ps k p))
 unfolding unsets
 unsets-set [] k p l f h = absurd (omega arith)
@@ -114,17 +114,17 @@ due-over zero s ps h = refl
 due-over (suc f) s ps h = rw (h, never (leb (ps .next) (length s)))
 
 due-more : (f : ℕ) (s : List ℕ) (at k : ℕ) (p : Predicate) (n : ℕ) (ps : List Predicate) → at ≤ length s → prefix-of (bytes "p=") (drop at s) ≡ true
-    → line-at s at ≡ Set k p n → is-unset (getD ps k none .range) ≡ true
+    → line-at s at ≡ Set k p n → is-unset (getD ps k unset-predicate .range) ≡ true
     → lines-from (suc f) s (record { ok = true; next = at; all = ps }) ≡ lines-from f s (record { ok = true; next = n; all = set ps k p })
 unfolding lines-from with-line stored-in
 due-more f s at k p n ps l h e g = rw (le-leb at (length s) l, h, e, g)
 
 -- a predicate's line has the key `p=`
-line-due : {k : ℕ} {p : Predicate} {l : List ℕ} (r : List ℕ) → Form·Line l k p → prefix-of (bytes "p=") (l ++ r) ≡ true
+line-due : {k : ℕ} {p : Predicate} {l : List ℕ} (r : List ℕ) → PredicateLine l k p → prefix-of (bytes "p=") (l ++ r) ≡ true
 unfolding prefix-of
-line-due r f = rw (f .written)
+line-due r f = rw (f .spelled)
 
-lines-taken : {ps qs : List Predicate} {ls : List (List ℕ)} → Lines ps ls qs → (f : ℕ) (s : List ℕ) (at : ℕ) (rest : List (List ℕ))
+lines-taken : {ps qs : List Predicate} {ls : List (List ℕ)} → PredicateLines ps ls qs → (f : ℕ) (s : List ℕ) (at : ℕ) (rest : List (List ℕ))
     → length ps ≡ 16 → unsets ps ≤ f → lines (drop at s) ≡ ls ++ rest → ((x : List ℕ) → lines x ≡ rest → prefix-of (bytes "p=") x ≡ false)
     → (n : ℕ) × (lines-from f s (record { ok = true; next = at; all = ps }) ≡ record { ok = true; next = n; all = qs }) × (lines (drop n s) ≡ rest)
 lines-taken {ps} over f s at rest w u e stop = (at, due-over f s (record { ok = true; next = at; all = ps }) (stop (drop at s) e), e)
@@ -141,13 +141,13 @@ lines-taken {ps} {qs} (more {l} {ls} {number = k} {predicate = p} line free line
       d .2,
     )
 
-pub predicates-taken : {qs : List Predicate} {ls : List (List ℕ)} → Lines unset ls qs → (s : List ℕ) (at : ℕ) (rest : List (List ℕ))
+pub predicates-taken : {qs : List Predicate} {ls : List (List ℕ)} → PredicateLines unset ls qs → (s : List ℕ) (at : ℕ) (rest : List (List ℕ))
     → lines (drop at s) ≡ ls ++ rest → ((x : List ℕ) → lines x ≡ rest → prefix-of (bytes "p=") x ≡ false)
     → (n : ℕ) × (lines-at s at ≡ record { ok = true; next = n; all = qs }) × (lines (drop n s) ≡ rest)
 unfolding lines-at unsets
 predicates-taken form s at rest e stop = lines-taken form 16 s at rest refl (omega arith) e stop
 
 -- there are sixteen predicates before and after
-pub lines-keep : {ps qs : List Predicate} {ls : List (List ℕ)} → Lines ps ls qs → length qs ≡ length ps
+pub lines-keep : {ps qs : List Predicate} {ls : List (List ℕ)} → PredicateLines ps ls qs → length qs ≡ length ps
 lines-keep over = refl
 lines-keep (more {ps} {number = k} {predicate = p} line free rest) = lines-keep rest ∙ length-set ps k p

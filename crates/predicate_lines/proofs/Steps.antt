@@ -17,7 +17,7 @@ use Rattle.predicate_lines.specs.declared.End.the-variants.{Read, Bad as
 use Rattle.predicate_lines.specs.declared.Line.the-variants.{Set, Bad}
 use Rattle.predicate_lines.specs.Form.{range-of}
 use Rattle.predicate_lines.specs.declared.Predicates.{Predicates}
-use Rattle.predicate_lines.specs.Lines.{end-at, line-at, with-line, lines-from}
+use Rattle.predicate_lines.specs.Reading.{end-at, line-at, with-line, lines-from}
 
 module _ (s : List ℕ) (at : ℕ) where
   pub line-number : field-at (bytes "p=") s at 15 ≡ Field·Bad → Bad ≡ line-at s at

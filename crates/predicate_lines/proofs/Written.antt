@@ -21,14 +21,14 @@ use Rattle.predicate_lines.specs.declared.End.{End}
 use Rattle.predicate_lines.specs.declared.End.the-variants.{Read, Bad as End·Bad}
 use Rattle.predicate_lines.specs.declared.Line.{Line}
 use Rattle.predicate_lines.specs.declared.Line.the-variants.{Set, Bad}
-use Rattle.predicate_lines.specs.Form.{End as Form·End, star, number, range-of, Line as Form·Line}
-use Rattle.predicate_lines.specs.Lines.{end-at, after-end, line-at}
+use Rattle.predicate_lines.specs.Form.{EndText, star, number, range-of, PredicateLine}
+use Rattle.predicate_lines.specs.Reading.{end-at, after-end, line-at}
 use Rattle.predicate_lines.proofs.Steps.{line-set}
 
 -- ---- an end
 
 abbrev EndHere : List ℕ → List ℕ → ℕ → End → Type 0
-EndHere key s at (Read b n) = (w : List ℕ) × Between s at n (key ++ w) × Form·End w b
+EndHere key s at (Read b n) = (w : List ℕ) × Between s at n (key ++ w) × EndText w b
 EndHere key s at End·Bad = Unit
 
 end-here : (key s : List ℕ) (at : ℕ) → EndHere key s at (end-at key s at)
@@ -46,11 +46,11 @@ end-case : {A : Type 0} (P : A → Type 0) (x : End) (f : Bound → ℕ → A) (
 end-case P (Read b n) f a h k = h b n refl
 end-case P End·Bad f a h k = k
 
-end-is : (key s : List ℕ) (at : ℕ) (b : Bound) (n : ℕ) → end-at key s at ≡ Read b n → (w : List ℕ) × Between s at n (key ++ w) × Form·End w b
+end-is : (key s : List ℕ) (at : ℕ) (b : Bound) (n : ℕ) → end-at key s at ≡ Read b n → (w : List ℕ) × Between s at n (key ++ w) × EndText w b
 end-is key s at b n h = rw h at (end-here key s at)
 
 end-taken : (s : List ℕ) (at : ℕ) (r : List ℕ) → is-digit (getD r 0 0) ≡ false → (key : List ℕ) → 0 < length key
-    → {w : List ℕ} {b : Bound} → drop at s ≡ key ++ (w ++ r) → Form·End w b → (n : ℕ) × (end-at key s at ≡ Read b n) × (drop n s ≡ r)
+    → {w : List ℕ} {b : Bound} → drop at s ≡ key ++ (w ++ r) → EndText w b → (n : ℕ) × (end-at key s at ≡ Read b n) × (drop n s ≡ r)
 unfolding end-at
 end-taken s at r stop key p e star =
     let k = mark-taken s at (bytes "*" ++ r) key p e in
@@ -65,7 +65,7 @@ end-taken s at r stop key p e (number {w} {v} sg) =
 
 -- what an answer says of the line at a place
 abbrev pub LineHere : List ℕ → ℕ → Line → Type 0
-LineHere s at (Set k p n) = (l : List ℕ) × Between s at n l × Form·Line l k p
+LineHere s at (Set k p n) = (l : List ℕ) × Between s at n l × PredicateLine l k p
 LineHere s at Bad = Unit
 
 pub line-here : (s : List ℕ) (at : ℕ) → LineHere s at (line-at s at)
@@ -92,14 +92,14 @@ line-here s at =
         let u = end-is (bytes " lo=") s b lo c g in
         let v = end-is (bytes " hi=") s c hi d h in
         let x = between-both (between-both (between-both (p .1) (p .2 .between)) (q .1)) (q .2 .between) in
-        let y : Between s at c (bytes "p=" ++ p .2 .written ++ bytes " ch=" ++ q .2 .written ++ bytes " lo=" ++ u .0) = rw append-assoc (between-both x (u .1)) in
-        let z : Between s at d (bytes "p=" ++ p .2 .written ++ bytes " ch=" ++ q .2 .written ++ bytes " lo=" ++ u .0 ++ bytes " hi=" ++ v .0) =
-        rw (append-assoc (bytes "p=" ++ p .2 .written ++ bytes " ch=" ++ q .2 .written ++ bytes " lo=" ++ u .0) (bytes " hi=") (v .0)) (between-both y (v .1)) in (
+        let y : Between s at c (bytes "p=" ++ p .2 .word ++ bytes " ch=" ++ q .2 .word ++ bytes " lo=" ++ u .0) = rw append-assoc (between-both x (u .1)) in
+        let z : Between s at d (bytes "p=" ++ p .2 .word ++ bytes " ch=" ++ q .2 .word ++ bytes " lo=" ++ u .0 ++ bytes " hi=" ++ v .0) =
+        rw (append-assoc (bytes "p=" ++ p .2 .word ++ bytes " ch=" ++ q .2 .word ++ bytes " lo=" ++ u .0) (bytes " hi=") (v .0)) (between-both y (v .1)) in (
           _,
           between-both z (mark-is (bytes "\n") s d n i),
           record {
-            p = p .2 .written;
-            ch = q .2 .written;
+            p = p .2 .word;
+            ch = q .2 .word;
             lo = u .0;
             hi = v .0;
             named = p .2 .numeral;
@@ -111,25 +111,25 @@ line-here s at =
             from = u .2;
             to = v .2;
             range = refl;
-            written = refl;
+            spelled = refl;
           },
         )
 
-pub line-is : (s : List ℕ) (at k : ℕ) (p : Predicate) (n : ℕ) → line-at s at ≡ Set k p n → (l : List ℕ) × Between s at n l × Form·Line l k p
+pub line-is : (s : List ℕ) (at k : ℕ) (p : Predicate) (n : ℕ) → line-at s at ≡ Set k p n → (l : List ℕ) × Between s at n l × PredicateLine l k p
 line-is s at k p n h = rw h at (line-here s at)
 
 -- a place that was taken, by its name
 taking : {P Q : ℕ → Type 0} {B : Type 0} → (n : ℕ) × P n × Q n → ((n : ℕ) → P n → Q n → B) → B
 taking t f = f (t .0) (t .1) (t .2)
 
-pub line-taken : {k : ℕ} {p : Predicate} {l : List ℕ} (s : List ℕ) (at : ℕ) (r : List ℕ) → Form·Line l k p → drop at s ≡ l ++ r
+pub line-taken : {k : ℕ} {p : Predicate} {l : List ℕ} (s : List ℕ) (at : ℕ) (r : List ℕ) → PredicateLine l k p → drop at s ≡ l ++ r
     → (n : ℕ) × (line-at s at ≡ Set k p n) × (drop n s ≡ r)
 line-taken {k} {p} s at r t e =
     let w : List ℕ = bytes "\n" ++ r in
     let x : List ℕ = bytes " hi=" ++ (t .hi ++ w) in
     let y : List ℕ = bytes " lo=" ++ (t .lo ++ x) in
     let z : List ℕ = bytes " ch=" ++ (t .ch ++ y) in
-    let whole : drop at s ≡ bytes "p=" ++ (t .p ++ z) = simp append-assoc at (e ∙ ap (λ (v : List ℕ). v ++ r) (t .written)) in
+    let whole : drop at s ≡ bytes "p=" ++ (t .p ++ z) = simp append-assoc at (e ∙ ap (λ (v : List ℕ). v ++ r) (t .spelled)) in
     taking (field-taken s at z refl (bytes "p=") (omega arith) 15 whole (t .named) (t .known) (omega arith))
     (λ a e₁ g₁. taking (field-taken s a y refl (bytes " ch=") (omega arith) largest g₁ (t .channel) (t .bound) (omega arith))
     (λ b e₂ g₂. taking (end-taken s b x refl (bytes " lo=") (omega arith) g₂ (t .from))
@@ -138,17 +138,17 @@ line-taken {k} {p} s at r t e =
     (λ n e₅ g₅. (n, sym (line-set s at k a e₁ (p .channel) b e₂ (t .low) c e₃ (t .high) d e₄ n (p .range) e₅ (t .range)), g₅))))))
 
 -- a line ends in its only line feed
-end-count : {w : List ℕ} {b : Bound} → Form·End w b → count 10 w ≡ 0
+end-count : {w : List ℕ} {b : Bound} → EndText w b → count 10 w ≡ 0
 unfolding count
 end-count star = refl
 end-count (number sg) = signed-count 10 refl refl sg
 
-pub line-fed : {k : ℕ} {p : Predicate} {l : List ℕ} → Form·Line l k p → Fed l
+pub line-fed : {k : ℕ} {p : Predicate} {l : List ℕ} → PredicateLine l k p → Fed l
 unfolding count
 line-fed f =
     record {
       body = bytes "p=" ++ f .p ++ bytes " ch=" ++ f .ch ++ bytes " lo=" ++ f .lo ++ bytes " hi=" ++ f .hi;
-      ends = f .written;
+      ends = f .spelled;
       clear = let g : count 10 (bytes "p=" ++ f .p ++ bytes " ch=" ++ f .ch ++ bytes " lo=" ++ f .lo ++ bytes " hi=" ++ f .hi)
           ≡ count 10 (bytes "p=") + count 10 (f .p) + count 10 (bytes " ch=") + count 10 (f .ch) + count 10 (bytes " lo=") + count 10 (f .lo) + count 10 (bytes " hi=") + count 10 (f .hi) = simp count-append in
           g ∙ (rw (numeral-count 10 refl (f .named), numeral-count 10 refl (f .channel), end-count (f .from), end-count (f .to)));

@@ -12,15 +12,15 @@ use Rattle.text.specs.Numeral.{Numeral, Signed}
 use Rattle.recordings.specs.declared.Predicate.{Predicate}
 use Rattle.recordings.specs.declared.Range.{Range}
 use Rattle.recordings.specs.declared.Range.the-variants.{Free, AtLeast, AtMost, Between}
-use Rattle.recordings.specs.Card.{unset-predicate as none}
+use Rattle.recordings.specs.Card.{unset-predicate}
 use Rattle.recordings.specs.Distance.{is-unset}
 use Rattle.predicate_lines.specs.declared.Bound.{Bound}
 use Rattle.predicate_lines.specs.declared.Bound.the-variants.{Missing, At}
 
 -- the bytes of an end: `*` for a missing one
-pub data End : List ℕ → Bound → Type 0 where
-  star : End (bytes "*") Missing
-  number : {w : List ℕ} {v : ℤ} → Signed w v → End w (At v)
+pub data EndText : List ℕ → Bound → Type 0 where
+  star : EndText (bytes "*") Missing
+  number : {w : List ℕ} {v : ℤ} → Signed w v → EndText w (At v)
 
 -- the range that two ends make; without an end it is free
 abbrev pub range-of : Bound → Bound → Range
@@ -30,7 +30,7 @@ range-of Missing (At hi) = AtMost hi
 range-of (At lo) (At hi) = Between lo hi
 
 -- a predicate's line: its number is 0 to 15
-pub record Line (line : List ℕ) (number : ℕ) (predicate : Predicate) : Type 0 where
+pub record PredicateLine (line : List ℕ) (number : ℕ) (predicate : Predicate) : Type 0 where
   pub p : List ℕ
   pub ch : List ℕ
   pub lo : List ℕ
@@ -41,17 +41,17 @@ pub record Line (line : List ℕ) (number : ℕ) (predicate : Predicate) : Type 
   pub bound : predicate .channel ≤ largest
   pub low : Bound
   pub high : Bound
-  pub from : End lo low
-  pub to : End hi high
+  pub from : EndText lo low
+  pub to : EndText hi high
   pub range : predicate .range ≡ range-of low high
-  pub written : line ≡ bytes "p=" ++ p ++ bytes " ch=" ++ ch ++ bytes " lo=" ++ lo ++ bytes " hi=" ++ hi ++ bytes "\n"
+  pub spelled : line ≡ bytes "p=" ++ p ++ bytes " ch=" ++ ch ++ bytes " lo=" ++ lo ++ bytes " hi=" ++ hi ++ bytes "\n"
 
 -- sixteen predicates, none of them set
 abbrev pub unset : List Predicate
-unset = replicate 16 none
+unset = replicate 16 unset-predicate
 
 -- lines that set predicates, one after the other: each number once
-pub data Lines : List Predicate → List (List ℕ) → List Predicate → Type 0 where
-  over : {ps : List Predicate} → Lines ps [] ps
+pub data PredicateLines : List Predicate → List (List ℕ) → List Predicate → Type 0 where
+  over : {ps : List Predicate} → PredicateLines ps [] ps
   more : {l : List ℕ} {ls : List (List ℕ)} {ps qs : List Predicate} {number : ℕ} {predicate : Predicate}
-      → Line l number predicate → is-unset (getD ps number none .range) ≡ true → Lines (set ps number predicate) ls qs → Lines ps (l ∷ ls) qs
+      → PredicateLine l number predicate → is-unset (getD ps number unset-predicate .range) ≡ true → PredicateLines (set ps number predicate) ls qs → PredicateLines ps (l ∷ ls) qs

@@ -1,3 +1,3 @@
--- The form of predicate lines (`Form`), and their reading from a place on (`Lines`).
+-- The form of predicate lines (`Form`), and their reading from a place on (`Reading`).
 pub mod Form
-pub mod Lines
+pub mod Reading

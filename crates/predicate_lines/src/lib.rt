@@ -9,7 +9,7 @@ ghost use Prim.Native.Nat.{_<_};
 ghost use Rattle.text.specs.Bytes.{bytes};
 ghost use Rattle.text.specs.Mark.{key-at};
 ghost use Rattle.predicate_lines.specs.Form.{range-of, unset};
-ghost use Rattle.predicate_lines.specs.Lines.{end-at, line-at, broken-set, stored-in, with-line, lines-from, lines-at};
+ghost use Rattle.predicate_lines.specs.Reading.{end-at, line-at, broken-set, stored-in, with-line, lines-from, lines-at};
 
 // An end of a range; a missing one is written `*`.
 pub enum Bound {

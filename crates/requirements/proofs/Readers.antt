@@ -10,10 +10,12 @@ use Rattle.text.specs.Mark.{mark-at, after-mark}
 use Rattle.text.specs.declared.Mark.{Mark}
 use Rattle.text.specs.declared.Mark.the-variants.{Next, Bad as Mark·Bad}
 use Rattle.text.proofs.Answers.{mark-is}
+use Rattle.tables.specs.Tree.{NODES}
 use Rattle.grammar.specs.declared.Span.{Span}
 use Rattle.grammar.specs.declared.Operator.{Operator}
 use Rattle.grammar.specs.declared.Operator.the-variants.{Absent, Over, Bad as Operator·Bad}
-use Rattle.grammar.specs.Operators.{letter, not-kind, binders, prefixes}
+use Rattle.tables.specs.Kind.{not-kind}
+use Rattle.grammar.specs.Operators.{letter, binders, prefixes}
 use Rattle.grammar.specs.Tree.{Tree, two, size, no-span}
 use Rattle.grammar.specs.Reading.{Reading, got, none, on-got, Reads, leaf-at, prefix-at, binder-at, timed-among, more-turns, more, bind-by, closing, unary-by, unary-at, bind-at, conjunction-at, alternative-at}
 use Rattle.grammar.proofs.Windows.{timed-is}
@@ -64,7 +66,7 @@ conjunction-onward d = sound-onward (conjunction-at d) (conjunction-at-sound d)
 -- ---- bind, by what follows its unary
 
 -- a refused unary refuses the bind
-bind-big : (o : ℕ) (part : Reads) (s : List ℕ) (a : Tree) (n : ℕ) → 64 < o + size a → (x : Operator) → step-of o (bind-by part s a n x) ≡ Refused
+bind-big : (o : ℕ) (part : Reads) (s : List ℕ) (a : Tree) (n : ℕ) → NODES < o + size a → (x : Operator) → step-of o (bind-by part s a n x) ≡ Refused
 unfolding bind-by size
 bind-big o part s a n h Absent = step-big o a n h
 bind-big o part s a n h (Over k r m) = go (part s m)
@@ -118,7 +120,7 @@ module _ (o d : ℕ) (s : List ℕ) (at : ℕ) (p : Step) (before mid : List ℕ
 -- ---- the turns of `&` and `|`
 
 -- trees only grow
-turns-big : (o f : ℕ) (part : Reads) (k : ℕ) (s : List ℕ) (a : Tree) (n : ℕ) → 64 < o + size a → step-of o (more-turns f part k s (got a n)) ≡ Refused
+turns-big : (o f : ℕ) (part : Reads) (k : ℕ) (s : List ℕ) (a : Tree) (n : ℕ) → NODES < o + size a → step-of o (more-turns f part k s (got a n)) ≡ Refused
 unfolding more-turns size
 turns-big o zero part k s a n h = step-big o a n h
 turns-big o (suc f) part k s a n h = go (λ b e. turns-big o f part k s (two k no-span a b) e) (mark-at (letter k) s n)
@@ -127,12 +129,12 @@ turns-big o (suc f) part k s a n h = go (λ b e. turns-big o f part k s (two k n
     nothing zero = step-none o
     nothing (suc f) = step-none o
 
-    on : ((b : Tree) (e : ℕ) → 64 < o + (size a + size b + 1) → step-of o (more-turns f part k s (got (two k no-span a b) e)) ≡ Refused)
+    on : ((b : Tree) (e : ℕ) → NODES < o + (size a + size b + 1) → step-of o (more-turns f part k s (got (two k no-span a b) e)) ≡ Refused)
         → (x : Reading) → step-of o (more-turns f part k s (on-got x (λ b e. got (two k no-span a b) e))) ≡ Refused
     on ih (got b e) = ih b e (omega arith)
     on ih none = nothing f
 
-    go : ((b : Tree) (e : ℕ) → 64 < o + (size a + size b + 1) → step-of o (more-turns f part k s (got (two k no-span a b) e)) ≡ Refused)
+    go : ((b : Tree) (e : ℕ) → NODES < o + (size a + size b + 1) → step-of o (more-turns f part k s (got (two k no-span a b) e)) ≡ Refused)
         → (m : Mark) → step-of o (after-mark m (λ i. more-turns f part k s (on-got (part s i) (λ b e. got (two k no-span a b) e))) (got a n)) ≡ Refused
     go ih (Next m) = on ih (part s m)
     go ih Mark·Bad = step-big o a n h

@@ -1,24 +1,27 @@
 -- A table that is read obeys every rule of a table: each production gives its node's numbers what the kind asks for, and nodes stand left, right, parent.
 -- Assumes nothing.
 use mathlib.Core.Path.{_≡_, refl, sym, ap, subst, _∙_}
-use mathlib.Core.List.{List, [], _∷_, _++_, List·Memᴰ·not-nil, List·Memᴰ·cases-cons}
-use mathlib.Core.Logic.{_⊎_, inl, inr}
+use mathlib.Core.List.{List, [], _∷_, _++_}
+use mathlib.Core.Bool.{Bool, true, false, _&&_}
+use mathlib.Core.Logic.{inl, inr}
 use Prim.Native.Nat.{ℕ, zero, suc, _+_, _-_, _≤_, _<_}
 use native.Mathlib.Nat.{zero-add, add-zero}
 use native.Mathlib.Omega.{arith}
 use lib.ListN.{length, getD, replicate, length-append, List·getD-append}
 use lib.Seq.{getD-append-add}
-use lib.Dec.{T}
-use Rattle.text.proofs.Tests.{by-le}
+use lib.Dec.{T, ltb}
+use borrow.Author.Tests.{ltb-true}
+use Rattle.text.proofs.Tests.{false-true, both, by-le}
 use Rattle.tables.specs.declared.Node.{Node}
-use Rattle.tables.specs.Kind.{kinds, operator}
-use Rattle.tables.specs.Tree.{node-at}
-use Rattle.tables.specs.Rules.{Use, child, unused, left-use, right-use, timed, Used, WindowRules, EndsRules, NodeRules, TableRules, table-obeys}
+use Rattle.tables.specs.Kind.{kinds, operator, true-kind, predicate-kind}
+use Rattle.tables.specs.Tree.{node-at, NODES}
+use Rattle.tables.specs.Rules.{Use, child, number, unused, is-child, left-use, right-use, timed, Used, WindowRules, EndsRules, NodeRules, TableRules, table-obeys}
 use Rattle.tables.proofs.Rules.{table-passes}
 use Rattle.grammar.specs.declared.Span.{Span}
-use Rattle.grammar.specs.Operators.{true-kind, predicate-kind, binders, prefixes, _∈_}
+use Rattle.grammar.specs.Operators.{binders, prefixes, _∈_}
 use Rattle.grammar.specs.Tree.{Tree, truth, predicate, one, two, size, no-span}
 use Rattle.grammar.specs.Grammar.{WindowText, closed, endless, Part, Derives, alternative-one, alternative-more, conjunction-one, conjunction-more, bind-one, bind-two, unary-not, unary-timed, unary-true, unary-predicate, unary-group, Requires}
+use Rattle.grammar.proofs.Letters.{all-in}
 use Rattle.building.specs.Nodes.{node, empty-node, nodes-of, table-of}
 use Rattle.building.specs.Order.{NodeOrdered, LeftRightParent}
 use Rattle.building.proofs.Cells.{size-some, length-nodes}
@@ -43,28 +46,42 @@ window-ends : {x : List ℕ} {r : Span} → WindowText x r → WindowRules (r .l
 window-ends (closed a b l m) = record { low = omega arith; high = inr (m, l) }
 window-ends (endless a l) = record { low = l; high = inl refl }
 
-among-two : (P : ℕ → Type 0) {k : ℕ} (i j : ℕ) → P i → P j → k ∈ (i ∷ j ∷ []) → P k
-among-two P {k} i j p q m = go (List·Memᴰ·cases-cons m)
-  where
-    last : (k ≡ j) ⊎ (k ∈ []) → P k
-    last (inl e) = subst P (sym e) q
-    last (inr n) = absurd (List·Memᴰ·not-nil n)
+-- whether a kind has a window, a child on the left, and on the right what a test of uses asks for
+suits : (Use → Bool) → ℕ → Bool
+suits right k = ltb k (length kinds) && (is-child (left-use (operator k)) && (right (right-use (operator k)) && timed (operator k)))
 
-    go : (k ≡ i) ⊎ (k ∈ (j ∷ [])) → P k
-    go (inl e) = subst P (sym e) p
-    go (inr n) = last (List·Memᴰ·cases-cons n)
+is-unused : Use → Bool
+is-unused child = false
+is-unused number = false
+is-unused unused = true
 
+child-is : (u : Use) → is-child u ≡ true → u ≡ child
+child-is child e = refl
+child-is number e = absurd (false-true e)
+child-is unused e = absurd (false-true e)
+
+unused-is : (u : Use) → is-unused u ≡ true → u ≡ unused
+unfolding is-unused
+unused-is child e = absurd (false-true e)
+unused-is number e = absurd (false-true e)
+unused-is unused e = refl
+
+suits-rules : (test : Use → Bool) (right : Use) → ((u : Use) → test u ≡ true → u ≡ right) → (k : ℕ) {w : Span} → suits test k ≡ true → WindowRules (w .lo) (w .hi) → KindRules k right w
+unfolding suits
+suits-rules test right is k e r =
+    let a = both (ltb k (length kinds)) _ e in
+    let b = both (is-child (left-use (operator k))) _ (a .1) in
+    let c = both (test (right-use (operator k))) (timed (operator k)) (b .1) in
+    record { known = ltb-true k (length kinds) (a .0); lefts = child-is _ (b .0); rights = is _ (c .0); ends = rw (c .1) r }
+
+-- the tests of all binders and of all prefixes are computed
 binder-rules : {k : ℕ} {w : Span} → k ∈ binders → WindowRules (w .lo) (w .hi) → KindRules k child w
-binder-rules {k} {w} m r =
-    among-two (λ j. KindRules j child w) 5 6
-    (record { known = omega arith; lefts = refl; rights = refl; ends = r })
-    (record { known = omega arith; lefts = refl; rights = refl; ends = r }) m
+unfolding suits
+binder-rules {k} m r = suits-rules is-child child child-is k (all-in (suits is-child) m refl) r
 
 prefix-rules : {k : ℕ} {w : Span} → k ∈ prefixes → WindowRules (w .lo) (w .hi) → KindRules k unused w
-prefix-rules {k} {w} m r =
-    among-two (λ j. KindRules j unused w) 7 8
-    (record { known = omega arith; lefts = refl; rights = refl; ends = r })
-    (record { known = omega arith; lefts = refl; rights = refl; ends = r }) m
+unfolding suits is-unused
+prefix-rules {k} m r = suits-rules is-unused unused unused-is k (all-in (suits is-unused) m refl) r
 
 -- ---- every production keeps the rules
 
@@ -161,7 +178,7 @@ made-ordered o (two k w a b) p =
 -- what holds of every node of a tree holds of every node of its table
 table-each : (P : Node → ℕ → Type 0) (a : Tree) → Made P 0 a → (k : ℕ) → k < size a → P (node-at (table-of a .nodes) k) k
 table-each P a m k h =
-    rw (List·getD-append (nodes-of 0 a) (replicate (64 - size a) empty-node) empty-node k (rw (length-nodes 0 a) h)) (rw zero-add at (each-node P 0 a m k (rw (length-nodes 0 a) h)))
+    rw (List·getD-append (nodes-of 0 a) (replicate (NODES - size a) empty-node) empty-node k (rw (length-nodes 0 a) h)) (rw zero-add at (each-node P 0 a m k (rw (length-nodes 0 a) h)))
 
 -- the table of a requirement obeys every rule of a table
 pub required-rules : (s : List ℕ) (a : Tree) → Requires s a → TableRules (table-of a)

@@ -9,12 +9,11 @@ use lib.ListN.{length, getD, replicate, length-append, List·getD-append}
 use lib.Seq.{getD-append-add}
 use Rattle.logic.specs.Formula.{Formula, negation}
 use Rattle.tables.specs.declared.Node.{Node}
-use Rattle.tables.specs.Kind.{Operator, constant, named, negated, unknown, joined, binary, unary, operator}
-use Rattle.tables.specs.Tree.{formula, node-at, tree, root}
+use Rattle.tables.specs.Kind.{Operator, constant, named, negated, unknown, joined, binary, unary, operator, true-kind, predicate-kind}
+use Rattle.tables.specs.Tree.{formula, node-at, tree, root, NODES}
 use Rattle.tables.specs.Rules.{Use, child, unused, left-use, right-use, NodeRules}
 use Rattle.tables.proofs.Trees.{tree-node}
 use Rattle.grammar.specs.declared.Span.{Span}
-use Rattle.grammar.specs.Operators.{true-kind, predicate-kind}
 use Rattle.grammar.specs.Tree.{Tree, truth, predicate, one, two, size, no-span}
 use Rattle.grammar.specs.Grammar.{Requires}
 use Rattle.building.specs.Nodes.{node, empty-node, nodes-of, table-of}
@@ -92,7 +91,7 @@ unfolding Stand
 root-says s a r = ap (λ (k : ℕ). tree (table-of a .nodes) (k - 1)) (sym (zero-add (size a))) ∙ tree-says (table-of a .nodes) 0 a (derives-proper (r .derives)) stand
   where
     stand : Stand (table-of a .nodes) 0 (nodes-of 0 a)
-    stand j l = ap (node-at (table-of a .nodes)) (zero-add j) ∙ List·getD-append (nodes-of 0 a) (replicate (64 - size a) empty-node) empty-node j l
+    stand j l = ap (node-at (table-of a .nodes)) (zero-add j) ∙ List·getD-append (nodes-of 0 a) (replicate (NODES - size a) empty-node) empty-node j l
 
 -- so the table that the reader answers says what the grammar reads
 pub answer-says : (s : List ℕ) → requirement-of s .refusal ≡ 0 → (a : Tree) × Requires s a × (root (requirement-of s .table) ≡ says a)

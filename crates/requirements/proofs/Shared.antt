@@ -13,6 +13,7 @@ use Rattle.text.proofs.Tests.{by-le}
 use Rattle.tables.specs.declared.Node.{Node}
 use Rattle.tables.specs.Kind.{operator}
 use Rattle.tables.specs.Rules.{child, left-use}
+use Rattle.tables.specs.Tree.{NODES}
 use Rattle.grammar.specs.Tree.{Tree, truth, predicate, one, two, size}
 use Rattle.grammar.specs.Grammar.{Requires}
 use Rattle.building.specs.Nodes.{node, empty-node, nodes-of, table-of}
@@ -89,6 +90,6 @@ none-shared s a r = record { once = λ c h. at c ∙ on c .inner (omega arith) (
     on : (c : ℕ) → Once 0 (size a) c (parents (nodes-of 0 a) c)
     on c = tree-once 0 a (derives-proper (r .derives)) c
 
-    at : (c : ℕ) → parents (take (size a) (nodes-of 0 a ++ replicate (64 - size a) empty-node)) c ≡ parents (nodes-of 0 a) c
-    at c = ap (λ (k : ℕ). parents (take k (nodes-of 0 a ++ replicate (64 - size a) empty-node)) c) (sym (length-nodes 0 a))
-        ∙ ap (λ (xs : List Node). parents xs c) (take-append-seam (nodes-of 0 a) (replicate (64 - size a) empty-node))
+    at : (c : ℕ) → parents (take (size a) (nodes-of 0 a ++ replicate (NODES - size a) empty-node)) c ≡ parents (nodes-of 0 a) c
+    at c = ap (λ (k : ℕ). parents (take k (nodes-of 0 a ++ replicate (NODES - size a) empty-node)) c) (sym (length-nodes 0 a))
+        ∙ ap (λ (xs : List Node). parents xs c) (take-append-seam (nodes-of 0 a) (replicate (NODES - size a) empty-node))

@@ -12,6 +12,7 @@ use borrow.Author.Tests.{eq-eqb, ne-eqb, le-leb, lt-leb}
 use Rattle.tables.specs.declared.Node.{Node}
 use Rattle.tables.specs.declared.Table.{Table}
 use Rattle.text.proofs.Tests.{by-test}
+use Rattle.tables.specs.Tree.{NODES}
 use Rattle.grammar.specs.Tree.{size}
 use Rattle.grammar.specs.Reading.{Reading, got, none, alternative-at, whole, requirement-tree}
 use Rattle.building.specs.declared.Step.{Step}
@@ -30,15 +31,15 @@ module _ (s : List ℕ) (p : Step) (cells : List ℕ) (u : Done 0 (alternative-a
     where
       go : (x : Reading) → step-of 0 x ≡ Refused → refused ≡ answer-of (whole s x)
       go (got a n) h =
-          let l : 64 < 0 + size a = refused-big 0 a n h in
-          rw (lt-leb (size a) 64 (omega arith)) (by-test (eqb n (length s)) (λ e. rw e) (λ e. rw e))
+          let l : NODES < 0 + size a = refused-big 0 a n h in
+          rw (lt-leb (size a) NODES (omega arith)) (by-test (eqb n (length s)) (λ e. rw e) (λ e. rw e))
       go none h = refl
 
   module _ (e r f : ℕ) (q : p ≡ Read e r f) where
     whole-read : ReadIs 0 (alternative-at 32 s 0) e r f
     whole-read = read-is 0 (alternative-at 32 s 0) e r f (sym (u .step) ∙ q)
 
-    whole-fits : f ≤ 64
+    whole-fits : f ≤ NODES
     whole-fits = let i = whole-read in let a = i .fits in let b = i .free in omega arith
 
     pub whole-part : (e ≡ length s → ⊥) → refused ≡ requirement-of s
@@ -53,11 +54,11 @@ module _ (s : List ℕ) (p : Step) (cells : List ℕ) (u : Done 0 (alternative-a
         let c : cells ≡ sets zeros 0 (cells-of (nodes-of 0 a)) =
         cells-small 0 a e p zeros cells (done-as 0 (alternative-at 32 s 0) (got a e) p zeros cells (i .reading) u) (i .fits) in
         let n : f ≡ length (nodes-of 0 a) = i .free ∙ (zero-add (size a) ∙ sym (length-nodes 0 a)) in
-        let l : length (nodes-of 0 a) ≤ 64 = rw (length-nodes 0 a) (let g = i .fits in omega arith) in
-        let ns : nodes-from cells f ≡ nodes-of 0 a ++ replicate (64 - size a) empty-node =
+        let l : length (nodes-of 0 a) ≤ NODES = rw (length-nodes 0 a) (let g = i .fits in omega arith) in
+        let ns : nodes-from cells f ≡ nodes-of 0 a ++ replicate (NODES - size a) empty-node =
         ap (λ (x : List ℕ). nodes-from x f) c
-        ∙ (ap (nodes-from (sets zeros 0 (cells-of (nodes-of 0 a)))) n ∙ (table-back (nodes-of 0 a) l ∙ ap (λ (m : ℕ). nodes-of 0 a ++ replicate (64 - m) empty-node) (length-nodes 0 a))) in
-        rw (le-leb f 64 whole-fits) (same (nodes-from cells f) (nodes-of 0 a ++ replicate (64 - size a) empty-node) f (size a) ns (i .free ∙ zero-add (size a)))
+        ∙ (ap (nodes-from (sets zeros 0 (cells-of (nodes-of 0 a)))) n ∙ (table-back (nodes-of 0 a) l ∙ ap (λ (m : ℕ). nodes-of 0 a ++ replicate (NODES - m) empty-node) (length-nodes 0 a))) in
+        rw (le-leb f NODES whole-fits) (same (nodes-from cells f) (nodes-of 0 a ++ replicate (NODES - size a) empty-node) f (size a) ns (i .free ∙ zero-add (size a)))
       where
         same : (xs ys : List Node) (m n : ℕ) → xs ≡ ys → m ≡ n → _≡_ {A = Table} (record { nodes = xs; count = m }) (record { nodes = ys; count = n })
         same xs ys m n g h = rw (g, h)
@@ -66,7 +67,7 @@ module _ (s : List ℕ) (p : Step) (cells : List ℕ) (u : Done 0 (alternative-a
     unfolding requirement-tree
     whole-read-all h =
         let i = whole-read in
-        rw (i .reading, eq-eqb e (length s) h, le-leb (size (i .tree)) 64 (let g = i .fits in omega arith)) (ap answer whole-table)
+        rw (i .reading, eq-eqb e (length s) h, le-leb (size (i .tree)) NODES (let g = i .fits in omega arith)) (ap answer whole-table)
       where
         answer : Table → Requirement
         answer t = record { refusal = 0; table = t }

@@ -3,8 +3,9 @@ use Prim.Native.Nat.{ℕ, zero, suc}
 use Prim.Native.String.{String}
 use mathlib.Core.List.{List, [], _∷_, _++_}
 use Rattle.text.specs.Bytes.{bytes}
-use Rattle.grammar.specs.Operators.{not-kind, and-kind, or-kind}
-use Rattle.grammar.specs.Tree.{Tree, truth, predicate, one, two, span, no-span, no-end}
+use Rattle.tables.specs.Kind.{not-kind, and-kind, or-kind, until-kind, release-kind, eventually-kind, always-kind}
+use Rattle.tables.specs.Tree.{NO-END}
+use Rattle.grammar.specs.Tree.{Tree, truth, predicate, one, two, span, no-span}
 use Rattle.requirements.specs.declared.Requirement.{Requirement}
 use Rattle.requirements.specs.Requirement.{accepted, refused}
 
@@ -12,8 +13,8 @@ pub record Example : Type 0 where
   pub text : List ℕ
   pub answer : Requirement
 
-abbrev pub says : List ℕ → Tree → Example
-says t a = record { text = t; answer = accepted a }
+abbrev pub reads-as : List ℕ → Tree → Example
+reads-as t a = record { text = t; answer = accepted a }
 
 abbrev pub is-none : List ℕ → Example
 is-none t = record { text = t; answer = refused }
@@ -37,16 +38,16 @@ abbrev pub or : Tree → Tree → Tree
 or a b = two or-kind no-span a b
 
 abbrev pub until : ℕ → ℕ → Tree → Tree → Tree
-until lo hi a b = two 5 (span lo hi) a b
+until lo hi a b = two until-kind (span lo hi) a b
 
 abbrev pub release : ℕ → ℕ → Tree → Tree → Tree
-release lo hi a b = two 6 (span lo hi) a b
+release lo hi a b = two release-kind (span lo hi) a b
 
 abbrev pub eventually : ℕ → ℕ → Tree → Tree
-eventually lo hi a = one 7 (span lo hi) a
+eventually lo hi a = one eventually-kind (span lo hi) a
 
 abbrev pub always : ℕ → ℕ → Tree → Tree
-always lo hi a = one 8 (span lo hi) a
+always lo hi a = one always-kind (span lo hi) a
 
 -- a tree under n times `not`, and n times `and T` after it
 abbrev pub nots : ℕ → Tree → Tree
@@ -60,17 +61,17 @@ ands (suc n) a = ands n (and a truth)
 abbrev pub examples : List Example
 examples =
     -- `&` before `|`, U and R before `&`, and one unary before each of them
-    says (bytes "p0|p1&p2") (or (p 0) (and (p 1) (p 2)))
-    ∷ says (bytes "p0&p1U[0,1]p2") (and (p 0) (until 0 1 (p 1) (p 2)))
-    ∷ says (bytes "!p0U[0,1]p1") (until 0 1 (no (p 0)) (p 1))
-    ∷ says (bytes "G[0,1]p0R[2,*]p1") (release 2 no-end (always 0 1 (p 0)) (p 1))
+    reads-as (bytes "p0|p1&p2") (or (p 0) (and (p 1) (p 2)))
+    ∷ reads-as (bytes "p0&p1U[0,1]p2") (and (p 0) (until 0 1 (p 1) (p 2)))
+    ∷ reads-as (bytes "!p0U[0,1]p1") (until 0 1 (no (p 0)) (p 1))
+    ∷ reads-as (bytes "G[0,1]p0R[2,*]p1") (release 2 NO-END (always 0 1 (p 0)) (p 1))
     -- grouped to the left, unless parentheses say otherwise; a bind is not repeated
-    ∷ says (bytes "p0|p1|p2") (or (or (p 0) (p 1)) (p 2))
-    ∷ says (bytes "p0&(p1&p2)") (and (p 0) (and (p 1) (p 2)))
+    ∷ reads-as (bytes "p0|p1|p2") (or (or (p 0) (p 1)) (p 2))
+    ∷ reads-as (bytes "p0&(p1&p2)") (and (p 0) (and (p 1) (p 2)))
     ∷ is-none (bytes "p0U[0,1]p1U[0,1]p2")
-    ∷ says (bytes "p0U[0,1](p1U[0,1]p2)") (until 0 1 (p 0) (until 0 1 (p 1) (p 2)))
+    ∷ reads-as (bytes "p0U[0,1](p1U[0,1]p2)") (until 0 1 (p 0) (until 0 1 (p 1) (p 2)))
     -- numbers
-    ∷ says (bytes "F[0,1000000000]p15") (eventually 0 1_000_000_000 (p 15))
+    ∷ reads-as (bytes "F[0,1000000000]p15") (eventually 0 1_000_000_000 (p 15))
     ∷ is-none (bytes "p16")
     ∷ is-none (bytes "p01")
     ∷ is-none (bytes "G[0,4294967295]p0")
@@ -84,11 +85,11 @@ examples =
     ∷ is-none (bytes "(p0")
     ∷ is-none (bytes "p0|")
     -- 32 enclosings and 33, of both sorts
-    ∷ says (times 32 "(" ++ (bytes "T" ++ times 32 ")")) truth
+    ∷ reads-as (times 32 "(" ++ (bytes "T" ++ times 32 ")")) truth
     ∷ is-none (times 33 "(" ++ (bytes "T" ++ times 33 ")"))
-    ∷ says (times 32 "!" ++ bytes "T") (nots 32 truth)
+    ∷ reads-as (times 32 "!" ++ bytes "T") (nots 32 truth)
     ∷ is-none (times 33 "!" ++ bytes "T")
     -- 64 nodes and 65
-    ∷ says (bytes "!T" ++ times 31 "&T") (ands 31 (no truth))
+    ∷ reads-as (bytes "!T" ++ times 31 "&T") (ands 31 (no truth))
     ∷ is-none (bytes "!!T" ++ times 31 "&T")
     ∷ []

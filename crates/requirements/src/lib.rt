@@ -89,11 +89,11 @@ fn read_conjunction(
         let Step::Read(end, root, after) = p else {
             return Step::Refused;
         };
-        let Mark::Next(next) = operators::read_letter(s, end, operators::AND) else {
+        let Mark::Next(next) = operators::read_letter(s, end, tables::AND) else {
             return p;
         };
         p = building::join(
-            operators::AND,
+            tables::AND,
             Span { lo: 0, hi: 0 },
             root,
             read_bind(s, next, depth, after, cells),
@@ -117,11 +117,11 @@ fn read_alternative(
         let Step::Read(end, root, after) = p else {
             return Step::Refused;
         };
-        let Mark::Next(next) = operators::read_letter(s, end, operators::OR) else {
+        let Mark::Next(next) = operators::read_letter(s, end, tables::OR) else {
             return p;
         };
         p = building::join(
-            operators::OR,
+            tables::OR,
             Span { lo: 0, hi: 0 },
             root,
             read_conjunction(s, next, depth, after, cells),

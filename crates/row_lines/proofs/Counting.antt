@@ -6,17 +6,17 @@ use Prim.Native.Nat.{ℕ, suc, _+_, _-_, _≤_, _<_}
 use native.Mathlib.Nat.{zero-add, add-zero}
 use native.Mathlib.Omega.{arith}
 use lib.ListN.{length}
-use Rattle.row_lines.specs.declared.Row.{Row}
-use Rattle.row_lines.specs.declared.Row.the-variants.{Measured, Filled, Bad}
+use Rattle.row_lines.specs.declared.RowLine.{RowLine}
+use Rattle.row_lines.specs.declared.RowLine.the-variants.{Measured, Filled, Bad}
 use Rattle.row_lines.specs.declared.Counts.{Counts}
-use Rattle.row_lines.specs.declared.Counts.the-variants.{Rows as Counts·Rows, Bad as Counts·Bad}
+use Rattle.row_lines.specs.declared.Counts.the-variants.{Found, Bad as Counts·Bad}
 use Rattle.row_lines.specs.Form.{Sample}
-use Rattle.row_lines.specs.Rows.{row-at, Listing, listed, broken, also-measured, also-filled, sample-at, rows-from, rows-of, counts}
+use Rattle.row_lines.specs.Reading.{row-at, Listing, listed, broken, also-measured, also-filled, sample-at, rows-from, rows-of, counts}
 use Rattle.row_lines.proofs.Exact.{row-past, rows-over, rows-turn}
 
 -- the counts after m measured and k filled rows
 abbrev tally : ℕ → ℕ → Listing → Counts
-tally m k (listed xs f) = Counts·Rows (m + length xs) (k + f)
+tally m k (listed xs f) = Found (m + length xs) (k + f)
 tally m k broken = Counts·Bad
 
 tally-none : (x : Listing) → tally 0 0 x ≡ counts x
@@ -42,12 +42,12 @@ pub count-start : (ch : ℕ) (s : List ℕ) → Counting ch s 0 0 0
 count-start ch s = record { fuel = length s; enough = omega arith; few = omega arith; same = tally-none (rows-of ch s) }
 
 module _ (ch : ℕ) (s : List ℕ) (at m k : ℕ) (i : Counting ch s at m k) where
-  pub count-over : length s ≤ at → Counts·Rows m k ≡ counts (rows-of ch s)
+  pub count-over : length s ≤ at → Found m k ≡ counts (rows-of ch s)
   count-over l =
-      let e : Counts·Rows (m + 0) (k + 0) ≡ counts (rows-of ch s) = rw (rows-over (i .fuel) ch s at l) at (i .same) in
+      let e : Found (m + 0) (k + 0) ≡ counts (rows-of ch s) = rw (rows-over (i .fuel) ch s at l) at (i .same) in
       simp add-zero at e
 
-  module _ (x : Row) (l : at < length s) (e : x ≡ row-at s at ch) where
+  module _ (x : RowLine) (l : at < length s) (e : x ≡ row-at s at ch) where
     pub count-bad : x ≡ Bad → Counts·Bad ≡ counts (rows-of ch s)
     count-bad h = rw (rows-turn (i .fuel) ch s at Bad (i .enough) l (sym h ∙ e)) at (i .same)
 

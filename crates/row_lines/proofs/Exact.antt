@@ -12,11 +12,11 @@ use borrow.Author.Tests.{leb-true, le-leb, lt-leb}
 use Rattle.text.specs.Bytes.{bytes}
 use Rattle.text.proofs.Tests.{false-true, test-case}
 use Rattle.text.proofs.Places.{Between, place-inside}
-use Rattle.row_lines.specs.declared.Row.{Row}
-use Rattle.row_lines.specs.declared.Row.the-variants.{Measured, Filled, Bad}
-use Rattle.row_lines.specs.Form.{lines, Sample, Rows, none, measured, filled, AreRows}
-use Rattle.row_lines.specs.Rows.{row-at, after-row, Listing, listed, broken, is-broken, also-measured, also-filled, sample-at, rows-from, rows-of}
-use Rattle.row_lines.specs.Same.{Alike, none as Alike·none, same, filled as Alike·filled, SameButFilled}
+use Rattle.row_lines.specs.declared.RowLine.{RowLine}
+use Rattle.row_lines.specs.declared.RowLine.the-variants.{Measured, Filled, Bad}
+use Rattle.row_lines.specs.Form.{lines, Sample, Rows, no-row, measured, filled, AreRows}
+use Rattle.row_lines.specs.Reading.{row-at, after-row, Listing, listed, broken, is-broken, also-measured, also-filled, sample-at, rows-from, rows-of}
+use Rattle.row_lines.specs.Same.{Alike, no-line, same, filled as Alike·filled, SameButFilled}
 use Rattle.row_lines.proofs.Written.{RowHere, row-here, row-taken}
 use Rattle.row_lines.proofs.Lines.{Fed, fed-some, row-fed, lines-fed, lines-split, lines-none, one-width, one-source}
 
@@ -27,18 +27,18 @@ fed-past {s} {l} {at} {n} b f =
     let e : length l ≡ length (f .body) + 1 = ap length (f .ends) ∙ length-append (f .body) (bytes "\n") in
     omega (arith, b .end)
 
-abbrev pub Past : ℕ → Row → Type 0
+abbrev pub Past : ℕ → RowLine → Type 0
 Past at (Measured t a n) = at < n
 Past at (Filled n) = at < n
 Past at Bad = Unit
 
-past-of : (ch : ℕ) (s : List ℕ) (at : ℕ) (x : Row) → RowHere ch s at x → Past at x
+past-of : (ch : ℕ) (s : List ℕ) (at : ℕ) (x : RowLine) → RowHere ch s at x → Past at x
 past-of ch s at (Measured t a n) h = fed-past (h .1) (row-fed (h .2))
 past-of ch s at (Filled n) h = fed-past (h .3) (row-fed (h .4))
 past-of ch s at Bad h = tt
 
 -- the next line begins past this one's beginning
-pub row-past : (ch : ℕ) (s : List ℕ) (at : ℕ) (x : Row) → x ≡ row-at s at ch → Past at x
+pub row-past : (ch : ℕ) (s : List ℕ) (at : ℕ) (x : RowLine) → x ≡ row-at s at ch → Past at x
 row-past ch s at x e = rw e (past-of ch s at (row-at s at ch) (row-here ch s at))
 
 -- ---- the rows from a place on, one by one
@@ -52,13 +52,13 @@ module _ (f ch : ℕ) (s : List ℕ) (at : ℕ) where
       go zero = rw (le-leb _ _ l)
       go (suc k) = rw (le-leb _ _ l)
 
-rows-suc : (f ch : ℕ) (s : List ℕ) (at : ℕ) (x : Row) → at < length s → x ≡ row-at s at ch
+rows-suc : (f ch : ℕ) (s : List ℕ) (at : ℕ) (x : RowLine) → at < length s → x ≡ row-at s at ch
     → rows-from (suc f) ch s at ≡ after-row x (λ t a n. also-measured (sample-at s ch t a) (rows-from f ch s n)) (λ n. also-filled (rows-from f ch s n)) broken
 unfolding rows-from
 rows-suc f ch s at x l e = rw (lt-leb _ _ l, e)
 
 -- f lines are enough from a place on
-pub rows-turn : (f ch : ℕ) (s : List ℕ) (at : ℕ) (x : Row) → length s ≤ at + f → at < length s → x ≡ row-at s at ch
+pub rows-turn : (f ch : ℕ) (s : List ℕ) (at : ℕ) (x : RowLine) → length s ≤ at + f → at < length s → x ≡ row-at s at ch
     → rows-from f ch s at ≡ after-row x (λ t a n. also-measured (sample-at s ch t a) (rows-from (f - 1) ch s n)) (λ n. also-filled (rows-from (f - 1) ch s n)) broken
 rows-turn f ch s at x h l e = let g : f ≡ suc (f - 1) = omega arith in ap (λ (k : ℕ). rows-from k ch s at) g ∙ rows-suc (f - 1) ch s at x l e
 
@@ -80,7 +80,7 @@ filled-here : (ch : ℕ) (s : List ℕ) (at n : ℕ) (y : Listing) → RowHere c
 filled-here ch s at n (listed xs k) h r = rw (fed-lines (h .3) (row-fed (h .4))) (filled (h .4) r)
 filled-here ch s at n broken h r = tt
 
-turn-here : (f ch : ℕ) (s : List ℕ) (at : ℕ) (x : Row) → RowHere ch s at x → ((n : ℕ) → RowsHere ch s n (rows-from f ch s n))
+turn-here : (f ch : ℕ) (s : List ℕ) (at : ℕ) (x : RowLine) → RowHere ch s at x → ((n : ℕ) → RowsHere ch s n (rows-from f ch s n))
     → RowsHere ch s at (after-row x (λ t a n. also-measured (sample-at s ch t a) (rows-from f ch s n)) (λ n. also-filled (rows-from f ch s n)) broken)
 turn-here f ch s at (Measured t a n) h more = measured-here ch s at t a n (rows-from f ch s n) h (more n)
 turn-here f ch s at (Filled n) h more = filled-here ch s at n (rows-from f ch s n) h (more n)
@@ -88,7 +88,7 @@ turn-here f ch s at Bad h more = tt
 
 end-here : (ch : ℕ) (s : List ℕ) (at : ℕ) → length s ≤ at → RowsHere ch s at (listed [] 0)
 unfolding lines
-end-here ch s at l = rw (drop-of-length-le s l) none
+end-here ch s at l = rw (drop-of-length-le s l) no-row
 
 rows-here : (f ch : ℕ) (s : List ℕ) (at : ℕ) → RowsHere ch s at (rows-from f ch s at)
 unfolding rows-from
@@ -105,7 +105,7 @@ starts s at l r e f = place-inside s at l r e (fed-some f)
 
 rows-taken : {ch k : ℕ} {ls : List (List ℕ)} {xs : List Sample} → Rows ch ls xs k
     → (f : ℕ) (s : List ℕ) (at : ℕ) → length s ≤ at + f → lines (drop at s) ≡ ls → rows-from f ch s at ≡ listed xs k
-rows-taken {ch} none f s at h e =
+rows-taken {ch} no-row f s at h e =
     let g : 0 ≡ length s - at = sym (ap length (lines-none (drop at s) e)) ∙ length-drop at s in
     rows-over f ch s at (omega arith)
 rows-taken {ch} (measured {l} {ls} {t} {vs} {samples = xs} {filled = k} row rest) f s at h e =
@@ -149,12 +149,12 @@ rows-unbroken ch s r = rw (rows-exact ch s (r .0) (r .1) .1 (r .2))
 -- ---- filled rows reach nothing
 
 pub alike-sym : {ls ms : List (List ℕ)} → Alike ls ms → Alike ms ls
-alike-sym Alike·none = Alike·none
+alike-sym no-line = no-line
 alike-sym (same a) = same (alike-sym a)
 alike-sym (Alike·filled f g a) = Alike·filled g f (alike-sym a)
 
 pub alike-rows : {ch k : ℕ} {ls ms : List (List ℕ)} {xs : List Sample} → Alike ls ms → Rows ch ls xs k → Rows ch ms xs k
-alike-rows Alike·none r = r
+alike-rows no-line r = r
 alike-rows (same a) (measured row rest) = measured row (alike-rows a rest)
 alike-rows (same a) (filled row rest) = filled row (alike-rows a rest)
 alike-rows (Alike·filled f g a) (measured row rest) = absurd (one-source row f)

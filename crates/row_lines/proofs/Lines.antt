@@ -16,7 +16,7 @@ use Rattle.text.specs.Number.{is-digit}
 use Rattle.text.specs.Numeral.{Numeral, digit, longer, Signed, plain, minus}
 use Rattle.text.proofs.Tests.{by-test, false-true}
 use Rattle.text.proofs.Numerals.{numeral-begins}
-use Rattle.row_lines.specs.Form.{cut, lines, Values, none, next, source, Row}
+use Rattle.row_lines.specs.Form.{cut, lines, ValueFields, no-field, next, source, Row}
 
 -- how often a byte stands in a text
 unfoldable pub count : ℕ → List ℕ → ℕ
@@ -44,9 +44,9 @@ module _ (b : ℕ) (no-digit : is-digit b ≡ false) where
     signed-count (plain n l) = numeral-count n
     signed-count (minus n p l) = rw (no-minus, numeral-count n)
 
-    values-count : {c k : ℕ} {ws : List ℕ} {vs : List ℤ} → Values c k ws vs → count b ws ≡ k * count b (bytes " v=")
+    values-count : {c k : ℕ} {ws : List ℕ} {vs : List ℤ} → ValueFields c k ws vs → count b ws ≡ k * count b (bytes " v=")
     unfolding count
-    values-count none = sym (zero-mul (count b (bytes " v=")))
+    values-count no-field = sym (zero-mul (count b (bytes " v=")))
     values-count (next {c} {k} {n} {w} {ws} l num sg rest) =
         let h : count b ws ≡ k * count b (bytes " v=") = values-count rest in
         let e = numeral-count num in
@@ -66,7 +66,7 @@ module _ (b : ℕ) (no-digit : is-digit b ≡ false) where
     pub row-count : {ch t : ℕ} {l : List ℕ} {m : Bool} {vs : List ℤ} → Row ch l m t vs
         → count b l ≡ count b (bytes "t= src=") + count b (source m) + ch * count b (bytes " v=") + count b (bytes "\n")
     row-count {m} f =
-        ap (count b) (f .written)
+        ap (count b) (f .spelled)
         ∙ (count-append b (bytes "t=" ++ f .digits ++ bytes " src=" ++ source m ++ f .fields) (bytes "\n") ∙ ap (λ (x : ℕ). x + count b (bytes "\n")) (body-count f))
 
 -- ---- lines
@@ -146,7 +146,7 @@ lines-none (b ∷ s) h = absurd (go (eqb b 10) (lines s) h)
 
 pub row-fed : {ch t : ℕ} {l : List ℕ} {m : Bool} {vs : List ℤ} → Row ch l m t vs → Fed l
 unfolding count
-row-fed {ch} {m = m} f = record { body = bytes "t=" ++ f .digits ++ bytes " src=" ++ source m ++ f .fields; ends = f .written; clear = body-count 10 refl refl f ∙ go m }
+row-fed {ch} {m = m} f = record { body = bytes "t=" ++ f .digits ++ bytes " src=" ++ source m ++ f .fields; ends = f .spelled; clear = body-count 10 refl refl f ∙ go m }
   where
     go : (m : Bool) → count 10 (bytes "t= src=") + count 10 (source m) + ch * count 10 (bytes " v=") ≡ 0
     go true = omega arith

@@ -6,7 +6,7 @@ use Prim.Native.Nat.{ℕ, suc, _+_, _-_, _≤_, _<_}
 use native.Mathlib.Omega.{arith}
 use lib.IntN.{ℤ}
 use Rattle.text.specs.declared.signed.Field.the-variants.{Number as Signed·Number, Bad as Signed·Bad}
-use Rattle.row_lines.specs.Rows.{value-at, Values, read, missing, also, values-from, end-of}
+use Rattle.row_lines.specs.Reading.{value-at, ValuesAt, read, missing, also, values-from, end-of}
 
 module _ (k c : ℕ) (s : List ℕ) (at : ℕ) where
   pub values-over : k ≤ c → values-from (k - c) c s at ≡ read [] at
@@ -22,7 +22,7 @@ module _ (k c : ℕ) (s : List ℕ) (at : ℕ) where
   unfolding values-from
   values-next v n l h = let e : k - c ≡ suc (k - (c + 1)) = omega arith in rw (e, h)
 
-end-also : (v : ℤ) (x : Values) → end-of (also v x) ≡ end-of x
+end-also : (v : ℤ) (x : ValuesAt) → end-of (also v x) ≡ end-of x
 end-also v (read vs n) = refl
 end-also v missing = refl
 

@@ -10,8 +10,9 @@ use lib.Dec.{eqb}
 use Rattle.text.specs.Bytes.{bytes}
 use Rattle.text.specs.Number.{largest}
 use Rattle.text.specs.Numeral.{Numeral, Signed}
+use Rattle.recordings.specs.Accepted.{MOST-CHANNELS}
 
--- a text cut after each line feed; what follows the last one is a line too, which no form has
+-- a text cut after each line feed; what follows the last one is a line too, which is no row, since it lacks its line feed
 abbrev pub cut : ℕ → Bool → List (List ℕ) → List (List ℕ)
 cut b true ls = (b ∷ []) ∷ ls
 cut b false [] = (b ∷ []) ∷ []
@@ -27,10 +28,10 @@ size [] = 0
 size (l ∷ ls) = length l + size ls
 
 -- the fields ` v0=`, ` v1=` and so on: of k channels, from channel c on, whose number is written as any other
-pub data Values : ℕ → ℕ → List ℕ → List ℤ → Type 0 where
-  none : {c : ℕ} → Values c 0 [] []
-  next : {c k : ℕ} {n w ws : List ℕ} {v : ℤ} {vs : List ℤ} → c ≤ largest → Numeral n c → Signed w v → Values (c + 1) k ws vs
-      → Values c (suc k) (bytes " v" ++ n ++ bytes "=" ++ w ++ ws) (v ∷ vs)
+pub data ValueFields : ℕ → ℕ → List ℕ → List ℤ → Type 0 where
+  no-field : {c : ℕ} → ValueFields c 0 [] []
+  next : {c k : ℕ} {n w ws : List ℕ} {v : ℤ} {vs : List ℤ} → c ≤ largest → Numeral n c → Signed w v → ValueFields (c + 1) k ws vs
+      → ValueFields c (suc k) (bytes " v" ++ n ++ bytes "=" ++ w ++ ws) (v ∷ vs)
 
 -- `src` is `m` (measured) or `f` (filled)
 abbrev pub source : Bool → List ℕ
@@ -43,8 +44,8 @@ pub record Row (channels : ℕ) (line : List ℕ) (measured : Bool) (time : ℕ)
   pub fields : List ℕ
   pub numeral : Numeral digits time
   pub bound : time ≤ largest
-  pub valued : Values 0 channels fields values
-  pub written : line ≡ bytes "t=" ++ digits ++ bytes " src=" ++ source measured ++ fields ++ bytes "\n"
+  pub valued : ValueFields 0 channels fields values
+  pub spelled : line ≡ bytes "t=" ++ digits ++ bytes " src=" ++ source measured ++ fields ++ bytes "\n"
 
 -- a measured row
 pub record Sample : Type 0 where
@@ -53,7 +54,7 @@ pub record Sample : Type 0 where
 
 -- lines that are rows: the measured ones in sheet order, and the count of the filled ones, of which nothing else is kept
 pub data Rows (channels : ℕ) : List (List ℕ) → List Sample → ℕ → Type 0 where
-  none : Rows channels [] [] 0
+  no-row : Rows channels [] [] 0
   measured : {l : List ℕ} {ls : List (List ℕ)} {t : ℕ} {vs : List ℤ} {samples : List Sample} {filled : ℕ}
       → Row channels l true t vs → Rows channels ls samples filled → Rows channels (l ∷ ls) (record { time = t; values = vs } ∷ samples) filled
   filled : {l : List ℕ} {ls : List (List ℕ)} {t : ℕ} {vs : List ℤ} {samples : List Sample} {filled : ℕ}
@@ -65,4 +66,4 @@ AreRows channels ls = (samples : List Sample) × (filled : ℕ) × Rows channels
 
 -- 1 to 8 channels: rows are read only then
 abbrev pub ChannelsInRange : ℕ → Type 0
-ChannelsInRange channels = (1 ≤ channels) × (channels ≤ 8)
+ChannelsInRange channels = (1 ≤ channels) × (channels ≤ MOST-CHANNELS)

@@ -1,4 +1,4 @@
--- The form of rows (`Form`), their reading from the front (`Rows`), and texts that differ in filled rows alone (`Same`).
+-- The form of rows (`Form`), their reading from the front (`Reading`), and texts that differ in filled rows alone (`Same`).
 pub mod Form
-pub mod Rows
+pub mod Reading
 pub mod Same

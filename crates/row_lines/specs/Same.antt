@@ -7,7 +7,7 @@ use lib.IntN.{ℤ}
 use Rattle.row_lines.specs.Form.{lines, Row}
 
 pub data Alike : List (List ℕ) → List (List ℕ) → Type 0 where
-  none : Alike [] []
+  no-line : Alike [] []
   same : {l : List ℕ} {ls ms : List (List ℕ)} → Alike ls ms → Alike (l ∷ ls) (l ∷ ms)
   filled : {l m : List ℕ} {ls ms : List (List ℕ)} {channels t u : ℕ} {vs us : List ℤ}
       → Row channels l false t vs → Row channels m false u us → Alike ls ms → Alike (l ∷ ls) (m ∷ ms)

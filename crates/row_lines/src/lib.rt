@@ -3,13 +3,13 @@ use text::Field;
 use text::Mark;
 use text::signed;
 ghost use mathlib.Core.Path.{_≡_};
-ghost use Rattle.row_lines.specs.Rows.{channels-in-range, value-at, values-from, end-of, rest-at, row-at, rows-of, counts};
+ghost use Rattle.row_lines.specs.Reading.{channels-in-range, value-at, values-from, end-of, rest-at, row-at, rows-of, counts};
 
 // The longest text that is read.
 pub const LIMIT: usize = 65_536;
 
 // A row's line: of a measured row its time, the place of its values and that of the next line; of a filled row that of the next line alone.
-pub enum Row {
+pub enum RowLine {
     Measured(u64, usize, usize),
     Filled(usize),
     Bad,
@@ -17,7 +17,7 @@ pub enum Row {
 
 // How many rows are measured and how many are filled, where every line has the form.
 pub enum Counts {
-    Rows(usize, usize),
+    Found(usize, usize),
     Bad,
 }
 
@@ -25,7 +25,11 @@ pub enum Counts {
 pub fn channels_in_range(channels: usize) -> bool
     ensures { λ r. ⌜ r ≡ channels-in-range channels ⌝ }
 {
-    if channels < 1 { false } else { channels <= 8 }
+    if channels < 1 {
+        false
+    } else {
+        channels <= recordings::MOST_CHANNELS
+    }
 }
 
 // The value of a channel: ` v`, the channel's number, `=` and a signed number.
@@ -68,28 +72,28 @@ fn read_rest(s: &[u8], at: usize, channels: usize) -> Mark
 }
 
 // The row whose line begins at a place.
-pub fn read_row(s: &[u8], at: usize, channels: usize) -> Row
+pub fn read_row(s: &[u8], at: usize, channels: usize) -> RowLine
     ensures { λ r. ⌜ r ≡ row-at (now (s .entry)) at channels ⌝ }
 {
     let Field::Number(time, end) = text::read_field(s, at, b"t=", text::LARGEST) else {
-        return Row::Bad;
+        return RowLine::Bad;
     };
     let Mark::Next(source) = text::read_mark(s, end, b" src=") else {
-        return Row::Bad;
+        return RowLine::Bad;
     };
     if let Mark::Next(values) = text::read_mark(s, source, b"m") {
         let Mark::Next(next) = read_rest(s, values, channels) else {
-            return Row::Bad;
+            return RowLine::Bad;
         };
-        return Row::Measured(time, values, next);
+        return RowLine::Measured(time, values, next);
     }
     let Mark::Next(values) = text::read_mark(s, source, b"f") else {
-        return Row::Bad;
+        return RowLine::Bad;
     };
     let Mark::Next(skipped) = read_rest(s, values, channels) else {
-        return Row::Bad;
+        return RowLine::Bad;
     };
-    Row::Filled(skipped)
+    RowLine::Filled(skipped)
 }
 
 // The counts of the rows of a text, all of which is read.
@@ -101,18 +105,18 @@ pub fn count_rows(s: &[u8], channels: usize) -> Counts
     let mut filled: usize = 0;
     while at < s.len() {
         match read_row(s, at, channels) {
-            Row::Measured(_, _, next) => {
+            RowLine::Measured(_, _, next) => {
                 rows += 1;
                 at = next;
             }
-            Row::Filled(next) => {
+            RowLine::Filled(next) => {
                 filled += 1;
                 at = next;
             }
-            Row::Bad => {
+            RowLine::Bad => {
                 return Counts::Bad;
             }
         }
     }
-    Counts::Rows(rows, filled)
+    Counts::Found(rows, filled)
 }

@@ -5,7 +5,7 @@ use mathlib.Core.List.{map}
 use Rattle.text.specs.Mark.{prefix-of, mark-at}
 use Rattle.text.specs.Number.{digits, value, number-at, field-at, signed-at, signed-field-at}
 use Rattle.refusals.specs.First.{first}
-use Rattle.row_lines.specs.Rows.{value-at, values-from, rest-at, row-at, rows-from}
+use Rattle.row_lines.specs.Reading.{value-at, values-from, rest-at, row-at, rows-from}
 use Rattle.sheet_rows.specs.Examples.{asked, questions, answers}
 
 pub answers-given : map asked questions ≡ answers

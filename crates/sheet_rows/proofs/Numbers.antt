@@ -11,16 +11,17 @@ use lib.IntN.{ℤ}
 use lib.Dec.{leb}
 use borrow.Author.Tests.{leb-true, le-leb}
 use Rattle.text.proofs.Tests.{both}
+use Rattle.recordings.specs.Accepted.{MOST-ROWS, MOST-CHANNELS}
 use Rattle.refusals.specs.First.{first, unless-refused}
-use Rattle.row_lines.specs.declared.Counts.the-variants.{Rows as Counts·Rows, Bad as Counts·Bad}
+use Rattle.row_lines.specs.declared.Counts.the-variants.{Found, Bad as Counts·Bad}
 use Rattle.row_lines.specs.Form.{Sample, ChannelsInRange}
-use Rattle.row_lines.specs.Rows.{limit, channels-in-range, Listing, listed, broken, rows-of, counts}
+use Rattle.row_lines.specs.Reading.{limit, channels-in-range, Listing, listed, broken, rows-of, counts}
 use Rattle.row_lines.specs.Same.{SameButFilled}
 use Rattle.row_lines.proofs.Exact.{rows-alike}
 use Rattle.sheet_rows.specs.Answer.{has-room, RoomFor, no-rows, answer-of, times-of, values-of, in-front}
 use Rattle.sheet_rows.specs.Room.{Fitting}
 
-listed-as : (x : Listing) (m k : ℕ) → counts x ≡ Counts·Rows m k → (xs : List Sample) × (x ≡ listed xs k) × (length xs ≡ m)
+listed-as : (x : Listing) (m k : ℕ) → counts x ≡ Found m k → (xs : List Sample) × (x ≡ listed xs k) × (length xs ≡ m)
 listed-as (listed xs j) m k h = let e : j ≡ k = cc in (xs, rw e, cc)
 listed-as broken m k h = let z : _≡_ {A = ℕ} 0 1 = cc in absurd (omega arith)
 
@@ -31,19 +32,19 @@ uncounted broken h = refl
 -- ---- the tests are their sentences
 
 pub channels-are : (ch : ℕ) → channels-in-range ch ≡ true → ChannelsInRange ch
-channels-are ch h = let b = both (leb 1 ch) (leb ch 8) h in (leb-true 1 ch (b .0), leb-true ch 8 (b .1))
+channels-are ch h = let b = both (leb 1 ch) (leb ch MOST-CHANNELS) h in (leb-true 1 ch (b .0), leb-true ch MOST-CHANNELS (b .1))
 
 pub are-channels : (ch : ℕ) → ChannelsInRange ch → channels-in-range ch ≡ true
-are-channels ch w = rw (le-leb 1 ch (w .0), le-leb ch 8 (w .1))
+are-channels ch w = rw (le-leb 1 ch (w .0), le-leb ch MOST-CHANNELS (w .1))
 
 pub room-for : (m ch nt nv : ℕ) → has-room m ch nt nv ≡ true → RoomFor m ch nt nv
 room-for m ch nt nv h =
-    let a = both (leb m 4_096) (leb m nt && leb (m * ch) nv) h in
+    let a = both (leb m MOST-ROWS) (leb m nt && leb (m * ch) nv) h in
     let b = both (leb m nt) (leb (m * ch) nv) (a .1) in
-    record { few = leb-true m 4_096 (a .0); times-hold = leb-true m nt (b .0); values-hold = leb-true (m * ch) nv (b .1) }
+    record { few = leb-true m MOST-ROWS (a .0); times-hold = leb-true m nt (b .0); values-hold = leb-true (m * ch) nv (b .1) }
 
 pub for-room : (m ch nt nv : ℕ) → RoomFor m ch nt nv → has-room m ch nt nv ≡ true
-for-room m ch nt nv r = rw (le-leb m 4_096 (r .few), le-leb m nt (r .times-hold), le-leb (m * ch) nv (r .values-hold))
+for-room m ch nt nv r = rw (le-leb m MOST-ROWS (r .few), le-leb m nt (r .times-hold), le-leb (m * ch) nv (r .values-hold))
 
 -- ---- what is answered, by the tests in the order in which they are made
 
@@ -62,7 +63,7 @@ module _ (s : List ℕ) (ch nt nv : ℕ) where
       unfolding first
       answer-broken h = rw (l, w, uncounted (rows-of ch s) h)
 
-      module _ (m k : ℕ) (h : counts (rows-of ch s) ≡ Counts·Rows m k) where
+      module _ (m k : ℕ) (h : counts (rows-of ch s) ≡ Found m k) where
         pub answer-many : has-room m ch nt nv ≡ false → no-rows 5 ≡ answer-of s ch nt nv
         unfolding first
         answer-many t = let c = listed-as (rows-of ch s) m k h in rw (l, w, c .1, c .2, t)

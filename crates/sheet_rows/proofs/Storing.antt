@@ -10,10 +10,10 @@ use lib.ListN.{length, set, length-set, length-append}
 use lib.Seq.{sets, length-sets, sets-eq}
 use lib.IntN.{ℤ}
 use Rattle.text.specs.declared.signed.Field.the-variants.{Number as Signed·Number, Bad as Signed·Bad}
-use Rattle.row_lines.specs.declared.Row.{Row}
-use Rattle.row_lines.specs.declared.Row.the-variants.{Measured, Filled, Bad}
-use Rattle.row_lines.specs.Form.{Sample, Rows, none, measured, filled}
-use Rattle.row_lines.specs.Rows.{value-at, Values, read, missing, also, values-from, all-of, row-at, Listing, listed, broken, also-measured, also-filled, sample-at, rows-from, rows-of}
+use Rattle.row_lines.specs.declared.RowLine.{RowLine}
+use Rattle.row_lines.specs.declared.RowLine.the-variants.{Measured, Filled, Bad}
+use Rattle.row_lines.specs.Form.{Sample, Rows, no-row, measured, filled}
+use Rattle.row_lines.specs.Reading.{value-at, ValuesAt, read, missing, also, values-from, all-of, row-at, Listing, listed, broken, also-measured, also-filled, sample-at, rows-from, rows-of}
 use Rattle.row_lines.proofs.Steps.{values-over, values-none, values-next}
 use Rattle.row_lines.proofs.Written.{RowHere, row-here, values-length}
 use Rattle.row_lines.proofs.Exact.{row-past, rows-over, rows-turn, rows-exact}
@@ -26,7 +26,7 @@ front vs l h = rw zero-add at (sets-eq vs l 0 (omega arith))
 
 -- ---- the values of a row
 
-also-split : (v : ℤ) (x : Values) (vs : List ℤ) (n : ℕ) → also v x ≡ read vs n → (ws : List ℤ) × (x ≡ read ws n) × (vs ≡ v ∷ ws)
+also-split : (v : ℤ) (x : ValuesAt) (vs : List ℤ) (n : ℕ) → also v x ≡ read vs n → (ws : List ℤ) × (x ≡ read ws n) × (vs ≡ v ∷ ws)
 also-split v (read ws m) vs n h = let e : m ≡ n = cc in (ws, rw e, cc)
 also-split v missing vs n h = let z : _≡_ {A = ℕ} 0 1 = cc in absurd (omega arith)
 
@@ -87,7 +87,7 @@ length-times (x ∷ xs) = ap suc (length-times xs)
 -- as many values as rows × channels
 pub length-values : {ch k : ℕ} {ls : List (List ℕ)} {xs : List Sample} → Rows ch ls xs k → length (values-in xs) ≡ length xs * ch
 unfolding values-in
-length-values {ch} none = sym (zero-mul ch)
+length-values {ch} no-row = sym (zero-mul ch)
 length-values {ch} (measured {vs} {samples} row rest) =
     let e : length vs ≡ ch = values-length (row .valued) in
     let h : length (values-in samples) ≡ length samples * ch = length-values rest in
@@ -148,7 +148,7 @@ module _ (s : List ℕ) (ch : ℕ) (times₀ : List ℕ) (values₀ : List ℤ) 
       let f : i .rest ≡ [] = cc in
       (rw f at (i .t-same), rw f at (i .v-same))
 
-  module _ (x : Row) (l : at < length s) (e : x ≡ row-at s at ch) where
+  module _ (x : RowLine) (l : at < length s) (e : x ≡ row-at s at ch) where
     pub fill-bad : x ≡ Bad → ⊥
     fill-bad h =
         let f : broken ≡ listed (i .rest) (i .filled) = sym (rows-turn (i .fuel) ch s at Bad (i .enough) l (sym h ∙ e)) ∙ i .reads in
@@ -178,7 +178,7 @@ module _ (s : List ℕ) (ch : ℕ) (times₀ : List ℕ) (values₀ : List ℤ) 
 
     module _ (t a m : ℕ) (h : x ≡ Measured t a m) where
       here : RowHere ch s at (Measured t a m)
-      here = subst (λ (r : Row). RowHere ch s at r) (sym e ∙ h) (row-here ch s at)
+      here = subst (λ (r : RowLine). RowHere ch s at r) (sym e ∙ h) (row-here ch s at)
 
       turn : (ys : List Sample) × (rows-from (i .fuel - 1) ch s m ≡ listed ys (i .filled)) × (i .rest ≡ sample-at s ch t a ∷ ys)
       turn =

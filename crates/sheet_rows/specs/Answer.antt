@@ -6,9 +6,10 @@ use mathlib.Core.List.{List, [], _∷_, _++_}
 use lib.ListN.{length, drop}
 use lib.IntN.{ℤ}
 use lib.Dec.{leb}
+use Rattle.recordings.specs.Accepted.{MOST-ROWS}
 use Rattle.refusals.specs.First.{Check, first, unless-refused}
 use Rattle.row_lines.specs.Form.{lines, Sample, Rows, AreRows, ChannelsInRange}
-use Rattle.row_lines.specs.Rows.{limit, channels-in-range, Listing, listed, broken, is-broken, rows-of}
+use Rattle.row_lines.specs.Reading.{limit, channels-in-range, Listing, listed, broken, is-broken, rows-of}
 use Rattle.sheet_rows.specs.declared.Answer.{Answer}
 
 abbrev pub measured-of : Listing → ℕ
@@ -21,12 +22,12 @@ filled-of broken = 0
 
 -- measured rows exceed neither 4,096 nor the slices
 pub record RoomFor (rows channels times values : ℕ) : Type 0 where
-  pub few : rows ≤ 4_096
+  pub few : rows ≤ MOST-ROWS
   pub times-hold : rows ≤ times
   pub values-hold : rows * channels ≤ values
 
 abbrev pub has-room : ℕ → ℕ → ℕ → ℕ → Bool
-has-room rows channels times values = leb rows 4_096 && (leb rows times && leb (rows * channels) values)
+has-room rows channels times values = leb rows MOST-ROWS && (leb rows times && leb (rows * channels) values)
 
 -- 1: a line breaks the text form, or the text exceeds 65,536 bytes; rows are read only where the channels are 1 to 8
 abbrev pub text-check : List ℕ → ℕ → Check

@@ -6,7 +6,7 @@ use mathlib.Core.List.{List}
 use lib.ListN.{length}
 use lib.IntN.{ℤ}
 use Rattle.row_lines.specs.Form.{Sample}
-use Rattle.row_lines.specs.Rows.{read, values-from, listed, rows-of}
+use Rattle.row_lines.specs.Reading.{read, values-from, listed, rows-of}
 
 pub record Storable (s : List ℕ) (at channels place room : ℕ) : Type 0 where
   pub worth : List ℤ

@@ -1,14 +1,15 @@
 // The row reader: the measured rows of a sheet's part behind its head, into lent slices. It checks and counts the whole part first and stores only what fits, so that
 // nothing is stored under a refusal.
 use row_lines::Counts;
-use row_lines::Row;
+use row_lines::RowLine;
 use text::signed;
 ghost use mathlib.Core.Path.{_≡_};
 ghost use Prim.Native.Nat.{_≤_};
 ghost use lib.ListN.{length};
 ghost use lib.Seq.{sets};
+ghost use Rattle.recordings.specs.Accepted.{MOST-CHANNELS};
 ghost use Rattle.refusals.specs.First.{unless-refused};
-ghost use Rattle.row_lines.specs.Rows.{values-from, all-of, rows-of};
+ghost use Rattle.row_lines.specs.Reading.{values-from, all-of, rows-of};
 ghost use Rattle.sheet_rows.specs.Answer.{has-room, no-rows, answer-of, times-of, values-of, in-front};
 ghost use Rattle.sheet_rows.specs.Room.{Storable, Fitting};
 
@@ -31,10 +32,10 @@ fn refused(number: u64) -> Answer
 
 // Whether measured rows exceed neither a recording nor the slices.
 fn has_room(rows: usize, channels: usize, times: usize, values: usize) -> bool
-    requires { ⌜ channels ≤ 8 ⌝ }
+    requires { ⌜ channels ≤ MOST-CHANNELS ⌝ }
     ensures { λ r. ⌜ r ≡ has-room rows channels times values ⌝ }
 {
-    if 4_096 < rows {
+    if recordings::MOST_ROWS < rows {
         return false;
     }
     if times < rows {
@@ -70,16 +71,16 @@ fn store_rows(s: &[u8], channels: usize, times: &mut [u64], values: &mut [i64])
     let mut rows: usize = 0;
     while at < s.len() {
         match row_lines::read_row(s, at, channels) {
-            Row::Measured(time, fields, next) => {
+            RowLine::Measured(time, fields, next) => {
                 times[rows] = time;
                 store_values(s, fields, channels, values, rows * channels);
                 rows += 1;
                 at = next;
             }
-            Row::Filled(next) => {
+            RowLine::Filled(next) => {
                 at = next;
             }
-            Row::Bad => {
+            RowLine::Bad => {
                 return;
             }
         }
@@ -98,7 +99,7 @@ pub fn read_rows(s: &[u8], channels: usize, times: &mut [u64], values: &mut [i64
     if !row_lines::channels_in_range(channels) {
         return refused(4);
     }
-    let Counts::Rows(rows, filled) = row_lines::count_rows(s, channels) else {
+    let Counts::Found(rows, filled) = row_lines::count_rows(s, channels) else {
         return refused(1);
     };
     if !has_room(rows, channels, times.len(), values.len()) {

@@ -10,7 +10,7 @@ use lib.Seq.{drop-append-add, take-append-seam}
 use Rattle.text.specs.Bytes.{bytes}
 use Rattle.text.proofs.Places.{after-bytes}
 use Rattle.row_lines.specs.Form.{lines, size}
-use Rattle.row_lines.specs.Rows.{limit}
+use Rattle.row_lines.specs.Reading.{limit}
 use Rattle.row_lines.specs.Same.{SameButFilled}
 use Rattle.row_lines.proofs.Lines.{lines-split}
 use Rattle.sheets.specs.declared.Sheet.{Sheet}

@@ -8,10 +8,10 @@ use lib.ListN.{length}
 use lib.Dec.{ltb}
 use Rattle.text.specs.Bytes.{bytes}
 use Rattle.text.specs.declared.Field.the-variants.{Number, Bad as Field·Bad}
-use Rattle.row_lines.specs.Rows.{limit}
-use Rattle.head_lines.specs.Lines.{number-at, requirement-at}
+use Rattle.row_lines.specs.Reading.{limit}
+use Rattle.head_lines.specs.Reading.{number-line-at, requirement-at}
 use Rattle.predicate_lines.specs.declared.Predicates.{Predicates}
-use Rattle.predicate_lines.specs.Lines.{lines-at}
+use Rattle.predicate_lines.specs.Reading.{lines-at}
 use Rattle.sheets.specs.declared.Sheet.{Sheet}
 use Rattle.head_lines.specs.declared.Requirement.the-variants.{At, Bad}
 use Rattle.sheets.specs.Form.{blank}
@@ -25,16 +25,16 @@ module _ (s : List ℕ) (ch : ℕ) (ps : Predicates) where
   chain-predicates o = rw o
 
   module _ (o : ps .ok ≡ true) where
-    pub chain-step : number-at (bytes "step=") s (ps .next) ≡ Field·Bad → blank ≡ behind-predicates s ch ps
+    pub chain-step : number-line-at (bytes "step=") s (ps .next) ≡ Field·Bad → blank ≡ behind-predicates s ch ps
     unfolding behind-predicates
     chain-step f = rw (o, f)
 
-    module _ (step c : ℕ) (f : number-at (bytes "step=") s (ps .next) ≡ Number step c) where
-      pub chain-drift : number-at (bytes "drift=") s c ≡ Field·Bad → blank ≡ behind-predicates s ch ps
+    module _ (step c : ℕ) (f : number-line-at (bytes "step=") s (ps .next) ≡ Number step c) where
+      pub chain-drift : number-line-at (bytes "drift=") s c ≡ Field·Bad → blank ≡ behind-predicates s ch ps
       unfolding behind-predicates
       chain-drift h = rw (o, f, h)
 
-      module _ (drift d : ℕ) (h : number-at (bytes "drift=") s c ≡ Number drift d) where
+      module _ (drift d : ℕ) (h : number-line-at (bytes "drift=") s c ≡ Number drift d) where
         pub chain-requirement : requirement-at s d ≡ Bad → blank ≡ behind-predicates s ch ps
         unfolding behind-predicates
         chain-requirement r = rw (o, f, h, r)
@@ -56,10 +56,10 @@ unfolding sheet-of
 chain-long s l = rw l
 
 module _ (s : List ℕ) (l : ltb limit (length s) ≡ false) where
-  pub chain-channels : number-at (bytes "chan=") s 0 ≡ Field·Bad → blank ≡ sheet-of s
+  pub chain-channels : number-line-at (bytes "chan=") s 0 ≡ Field·Bad → blank ≡ sheet-of s
   unfolding sheet-of
   chain-channels e = rw (l, e)
 
-  pub chain-behind : (ch a : ℕ) → number-at (bytes "chan=") s 0 ≡ Number ch a → (ps : Predicates) → ps ≡ lines-at s a → (x : Sheet) → x ≡ behind-predicates s ch ps → x ≡ sheet-of s
+  pub chain-behind : (ch a : ℕ) → number-line-at (bytes "chan=") s 0 ≡ Number ch a → (ps : Predicates) → ps ≡ lines-at s a → (x : Sheet) → x ≡ behind-predicates s ch ps → x ≡ sheet-of s
   unfolding sheet-of
   chain-behind ch a e ps g x h = rw (l, e, ← g) h

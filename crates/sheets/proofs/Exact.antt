@@ -17,17 +17,17 @@ use Rattle.text.specs.Mark.{prefix-of}
 use Rattle.text.specs.declared.Field.the-variants.{Number}
 use Rattle.text.proofs.Tests.{false-true, test-case}
 use Rattle.text.proofs.Fields.{number-case}
-use Rattle.row_lines.specs.Form.{lines, size, AreRows, Row as Form·Row}
-use Rattle.row_lines.specs.Rows.{limit, channels-in-range, is-broken, rows-of}
-use Rattle.row_lines.specs.Same.{Alike, none, same, filled, SameButFilled}
+use Rattle.row_lines.specs.Form.{lines, size, AreRows, Row}
+use Rattle.row_lines.specs.Reading.{limit, channels-in-range, is-broken, rows-of}
+use Rattle.row_lines.specs.Same.{Alike, no-line, same, filled, SameButFilled}
 use Rattle.row_lines.proofs.Lines.{count, Fed, lines-split, lines-clear}
 use Rattle.row_lines.proofs.Exact.{fed-lines, unbroken-rows, rows-unbroken, alike-sym, alike-rows}
 use Rattle.head_lines.specs.Form.{NumberLine}
-use Rattle.head_lines.specs.Lines.{number-at, requirement-at, after-requirement}
+use Rattle.head_lines.specs.Reading.{number-line-at, requirement-at, after-requirement}
 use Rattle.recordings.specs.declared.Predicate.{Predicate}
 use Rattle.predicate_lines.specs.declared.Predicates.{Predicates}
-use Rattle.predicate_lines.specs.Form.{unset, Lines, over, more}
-use Rattle.predicate_lines.specs.Lines.{lines-at}
+use Rattle.predicate_lines.specs.Form.{unset, PredicateLines, over, more}
+use Rattle.predicate_lines.specs.Reading.{lines-at}
 use Rattle.predicate_lines.proofs.Exact.{predicates-are, predicates-taken}
 use Rattle.sheets.specs.declared.Sheet.{Sheet}
 use Rattle.head_lines.specs.declared.Requirement.{Requirement}
@@ -67,8 +67,8 @@ requirement-case : {A : Type 0} (P : A → Type 0) (x : Requirement) (f : ℕ �
 requirement-case P (At i j n) f a h k = h i j n refl
 requirement-case P Bad f a h k = k
 
-read-good : (s : List ℕ) → length s ≤ limit → (ch a : ℕ) → number-at (bytes "chan=") s 0 ≡ Number ch a → lines-at s a .ok ≡ true
-    → (step c : ℕ) → number-at (bytes "step=") s (lines-at s a .next) ≡ Number step c → (drift d : ℕ) → number-at (bytes "drift=") s c ≡ Number drift d
+read-good : (s : List ℕ) → length s ≤ limit → (ch a : ℕ) → number-line-at (bytes "chan=") s 0 ≡ Number ch a → lines-at s a .ok ≡ true
+    → (step c : ℕ) → number-line-at (bytes "step=") s (lines-at s a .next) ≡ Number step c → (drift d : ℕ) → number-line-at (bytes "drift=") s c ≡ Number drift d
     → (from to rows : ℕ) → requirement-at s d ≡ At from to rows → rows-kept s rows ch ≡ true
     → Form s (record { number = 0; channels = ch; predicates = lines-at s a .all; step = step; drift = drift; from = from; to = to; rows = rows })
 unfolding count
@@ -108,12 +108,12 @@ good : (s : List ℕ) (x : Sheet) → Form s x → Good s x
 unfolding Good
 good s x f = λ e. f
 
-behind-good : (s : List ℕ) → length s ≤ limit → (ch a : ℕ) → number-at (bytes "chan=") s 0 ≡ Number ch a → Good s (behind-predicates s ch (lines-at s a))
+behind-good : (s : List ℕ) → length s ≤ limit → (ch a : ℕ) → number-line-at (bytes "chan=") s 0 ≡ Number ch a → Good s (behind-predicates s ch (lines-at s a))
 unfolding behind-predicates
 behind-good s short ch a e =
     test-case (Good s) (lines-at s a .ok) _ _
-    (λ o. number-case (Good s) (number-at (bytes "step=") s (lines-at s a .next)) _ _
-    (λ step c f. number-case (Good s) (number-at (bytes "drift=") s c) _ _
+    (λ o. number-case (Good s) (number-line-at (bytes "step=") s (lines-at s a .next)) _ _
+    (λ step c f. number-case (Good s) (number-line-at (bytes "drift=") s c) _ _
     (λ drift d g. requirement-case (Good s) (requirement-at s d) _ _
     (λ from to rows r. test-case (Good s) (rows-kept s rows ch) _ _
     (λ k. good s _ (read-good s short ch a e o step c f drift d g from to rows r k))
@@ -128,7 +128,7 @@ unfolding sheet-of Good
 sheet-sound s =
     test-case (Good s) (ltb limit (length s)) _ _
     (λ t. blank-good s)
-    (λ t. number-case (Good s) (number-at (bytes "chan=") s 0) _ _ (λ ch a e. behind-good s (ltb-false limit (length s) t) ch a e) (λ e. blank-good s))
+    (λ t. number-case (Good s) (number-line-at (bytes "chan=") s 0) _ _ (λ ch a e. behind-good s (ltb-false limit (length s) t) ch a e) (λ e. blank-good s))
 
 -- ---- complete
 
@@ -140,7 +140,7 @@ size-append (l ∷ ls) ms = let h : size (ls ++ ms) ≡ size ls + size ms = size
 -- a line `step=` is no predicate line
 step-stops : {l : List ℕ} {v : ℕ} (ls : List (List ℕ)) → NumberLine (bytes "step=") l v → (x : List ℕ) → lines x ≡ l ∷ ls → prefix-of (bytes "p=") x ≡ false
 unfolding prefix-of
-step-stops {l} ls f x h = let t = lines-split x l ls h in ap (prefix-of (bytes "p=")) (t .1 ∙ ap (λ (y : List ℕ). y ++ t .0) (f .written))
+step-stops {l} ls f x h = let t = lines-split x l ls h in ap (prefix-of (bytes "p=")) (t .1 ∙ ap (λ (y : List ℕ). y ++ t .0) (f .spelled))
 
 predicates-place : (s : List ℕ) (a b : ℕ) (qs : List Predicate) (ps rest : List (List ℕ)) → lines-at s a ≡ record { ok = true; next = b; all = qs }
     → lines (drop a s) ≡ ps ++ rest → lines (drop b s) ≡ rest → b ≡ a + size ps
@@ -152,7 +152,7 @@ predicates-place s a b qs ps rest e f g =
     omega (arith, t .place)
 
 predicates-stage : (s : List ℕ) (a : ℕ) {qs : List Predicate} {ps : List (List ℕ)} {l : List ℕ} {v : ℕ} (ls : List (List ℕ))
-    → Lines unset ps qs → NumberLine (bytes "step=") l v → lines (drop a s) ≡ ps ++ (l ∷ ls)
+    → PredicateLines unset ps qs → NumberLine (bytes "step=") l v → lines (drop a s) ≡ ps ++ (l ∷ ls)
     → (b : ℕ) × (lines-at s a ≡ record { ok = true; next = b; all = qs }) × (lines (drop b s) ≡ l ∷ ls) × (b ≡ a + size ps)
 predicates-stage s a {qs} {ps} {l} ls form step e =
     let t = predicates-taken form s a (l ∷ ls) e (λ x h. step-stops ls step x h) in
@@ -175,9 +175,9 @@ same-sheet x i j k p q r e =
     rw (p, q, r)
     (ap (λ (m : ℕ). record { number = m; channels = x .channels; predicates = x .predicates; step = x .step; drift = x .drift; from = x .from; to = x .to; rows = x .rows }) (sym e))
 
-read-as : (s : List ℕ) (x : Sheet) → length s ≤ limit → x .number ≡ 0 → (a b c d n i j : ℕ) → number-at (bytes "chan=") s 0 ≡ Number (x .channels) a
-    → lines-at s a ≡ record { ok = true; next = b; all = x .predicates } → number-at (bytes "step=") s b ≡ Number (x .step) c
-    → number-at (bytes "drift=") s c ≡ Number (x .drift) d → requirement-at s d ≡ At i j n → rows-kept s n (x .channels) ≡ true
+read-as : (s : List ℕ) (x : Sheet) → length s ≤ limit → x .number ≡ 0 → (a b c d n i j : ℕ) → number-line-at (bytes "chan=") s 0 ≡ Number (x .channels) a
+    → lines-at s a ≡ record { ok = true; next = b; all = x .predicates } → number-line-at (bytes "step=") s b ≡ Number (x .step) c
+    → number-line-at (bytes "drift=") s c ≡ Number (x .drift) d → requirement-at s d ≡ At i j n → rows-kept s n (x .channels) ≡ true
     → i ≡ x .from → j ≡ x .to → n ≡ x .rows → sheet-of s ≡ x
 read-as s x l m a b c d n i j e f g h r k from to rows =
     sym
@@ -220,8 +220,8 @@ behind-either : (s : List ℕ) (ch : ℕ) (ps : Predicates) → Either (behind-p
 unfolding behind-predicates
 behind-either s ch ps =
     test-case Either (ps .ok) _ _
-    (λ o. number-case Either (number-at (bytes "step=") s (ps .next)) _ _
-    (λ step c f. number-case Either (number-at (bytes "drift=") s c) _ _
+    (λ o. number-case Either (number-line-at (bytes "step=") s (ps .next)) _ _
+    (λ step c f. number-case Either (number-line-at (bytes "drift=") s c) _ _
     (λ drift d g. requirement-case Either (requirement-at s d) _ _
     (λ from to rows r. test-case Either (rows-kept s rows ch) _ _ (λ k. given _ refl) (λ k. none-left))
     none-left)
@@ -235,7 +235,7 @@ unfolding sheet-of Either
 sheet-or-blank s =
     test-case Either (ltb limit (length s)) _ _
     (λ t. none-left)
-    (λ t. number-case Either (number-at (bytes "chan=") s 0) _ _ (λ ch a e. behind-either s ch (lines-at s a)) (λ e. none-left))
+    (λ t. number-case Either (number-line-at (bytes "chan=") s 0) _ _ (λ ch a e. behind-either s ch (lines-at s a)) (λ e. none-left))
 
 -- the blank sheet exactly when the text has not the form, whatever the contents
 pub sheet-refused : (s : List ℕ) → (sheet-of s ≡ blank) ↔ ((x : Sheet) → Form s x → ⊥)
@@ -246,13 +246,13 @@ sheet-refused s = (
 
 -- ---- filled rows reach nothing
 
-row-first : {ch t : ℕ} {l : List ℕ} {m : Bool} {vs : List ℤ} → Form·Row ch l m t vs → getD l 0 0 ≡ 116
-row-first f = ap (λ (l : List ℕ). getD l 0 0) (f .written)
+row-first : {ch t : ℕ} {l : List ℕ} {m : Bool} {vs : List ℤ} → Row ch l m t vs → getD l 0 0 ≡ 116
+row-first f = ap (λ (l : List ℕ). getD l 0 0) (f .spelled)
 
 -- a line that is no row stands in both texts
 alike-line : {ls ms : List (List ℕ)} → Alike ls ms → (l : List ℕ) (ks : List (List ℕ)) → ls ≡ l ∷ ks → getD l 0 0 < 116
     → (ns : List (List ℕ)) × (ms ≡ l ∷ ns) × Alike ks ns
-alike-line none l ks e h = let z : _≡_ {A = ℕ} 0 1 = cc in absurd (omega arith)
+alike-line no-line l ks e h = let z : _≡_ {A = ℕ} 0 1 = cc in absurd (omega arith)
 alike-line (same {l = k} {ls} {ms} a) l ks e h =
     let f : k ≡ l = cc in
     let g : ls ≡ ks = cc in
@@ -262,11 +262,11 @@ alike-line (filled {l = k} r q a) l ks e h =
     let g : getD l 0 0 ≡ 116 = ap (λ (y : List ℕ). getD y 0 0) (sym f) ∙ row-first r in
     absurd (omega arith)
 
-alike-lines : {ps qs : List Predicate} {ls : List (List ℕ)} → Lines ps ls qs → {xs ms : List (List ℕ)} → Alike xs ms → (ks : List (List ℕ)) → xs ≡ ls ++ ks
+alike-lines : {ps qs : List Predicate} {ls : List (List ℕ)} → PredicateLines ps ls qs → {xs ms : List (List ℕ)} → Alike xs ms → (ks : List (List ℕ)) → xs ≡ ls ++ ks
     → (ns : List (List ℕ)) × (ms ≡ ls ++ ns) × Alike ks ns
 alike-lines over {xs} {ms} a ks e = (ms, refl, subst (λ (x : List (List ℕ)). Alike x ms) e a)
 alike-lines (more {l} {ls} line free rest) a ks e =
-    let f : getD l 0 0 ≡ 112 = ap (λ (y : List ℕ). getD y 0 0) (line .written) in
+    let f : getD l 0 0 ≡ 112 = ap (λ (y : List ℕ). getD y 0 0) (line .spelled) in
     let t = alike-line a l (ls ++ ks) e (omega arith) in
     let u = alike-lines rest (t .2) ks refl in
     (u .0, t .1 ∙ ap (λ (x : List (List ℕ)). l ∷ x) (u .1), u .2)
@@ -276,9 +276,9 @@ pub alike-form : (a b : List ℕ) (x : Sheet) → SameButFilled a b → length b
     → (g : Form b x) × (f .requirement ≡ g .requirement) × Alike (f .rows) (g .rows)
 alike-form a b x h short f =
     let req : List ℕ = bytes "req=" ++ f .requirement ++ bytes "\n" in
-    let i : getD (f .chan) 0 0 ≡ 99 = ap (λ (y : List ℕ). getD y 0 0) (f .channels .written) in
-    let j : getD (f .step) 0 0 ≡ 115 = ap (λ (y : List ℕ). getD y 0 0) (f .steps .written) in
-    let k : getD (f .drift) 0 0 ≡ 100 = ap (λ (y : List ℕ). getD y 0 0) (f .drifts .written) in
+    let i : getD (f .chan) 0 0 ≡ 99 = ap (λ (y : List ℕ). getD y 0 0) (f .channels .spelled) in
+    let j : getD (f .step) 0 0 ≡ 115 = ap (λ (y : List ℕ). getD y 0 0) (f .steps .spelled) in
+    let k : getD (f .drift) 0 0 ≡ 100 = ap (λ (y : List ℕ). getD y 0 0) (f .drifts .spelled) in
     let t = alike-line h (f .chan) (f .ps ++ (f .step ∷ f .drift ∷ req ∷ f .rows)) (f .cuts) (omega arith) in
     let u = alike-lines (f .predicates) (t .2) (f .step ∷ f .drift ∷ req ∷ f .rows) refl in
     let v = alike-line (u .2) (f .step) (f .drift ∷ req ∷ f .rows) refl (omega arith) in

@@ -9,27 +9,27 @@ use lib.ListN.{replicate}
 use lib.IntN.{pos, negℤ}
 use Rattle.text.specs.Bytes.{bytes}
 use Rattle.text.specs.Mark.{prefix-of, mark-at}
-use Rattle.text.specs.Number.{digits, value, number-at as digitsAt, field-at, signed-at, signed-field-at}
+use Rattle.text.specs.Number.{digits, value, number-at, field-at, signed-at, signed-field-at}
 use Rattle.text.specs.Numeral.{Numeral, digit, longer, plain, minus}
-use Rattle.row_lines.specs.Form.{lines, Row, none, next}
-use Rattle.row_lines.specs.Same.{SameButFilled, none as over, same, filled}
-use Rattle.row_lines.specs.Rows.{value-at, values-from, rest-at, row-at, rows-from}
-use Rattle.predicate_lines.specs.Lines.{end-at, line-at, stored-in, with-line, lines-from, lines-at}
-use Rattle.head_lines.specs.Lines.{number-at, until-feed, requirement-at}
+use Rattle.row_lines.specs.Form.{lines, Row, no-field, next}
+use Rattle.row_lines.specs.Same.{SameButFilled, no-line, same, filled}
+use Rattle.row_lines.specs.Reading.{value-at, values-from, rest-at, row-at, rows-from}
+use Rattle.predicate_lines.specs.Reading.{end-at, line-at, stored-in, with-line, lines-from, lines-at}
+use Rattle.head_lines.specs.Reading.{number-line-at, until-feed, requirement-at}
 use Rattle.sheets.specs.Sheets.{behind-predicates, sheet-of}
 use Rattle.sheets.specs.Examples.{example, contents, damaged, accepted, with-third, filled-row, other-filled-row}
 use Rattle.sheets.proofs.Exact.{sheet-alike}
 
 pub example-read : sheet-of example ≡ contents
-unfolding prefix-of mark-at digits value digitsAt field-at signed-at signed-field-at value-at values-from rest-at row-at rows-from end-at line-at stored-in with-line lines-from lines-at number-at until-feed requirement-at behind-predicates sheet-of
+unfolding prefix-of mark-at digits value number-at field-at signed-at signed-field-at value-at values-from rest-at row-at rows-from end-at line-at stored-in with-line lines-from lines-at number-line-at until-feed requirement-at behind-predicates sheet-of
 example-read = refl
 
 pub damaged-refused : map (λ (s : List ℕ). sheet-of s .number) damaged ≡ replicate 24 1
-unfolding prefix-of mark-at digits value digitsAt field-at signed-at signed-field-at value-at values-from rest-at row-at rows-from end-at line-at stored-in with-line lines-from lines-at number-at until-feed requirement-at behind-predicates sheet-of
+unfolding prefix-of mark-at digits value number-at field-at signed-at signed-field-at value-at values-from rest-at row-at rows-from end-at line-at stored-in with-line lines-from lines-at number-line-at until-feed requirement-at behind-predicates sheet-of
 damaged-refused = refl
 
 pub accepted-read : map (λ (s : List ℕ). sheet-of s .number) accepted ≡ replicate 6 0
-unfolding prefix-of mark-at digits value digitsAt field-at signed-at signed-field-at value-at values-from rest-at row-at rows-from end-at line-at stored-in with-line lines-from lines-at number-at until-feed requirement-at behind-predicates sheet-of
+unfolding prefix-of mark-at digits value number-at field-at signed-at signed-field-at value-at values-from rest-at row-at rows-from end-at line-at stored-in with-line lines-from lines-at number-line-at until-feed requirement-at behind-predicates sheet-of
 accepted-read = refl
 
 -- ---- two sheets that differ in a filled row alone
@@ -43,8 +43,8 @@ row = record {
   fields = bytes " v0=10";
   numeral = digit {d = 2} (omega arith);
   bound = omega arith;
-  valued = next {c = 0} (omega arith) (digit {d = 0} (omega arith)) (plain ten (omega arith)) none;
-  written = refl;
+  valued = next {c = 0} (omega arith) (digit {d = 0} (omega arith)) (plain ten (omega arith)) no-field;
+  spelled = refl;
 }
 
 other-row : Row 1 (bytes other-filled-row) false 40 (negℤ (pos 250) ∷ [])
@@ -53,13 +53,13 @@ other-row = record {
   fields = bytes " v0=-250";
   numeral = longer {d = 0} (digit {d = 4} (omega arith)) (omega arith) (omega arith);
   bound = omega arith;
-  valued = next {c = 0} (omega arith) (digit {d = 0} (omega arith)) (minus (longer {d = 0} (longer {d = 5} (digit {d = 2} (omega arith)) (omega arith) (omega arith)) (omega arith) (omega arith)) (omega arith) (omega arith)) none;
-  written = refl;
+  valued = next {c = 0} (omega arith) (digit {d = 0} (omega arith)) (minus (longer {d = 0} (longer {d = 5} (digit {d = 2} (omega arith)) (omega arith) (omega arith)) (omega arith) (omega arith)) (omega arith) (omega arith)) no-field;
+  spelled = refl;
 }
 
 pub filled-alike : SameButFilled (with-third filled-row) (with-third other-filled-row)
 unfolding lines
-filled-alike = same (same (same (same (same (same (same (filled row other-row (same (same over)))))))))
+filled-alike = same (same (same (same (same (same (same (filled row other-row (same (same no-line)))))))))
 
 -- so they give one sheet
 pub filled-same : sheet-of (with-third filled-row) ≡ sheet-of (with-third other-filled-row)
@@ -67,5 +67,5 @@ filled-same = sheet-alike (with-third filled-row) (with-third other-filled-row) 
 
 -- the one that document 01's example gives, computed of both
 pub filled-read : (sheet-of (with-third filled-row) ≡ contents) × (sheet-of (with-third other-filled-row) ≡ contents)
-unfolding prefix-of mark-at digits value digitsAt field-at signed-at signed-field-at value-at values-from rest-at row-at rows-from end-at line-at stored-in with-line lines-from lines-at number-at until-feed requirement-at behind-predicates sheet-of
+unfolding prefix-of mark-at digits value number-at field-at signed-at signed-field-at value-at values-from rest-at row-at rows-from end-at line-at stored-in with-line lines-from lines-at number-line-at until-feed requirement-at behind-predicates sheet-of
 filled-read = (refl, refl)

@@ -7,11 +7,11 @@ use Prim.Native.Nat.{ℕ, _-_}
 use native.Mathlib.Omega.{arith}
 use lib.ListN.{length, take, drop}
 use Rattle.text.proofs.Places.{whole-behind}
-use Rattle.row_lines.specs.declared.Counts.the-variants.{Rows as Counts·Rows, Bad as Counts·Bad}
-use Rattle.row_lines.specs.Rows.{channels-in-range, Listing, listed, broken, is-broken, rows-of, counts}
+use Rattle.row_lines.specs.declared.Counts.the-variants.{Found, Bad as Counts·Bad}
+use Rattle.row_lines.specs.Reading.{channels-in-range, Listing, listed, broken, is-broken, rows-of, counts}
 use Rattle.sheets.specs.Sheets.{rows-kept}
 
-some-counted : (x : Listing) (m k : ℕ) → counts x ≡ Counts·Rows m k → is-broken x ≡ false
+some-counted : (x : Listing) (m k : ℕ) → counts x ≡ Found m k → is-broken x ≡ false
 some-counted (listed xs j) m k h = refl
 some-counted broken m k h = let z : _≡_ {A = ℕ} 0 1 = cc in absurd (omega arith)
 
@@ -24,7 +24,7 @@ module _ (s : List ℕ) (at ch : ℕ) where
   kept-unread w = rw w
 
   module _ (w : channels-in-range ch ≡ true) where
-    pub kept-rows : (m k : ℕ) → counts (rows-of ch (take (length s - at) (drop at s))) ≡ Counts·Rows m k → true ≡ rows-kept s at ch
+    pub kept-rows : (m k : ℕ) → counts (rows-of ch (take (length s - at) (drop at s))) ≡ Found m k → true ≡ rows-kept s at ch
     kept-rows m k h = rw (w, some-counted (rows-of ch (drop at s)) m k (rw whole-behind at h))
 
     pub kept-broken : counts (rows-of ch (take (length s - at) (drop at s))) ≡ Counts·Bad → false ≡ rows-kept s at ch

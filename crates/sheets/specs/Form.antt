@@ -7,9 +7,9 @@ use mathlib.Core.List.{List, _∷_, _++_}
 use lib.ListN.{length}
 use Rattle.text.specs.Bytes.{bytes}
 use Rattle.row_lines.specs.Form.{lines, size, AreRows}
-use Rattle.row_lines.specs.Rows.{limit, channels-in-range}
+use Rattle.row_lines.specs.Reading.{limit, channels-in-range}
 use Rattle.head_lines.specs.Form.{NumberLine}
-use Rattle.predicate_lines.specs.Form.{unset, Lines}
+use Rattle.predicate_lines.specs.Form.{unset, PredicateLines}
 use Rattle.sheets.specs.declared.Sheet.{Sheet}
 
 -- a text of the form, and the sheet that it gives: the lines of its head by their keys, the requirement's bytes, and the lines behind
@@ -23,7 +23,7 @@ pub record Form (text : List ℕ) (sheet : Sheet) : Type 0 where
   pub short : length text ≤ limit
   pub cuts : lines text ≡ chan ∷ (ps ++ (step ∷ drift ∷ (bytes "req=" ++ requirement ++ bytes "\n") ∷ rows))
   pub channels : NumberLine (bytes "chan=") chan (sheet .channels)
-  pub predicates : Lines unset ps (sheet .predicates)
+  pub predicates : PredicateLines unset ps (sheet .predicates)
   pub steps : NumberLine (bytes "step=") step (sheet .step)
   pub drifts : NumberLine (bytes "drift=") drift (sheet .drift)
   -- the requirement is what follows the equals sign

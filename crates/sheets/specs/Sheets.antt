@@ -7,10 +7,10 @@ use lib.ListN.{length, drop}
 use lib.Dec.{ltb}
 use Rattle.text.specs.Bytes.{bytes}
 use Rattle.text.specs.Number.{after-number}
-use Rattle.row_lines.specs.Rows.{limit, channels-in-range, is-broken, rows-of}
-use Rattle.head_lines.specs.Lines.{number-at, requirement-at, after-requirement}
+use Rattle.row_lines.specs.Reading.{limit, channels-in-range, is-broken, rows-of}
+use Rattle.head_lines.specs.Reading.{number-line-at, requirement-at, after-requirement}
 use Rattle.predicate_lines.specs.declared.Predicates.{Predicates}
-use Rattle.predicate_lines.specs.Lines.{lines-at}
+use Rattle.predicate_lines.specs.Reading.{lines-at}
 use Rattle.sheets.specs.declared.Sheet.{Sheet}
 use Rattle.sheets.specs.Form.{blank}
 
@@ -22,8 +22,8 @@ rows-kept s at channels = not (channels-in-range channels && is-broken (rows-of 
 unfoldable pub behind-predicates : List ℕ → ℕ → Predicates → Sheet
 behind-predicates s channels ps =
     cond (ps .ok)
-    (after-number (number-at (bytes "step=") s (ps .next))
-    (λ step c. after-number (number-at (bytes "drift=") s c)
+    (after-number (number-line-at (bytes "step=") s (ps .next))
+    (λ step c. after-number (number-line-at (bytes "drift=") s c)
     (λ drift d. after-requirement (requirement-at s d)
     (λ from to rows. cond (rows-kept s rows channels)
     (record { number = 0; channels = channels; predicates = ps .all; step = step; drift = drift; from = from; to = to; rows = rows })
@@ -37,4 +37,4 @@ behind-predicates s channels ps =
 unfoldable pub sheet-of : List ℕ → Sheet
 sheet-of s =
     cond (ltb limit (length s)) blank
-    (after-number (number-at (bytes "chan=") s 0) (λ channels a. behind-predicates s channels (lines-at s a)) blank)
+    (after-number (number-line-at (bytes "chan=") s 0) (λ channels a. behind-predicates s channels (lines-at s a)) blank)

@@ -31,7 +31,7 @@ fn keeps_rows(s: &[u8], at: usize, channels: usize) -> bool
     if !row_lines::channels_in_range(channels) {
         return true;
     }
-    let Counts::Rows(_, _) = row_lines::count_rows(&s[at..], channels) else {
+    let Counts::Found(_, _) = row_lines::count_rows(&s[at..], channels) else {
         return false;
     };
     true

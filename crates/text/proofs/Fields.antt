@@ -50,10 +50,10 @@ signed-here s at =
     (λ d e. number-case (SignedHere s at) (number-at s d largest-signed) _ _
     (λ v n f. test-case (SignedHere s at) (eqb v 0) _ _ (λ z. tt)
     (λ z. let a = number-is s d largest-signed v n f in
-    (bytes "-" ++ a .written, between-both (mark-is (bytes "-") s at d e) (a .between), minus (a .numeral) (above-zero v (eqb-false v 0 z)) (a .bound))))
+    (bytes "-" ++ a .word, between-both (mark-is (bytes "-") s at d e) (a .between), minus (a .numeral) (above-zero v (eqb-false v 0 z)) (a .bound))))
     (λ f. tt))
     (λ e. number-case (SignedHere s at) (number-at s at largest-signed) _ _
-    (λ v n f. let a = number-is s at largest-signed v n f in (a .written, a .between, plain (a .numeral) (a .bound)))
+    (λ v n f. let a = number-is s at largest-signed v n f in (a .word, a .between, plain (a .numeral) (a .bound)))
     (λ f. tt))
 
 pub signed-bytes : (s : List ℕ) (at : ℕ) (v : ℤ) (n : ℕ) → signed-at s at ≡ Signed·Number v n → (w : List ℕ) × Between s at n w × Signed w v

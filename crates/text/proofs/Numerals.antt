@@ -135,9 +135,9 @@ numeral-short {w} {v} n l = by-test (eqb v 0) (λ z. zeros (eqb-true v 0 z)) (λ
 
 -- a number that was read: within its bound, and its bytes are a numeral from `at` up to `n`
 pub record Numbered (s : List ℕ) (at max v n : ℕ) : Type 0 where
-  pub written : List ℕ
-  pub numeral : Numeral written v
-  pub between : Between s at n written
+  pub word : List ℕ
+  pub numeral : Numeral word v
+  pub between : Between s at n word
   pub bound : v ≤ max
   pub past : at < n
 
@@ -171,7 +171,7 @@ number-is s at max v n h =
     let l : length (digits (drop at s)) ≤ length s - at = rw length-drop at (run-inside (drop at s)) in
     let e : at + length (digits (drop at s)) ≡ n = a .2 in
     record {
-      written = digits (drop at s);
+      word = digits (drop at s);
       numeral = rw (← a .1) (r .0);
       between = record {
         bytes = rw (← e, ← drop-drop (length (digits (drop at s))) at s) (digits-split (drop at s));
@@ -205,7 +205,3 @@ number-made s at max v w r e n l m f =
         by-test (eqb v 0)
         (λ z. rw (le-ltb 1 (length w) (let k : length w ≡ 1 = numeral-zero n (eqb-true v 0 z) in omega arith)) (never (eqb (getD w 0 0) 48)))
         (λ z. rw (ne-eqb (getD w 0 0) 48 (numeral-leads n (above-zero v (eqb-false v 0 z)))))
-
--- a numeral has one value
-pub numeral-one : {w : List ℕ} {v u : ℕ} → Numeral w v → Numeral w u → v ≡ u
-numeral-one n m = sym (numeral-value n) ∙ numeral-value m

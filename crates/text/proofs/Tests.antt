@@ -18,6 +18,10 @@ pub never : (t : Bool) → t && false ≡ false
 never true = refl
 never false = refl
 
+pub ever : (t : Bool) → t && true ≡ t
+ever true = refl
+ever false = refl
+
 -- a split by a test, with its equation
 pub by-test : {A : Type 0} (t : Bool) → (t ≡ true → A) → (t ≡ false → A) → A
 by-test {A} t f g = go t refl

@@ -1,5 +1,5 @@
 // Reads marks and number fields out of bytes. Every reader answers the place after what it read, or Bad.
-// A place past the end reads as byte 0, which no form has, so no caller tests a length.
+// A place past the end reads as byte 0, which is no digit, so no caller tests a length.
 pub mod signed;
 
 ghost use mathlib.Core.Path.{_≡_};
@@ -59,13 +59,13 @@ fn in_form(first: u8, count: usize, value: u64, max: u64) -> bool
     if count < 1 {
         return false;
     }
-    if 10 < count {
-        return false;
-    }
     if padded(first, count) {
         return false;
     }
-    value <= max
+    if max < value {
+        return false;
+    }
+    count <= 10
 }
 
 // A number of up to ten digits without a leading zero, at most max.

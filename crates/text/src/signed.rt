@@ -40,10 +40,10 @@ pub fn read_number(s: &[u8], at: usize) -> Field
     else {
         return Field::Bad;
     };
-    if size == 0 {
-        return Field::Bad;
+    if 0 < size {
+        return Field::Number(negative(size), end);
     }
-    Field::Number(negative(size), end)
+    Field::Bad
 }
 
 // A signed number that follows a key.

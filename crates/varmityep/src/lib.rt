@@ -11,7 +11,7 @@ ghost use Rattle.flat.specs.Tables.{table-from};
 ghost use Rattle.flat.specs.Predicates.{ranges-of, ends-of};
 ghost use Rattle.sheets.specs.Sheets.{sheet-of};
 ghost use Rattle.requirements.specs.Requirement.{requirement-of};
-ghost use Rattle.row_lines.specs.Rows.{rows-of};
+ghost use Rattle.row_lines.specs.Reading.{rows-of};
 ghost use Rattle.refusals.specs.First.{unless-refused};
 ghost use Rattle.sheet_rows.specs.Answer.{answer-of, times-of, values-of, in-front};
 ghost use Rattle.margins.specs.Answers.{margin-outcome, margin-judged, margin-cells};

@@ -3,6 +3,8 @@
 use Prim.Native.Nat.{_*_}
 use denote.Ref.{now}
 use borrow.Author.Tests.{le-leb, lt-leb}
+use Rattle.tables.specs.Tree.{NODES}
+use Rattle.building.specs.Storing.{WIDTH}
 use Rattle.building.proofs.Cells.{sets-five}
 use borrow.Author.Needs.{needs}
 use Rattle.building.proofs.push.Statement.{statement}
@@ -11,7 +13,7 @@ use Rattle.building.proofs.push.Reads as reads
 use Rattle.building.proofs.push.Lts as lts
 
 returns : tie.Need-returns
-returns c = (rw (le-leb 64 _ (c .if1 .taken)), rw (le-leb 64 _ (c .if1 .taken)))
+returns c = (rw (le-leb NODES _ (c .if1 .taken)), rw (le-leb NODES _ (c .if1 .taken)))
 
 mul-first : tie.Need-mul-first
 mul-first c = search needs
@@ -62,7 +64,7 @@ add-t11 : tie.Need-add-t11
 add-t11 c = search needs
 
 returns-2 : tie.Need-returns-2
-returns-2 c = (rw (lt-leb 64 _ (c .if1 .left)), rw (lt-leb 64 _ (c .if1 .left)) (let a = c .before .args in sets-five (now (a .cells)) (5 * a .free) (a .x .kind) (a .x .left) (a .x .right) (a .x .lo) (a .x .hi)))
+returns-2 c = (rw (lt-leb NODES _ (c .if1 .left)), rw (lt-leb NODES _ (c .if1 .left)) (let a = c .before .args in sets-five (now (a .cells)) (WIDTH * a .free) (a .x .kind) (a .x .left) (a .x .right) (a .x .lo) (a .x .hi)))
 
 pub push-spec : {M : Type 1} → statement M
 push-spec =

@@ -10,6 +10,7 @@ use native.Mathlib.Numerals.{add-one}
 use native.Mathlib.Omega.{arith}
 use borrow.Author.Tests.{le-leb, lt-leb}
 use borrow.Author.Needs.{needs}
+use Rattle.tables.specs.Tree.{NODES}
 use Rattle.building.specs.Storing.{nodes-from}
 use Rattle.building.proofs.table_from.Statement.{statement}
 use Rattle.building.proofs.table_from.Tie as tie
@@ -28,7 +29,7 @@ empty-table-requires : tie.Need-empty-table-requires Inv-loop μ-loop
 empty-table-requires c κs = search needs
 
 returns : tie.Need-returns Inv-loop μ-loop
-returns c = rw (lt-leb _ 64 (c .before .if1 .taken)) (c .empty-table .ensures)
+returns c = rw (lt-leb _ NODES (c .before .if1 .taken)) (c .empty-table .ensures)
 
 empty-table-requires-2 : tie.Need-empty-table-requires-2 Inv-loop μ-loop
 empty-table-requires-2 c κs = search needs
@@ -60,7 +61,7 @@ returns-2 : tie.Need-returns-2 Inv-loop μ-loop
 returns-2 c =
     let a = c .before .before .before .before .args in
     let e : c .before .loop .k ≡ a .count = omega arith in
-    rw (le-leb (a .count) 64 (c .before .before .before .if1 .left))
+    rw (le-leb (a .count) NODES (c .before .before .before .if1 .left))
     (ap {B = Table} (λ (ns : List Node). record { nodes = ns; count = a .count }) (c .before .loop .inv .1 ∙ ap (nodes-from (now (a .cells))) e))
 
 pub table-from-spec : {M : Type 1} → statement M

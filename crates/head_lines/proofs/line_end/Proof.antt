@@ -5,7 +5,7 @@ use mathlib.Core.Path.{_≡_, refl}
 use Prim.Native.Nat.{_+_, _-_}
 use native.Mathlib.Omega.{arith}
 use lib.ListN.{length, drop}
-use Rattle.head_lines.specs.Lines.{until-feed}
+use Rattle.head_lines.specs.Reading.{until-feed}
 use Rattle.head_lines.proofs.Steps.{feed-over, feed-here, feed-next}
 use Rattle.head_lines.proofs.line_end.Statement.{statement}
 use Rattle.head_lines.proofs.line_end.Tie as tie

@@ -1,6 +1,6 @@
 -- `head_lines::read_number` meets its contract: each branch of the code is a case of the definition.
 -- Assumes nothing.
-use Rattle.head_lines.specs.Lines.{number-at}
+use Rattle.head_lines.specs.Reading.{number-line-at}
 use mathlib.Core.Path.{sym, _∙_}
 use borrow.Author.Needs.{needs}
 use Rattle.head_lines.proofs.read_number.Statement.{statement}
@@ -16,7 +16,7 @@ enum-told : tie.Need-enum-told
 enum-told c = search needs
 
 returns : tie.Need-returns
-unfolding number-at
+unfolding number-line-at
 returns c = rw (sym (c .before .before .read-field .ensures) ∙ c .enum-told .given .1)
 
 slice-aggregate-read-mark : tie.Need-slice-aggregate-read-mark
@@ -32,11 +32,11 @@ enum-told-2 : tie.Need-enum-told-2
 enum-told-2 c = search needs
 
 returns-2 : tie.Need-returns-2
-unfolding number-at
+unfolding number-line-at
 returns-2 c = rw (sym (c .before .before .before .before .before .before .before .read-field .ensures) ∙ c .before .before .before .before .before .value .given .1, sym (c .before .before .read-mark .ensures) ∙ c .enum-told2 .given .1)
 
 returns-3 : tie.Need-returns-3
-unfolding number-at
+unfolding number-line-at
 returns-3 c = rw (sym (c .before .before .before .before .before .before .before .before .read-field .ensures) ∙ c .before .before .before .before .before .before .value .given .1, sym (c .before .before .before .read-mark .ensures) ∙ c .before .next .given .1)
 
 pub read-number-spec : {M : Type 1} → statement M

@@ -1,6 +1,6 @@
 -- `head_lines::read_requirement` meets its contract: each branch of the code is a case of the definition.
 -- Assumes nothing.
-use Rattle.head_lines.specs.Lines.{requirement-at}
+use Rattle.head_lines.specs.Reading.{requirement-at}
 use Rattle.head_lines.proofs.Steps.{line-open, line-whole}
 use mathlib.Core.Path.{sym, _∙_}
 use borrow.Author.Needs.{needs}

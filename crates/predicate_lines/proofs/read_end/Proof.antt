@@ -3,7 +3,7 @@
 use mir.Syntax.{w64}
 use mir.Val.{toZ, ofZ}
 use mathlib.Core.Path.{_≡_}
-use Rattle.predicate_lines.specs.Lines.{end-at}
+use Rattle.predicate_lines.specs.Reading.{end-at}
 use mathlib.Core.Path.{sym, _∙_}
 use borrow.Author.Needs.{needs}
 use Rattle.predicate_lines.proofs.read_end.Statement.{statement}

@@ -4,7 +4,7 @@ use borrow.Author.Needs.{needs}
 use borrow.Author.Tests.{not-true, not-false}
 use mathlib.Core.Path.{_≡_, refl, sym, _∙_}
 use Prim.Native.Nat.{_-_, _≤_}
-use Rattle.predicate_lines.specs.Lines.{lines-from, lines-at}
+use Rattle.predicate_lines.specs.Reading.{lines-from, lines-at}
 use Rattle.predicate_lines.proofs.Steps.{lines-end, lines-over, lines-bad, lines-more}
 use Rattle.predicate_lines.proofs.read_predicates.Statement.{statement}
 use Rattle.predicate_lines.proofs.read_predicates.Tie as tie

@@ -1,7 +1,7 @@
 -- `predicate_lines::store` meets its contract: each branch of the code is a case of the definition.
 -- Assumes nothing.
 use borrow.Author.Tests.{not-true, not-false}
-use Rattle.predicate_lines.specs.Lines.{stored-in}
+use Rattle.predicate_lines.specs.Reading.{stored-in}
 use mathlib.Core.Path.{sym, _∙_}
 use borrow.Author.Needs.{needs}
 use Rattle.predicate_lines.proofs.store.Statement.{statement}

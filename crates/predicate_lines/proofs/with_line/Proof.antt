@@ -1,7 +1,7 @@
 -- `predicate_lines::with_line` meets its contract: each branch of the code is a case of the definition.
 -- Assumes nothing.
 use native.Mathlib.Omega.{arith}
-use Rattle.predicate_lines.specs.Lines.{with-line}
+use Rattle.predicate_lines.specs.Reading.{with-line}
 use Rattle.predicate_lines.proofs.Written.{line-is}
 use mathlib.Core.Path.{sym, _∙_}
 use borrow.Author.Needs.{needs}

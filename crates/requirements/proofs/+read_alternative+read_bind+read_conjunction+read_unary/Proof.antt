@@ -5,7 +5,7 @@ use mathlib.Core.Path.{sym, _∙_}
 use mathlib.Core.List.{List}
 use Prim.Native.Nat.{_+_, _-_, _*_}
 use lib.ListN.{length}
-use Rattle.grammar.specs.Operators.{and-kind, or-kind}
+use Rattle.tables.specs.Kind.{and-kind, or-kind}
 use Rattle.grammar.specs.Reading.{bind-at, conjunction-at, unary-by}
 use Rattle.building.specs.Storing.{Done}
 use Rattle.building.proofs.Stores.{step-none, refused-done, done-as, one-done, close-done, stored-done}

@@ -1,7 +1,7 @@
 -- `row_lines::read_rest` meets its contract: each branch of the code is a case of the definition.
 -- Assumes nothing.
 use mathlib.Core.Path.{sym, _∙_}
-use Rattle.row_lines.specs.Rows.{rest-at}
+use Rattle.row_lines.specs.Reading.{rest-at}
 use borrow.Author.Needs.{needs}
 use Rattle.row_lines.proofs.read_rest.Statement.{statement}
 use Rattle.row_lines.proofs.read_rest.Tie as tie

@@ -1,7 +1,7 @@
 -- `row_lines::read_row` meets its contract: each branch of the code is a case of the definition.
 -- Assumes nothing.
 use mathlib.Core.Path.{sym, _∙_}
-use Rattle.row_lines.specs.Rows.{row-at}
+use Rattle.row_lines.specs.Reading.{row-at}
 use borrow.Author.Needs.{needs}
 use Rattle.row_lines.proofs.read_row.Statement.{statement}
 use Rattle.row_lines.proofs.read_row.Tie as tie

@@ -2,7 +2,7 @@
 -- Assumes nothing.
 use mathlib.Core.Path.{sym, _∙_}
 use borrow.Author.Tests.{eq-eqb, ne-eqb}
-use Rattle.row_lines.specs.Rows.{value-at}
+use Rattle.row_lines.specs.Reading.{value-at}
 use borrow.Author.Needs.{needs}
 use Rattle.row_lines.proofs.read_value.Statement.{statement}
 use Rattle.row_lines.proofs.read_value.Tie as tie

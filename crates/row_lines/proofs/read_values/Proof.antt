@@ -4,7 +4,7 @@ use borrow.Author.Needs.{needs}
 use mathlib.Core.Path.{_≡_, refl, sym, ap, _∙_}
 use Prim.Native.Nat.{_-_, _≤_}
 use native.Mathlib.Nat.{sub-zero}
-use Rattle.row_lines.specs.Rows.{values-from, end-of}
+use Rattle.row_lines.specs.Reading.{values-from, end-of}
 use Rattle.row_lines.proofs.Steps.{values-over, values-none, ends-next}
 use Rattle.row_lines.proofs.read_values.Statement.{statement}
 use Rattle.row_lines.proofs.read_values.Tie as tie

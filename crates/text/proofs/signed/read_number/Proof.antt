@@ -6,6 +6,7 @@ use borrow.Author.Tests.{eq-eqb, ne-eqb}
 use Rattle.text.proofs.Numerals.{number-is}
 use Rattle.text.specs.Number.{signed-at}
 use mathlib.Core.Path.{sym, _∙_}
+use native.Mathlib.Omega.{arith}
 use borrow.Author.Needs.{needs}
 use Rattle.text.proofs.signed.read_number.Statement.{statement}
 use Rattle.text.proofs.signed.read_number.Tie as tie
@@ -61,16 +62,20 @@ returns-3 : tie.Need-returns-3
 unfolding signed-at
 returns-3 c = rw (sym (c .before .before .before .before .before .before .read-mark .ensures) ∙ c .before .before .before .before .digits .given .1, sym (c .before .before .read-number2 .ensures) ∙ c .enum-told3 .given .1)
 
-returns-4 : tie.Need-returns-4
-unfolding signed-at
-returns-4 c = rw (sym (c .before .before .before .before .before .before .before .before .read-mark .ensures) ∙ c .before .before .before .before .before .before .digits .given .1, sym (c .before .before .before .before .read-number2 .ensures) ∙ c .before .before .size .given .1, eq-eqb _ _ (c .if1 .taken))
-
 negative-requires : tie.Need-negative-requires
 negative-requires c κs = number-is _ _ _ _ _ (sym (c .before .before .before .before .read-number2 .ensures) ∙ c .before .before .size .given .1) .bound
 
+returns-4 : tie.Need-returns-4
+unfolding signed-at
+returns-4 c =
+    let h = c .before .if1 .taken in
+    rw (sym (c .before .before .before .before .before .before .before .before .before .read-mark .ensures) ∙ c .before .before .before .before .before .before .before .digits .given .1, sym (c .before .before .before .before .before .read-number2 .ensures) ∙ c .before .before .before .size .given .1, ne-eqb (c .before .before .before .size .given .0 .0) 0 (λ e. omega arith), toZ-ofZ w64 (c .negative .result) (record { sfits = c .negative .ok }), c .negative .ensures)
+
 returns-5 : tie.Need-returns-5
 unfolding signed-at
-returns-5 c = rw (sym (c .before .before .before .before .before .before .before .before .before .read-mark .ensures) ∙ c .before .before .before .before .before .before .before .digits .given .1, sym (c .before .before .before .before .before .read-number2 .ensures) ∙ c .before .before .before .size .given .1, ne-eqb _ _ (c .before .if1 .left), toZ-ofZ w64 (c .negative .result) (record { sfits = c .negative .ok }), c .negative .ensures)
+returns-5 c =
+    let h = c .if1 .left in
+    rw (sym (c .before .before .before .before .before .before .before .before .read-mark .ensures) ∙ c .before .before .before .before .before .before .digits .given .1, sym (c .before .before .before .before .read-number2 .ensures) ∙ c .before .before .size .given .1, eq-eqb (c .before .before .size .given .0 .0) 0 (omega arith))
 
 pub read-number-spec : {M : Type 1} → statement M
 read-number-spec =
@@ -90,6 +95,6 @@ read-number-spec =
     enum-known-size
     enum-told-3
     returns-3
-    returns-4
     negative-requires
+    returns-4
     returns-5)

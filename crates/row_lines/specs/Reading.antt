@@ -13,10 +13,11 @@ use Rattle.text.specs.declared.Mark.{Mark}
 use Rattle.text.specs.declared.Mark.the-variants.{Next, Bad as Mark·Bad}
 use Rattle.text.specs.declared.signed.Field.{Field as Signed}
 use Rattle.text.specs.declared.signed.Field.the-variants.{Bad as Signed·Bad}
-use Rattle.row_lines.specs.declared.Row.{Row}
-use Rattle.row_lines.specs.declared.Row.the-variants.{Measured, Filled, Bad}
+use Rattle.recordings.specs.Accepted.{MOST-CHANNELS}
+use Rattle.row_lines.specs.declared.RowLine.{RowLine}
+use Rattle.row_lines.specs.declared.RowLine.the-variants.{Measured, Filled, Bad}
 use Rattle.row_lines.specs.declared.Counts.{Counts}
-use Rattle.row_lines.specs.declared.Counts.the-variants.{Rows as Counts·Rows, Bad as Counts·Bad}
+use Rattle.row_lines.specs.declared.Counts.the-variants.{Found, Bad as Counts·Bad}
 use Rattle.row_lines.specs.Form.{Sample}
 
 -- a text longer than this is refused
@@ -25,7 +26,7 @@ limit = 65_536
 
 -- the test of `ChannelsInRange`
 abbrev pub channels-in-range : ℕ → Bool
-channels-in-range channels = leb 1 channels && leb channels 8
+channels-in-range channels = leb 1 channels && leb channels MOST-CHANNELS
 
 -- the value of channel c at a place
 unfoldable pub value-at : List ℕ → ℕ → ℕ → Signed
@@ -33,24 +34,24 @@ value-at s at c =
     after-number (field-at (bytes " v") s at largest) (λ k n. cond (eqb k c) (signed-field-at (bytes "=") s n) Signed·Bad) Signed·Bad
 
 -- values and the place after them
-pub data Values : Type 0 where
-  read : List ℤ → ℕ → Values
-  missing : Values
+pub data ValuesAt : Type 0 where
+  read : List ℤ → ℕ → ValuesAt
+  missing : ValuesAt
 
-abbrev pub also : ℤ → Values → Values
+abbrev pub also : ℤ → ValuesAt → ValuesAt
 also v (read vs n) = read (v ∷ vs) n
 also v missing = missing
 
 -- the values of k channels from channel c on
-unfoldable pub values-from : ℕ → ℕ → List ℕ → ℕ → Values
+unfoldable pub values-from : ℕ → ℕ → List ℕ → ℕ → ValuesAt
 values-from zero c s at = read [] at
 values-from (suc k) c s at = after-signed (value-at s at c) (λ v n. also v (values-from k (c + 1) s n)) missing
 
-abbrev pub end-of : Values → Mark
+abbrev pub end-of : ValuesAt → Mark
 end-of (read vs n) = Next n
 end-of missing = Mark·Bad
 
-abbrev pub all-of : Values → List ℤ
+abbrev pub all-of : ValuesAt → List ℤ
 all-of (read vs n) = vs
 all-of missing = []
 
@@ -59,20 +60,20 @@ unfoldable pub rest-at : List ℕ → ℕ → ℕ → Mark
 rest-at s at channels = after-mark (end-of (values-from channels 0 s at)) (λ n. mark-at (bytes "\n") s n) Mark·Bad
 
 -- what follows ` src=` in the line of a row of time t
-abbrev pub after-source : List ℕ → ℕ → ℕ → ℕ → Row
+abbrev pub after-source : List ℕ → ℕ → ℕ → ℕ → RowLine
 after-source s channels t b =
     after-mark (mark-at (bytes "m") s b)
     (λ a. after-mark (rest-at s a channels) (λ n. Measured t a n) Bad)
     (after-mark (mark-at (bytes "f") s b) (λ a. after-mark (rest-at s a channels) (λ n. Filled n) Bad) Bad)
 
 -- the row whose line begins at a place
-unfoldable pub row-at : List ℕ → ℕ → ℕ → Row
+unfoldable pub row-at : List ℕ → ℕ → ℕ → RowLine
 row-at s at channels =
     after-number (field-at (bytes "t=") s at largest)
     (λ t e. after-mark (mark-at (bytes " src=") s e) (λ b. after-source s channels t b) Bad)
     Bad
 
-abbrev pub after-row : {A : Type 0} → Row → (ℕ → ℕ → ℕ → A) → (ℕ → A) → A → A
+abbrev pub after-row : {A : Type 0} → RowLine → (ℕ → ℕ → ℕ → A) → (ℕ → A) → A → A
 after-row (Measured t a n) f g x = f t a n
 after-row (Filled n) f g x = g n
 after-row Bad f g x = x
@@ -110,5 +111,5 @@ abbrev pub rows-of : ℕ → List ℕ → Listing
 rows-of channels s = rows-from (length s) channels s 0
 
 abbrev pub counts : Listing → Counts
-counts (listed xs k) = Counts·Rows (length xs) k
+counts (listed xs k) = Found (length xs) k
 counts broken = Counts·Bad

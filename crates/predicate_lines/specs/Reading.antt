@@ -16,7 +16,7 @@ use Rattle.predicate_lines.specs.declared.Line.{Line}
 use Rattle.predicate_lines.specs.declared.Line.the-variants.{Set, Bad}
 use Rattle.predicate_lines.specs.declared.Predicates.{Predicates}
 use Rattle.predicate_lines.specs.Form.{range-of, unset}
-use Rattle.recordings.specs.Card.{unset-predicate as none}
+use Rattle.recordings.specs.Card.{unset-predicate}
 use Rattle.recordings.specs.Distance.{is-unset}
 
 -- an end behind its key
@@ -53,7 +53,7 @@ broken-set = record { ok = false; next = 0; all = unset }
 -- one predicate more, where its number is not set yet
 unfoldable pub stored-in : Predicates → ℕ → Predicate → ℕ → Predicates
 stored-in ps number predicate n =
-    cond (is-unset (getD (ps .all) number none .range)) (record { ok = true; next = n; all = set (ps .all) number predicate }) broken-set
+    cond (is-unset (getD (ps .all) number unset-predicate .range)) (record { ok = true; next = n; all = set (ps .all) number predicate }) broken-set
 
 unfoldable pub with-line : List ℕ → Predicates → Predicates
 with-line s ps = after-line (line-at s (ps .next)) (λ k p n. stored-in ps k p n) broken-set

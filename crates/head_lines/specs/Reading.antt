@@ -14,8 +14,8 @@ use Rattle.head_lines.specs.declared.Requirement.{Requirement}
 use Rattle.head_lines.specs.declared.Requirement.the-variants.{At, Bad}
 
 -- the line of a key and a number at a place
-unfoldable pub number-at : List ℕ → List ℕ → ℕ → Field
-number-at key s at = after-number (field-at key s at largest) (λ v e. after-mark (mark-at (bytes "\n") s e) (λ n. Number v n) Field·Bad) Field·Bad
+unfoldable pub number-line-at : List ℕ → List ℕ → ℕ → Field
+number-line-at key s at = after-number (field-at key s at largest) (λ v e. after-mark (mark-at (bytes "\n") s e) (λ n. Number v n) Field·Bad) Field·Bad
 
 -- the bytes before the first line feed
 unfoldable pub until-feed : List ℕ → List ℕ
