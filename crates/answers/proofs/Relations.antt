@@ -16,9 +16,11 @@ use Rattle.refusals.specs.First.{first}
 use Rattle.grammar.specs.Tree.{Tree}
 use Rattle.grammar.specs.Grammar.{Requires}
 use Rattle.building.specs.Nodes.{table-of}
+use Rattle.building.specs.Says.{says}
 use Rattle.requirements.specs.declared.Requirement.{Requirement}
 use Rattle.requirements.specs.Requirement.{requirement-of, accepted}
 use Rattle.requirements.proofs.Answers.{answer-complete}
+use Rattle.requirements.proofs.Says.{root-says}
 use Rattle.row_lines.specs.Form.{lines, Sample, Rows}
 use Rattle.row_lines.specs.Reading.{channels-in-range, Listing, listed}
 use Rattle.row_lines.proofs.Exact.{rows-exact}
@@ -37,7 +39,7 @@ use Rattle.answers.proofs.Promises.{number-none, holds, fails}
 module _ (s : List ℕ) (x : Sheet) (f : Form s x) (samples : List Sample) (filled : ℕ) (r : Rows (x .channels) (f .rows) samples filled) (a : Tree) (q : Requires (f .requirement) a) where
   -- the recording of the measured rows
   abbrev pub recording : Card
-  recording = card (x .channels) (x .predicates) (times-in samples) (values-in samples)
+  recording = card (x .predicates) (x .channels) (times-in samples) (values-in samples)
 
   sheet-is : sheet-of s ≡ x
   sheet-is = sheet-complete s x f
@@ -77,11 +79,12 @@ module _ (s : List ℕ) (x : Sheet) (f : Form s x) (samples : List Sample) (fill
       (subst (λ (y : Requirement). ShownOf b (sheet-of s) (listed samples filled) (y .table)) requirement-is
       (subst (λ (l : Listing). ShownOf b (sheet-of s) l (requirement-of (requirement-in s) .table)) listing-is h))
 
-  pub holds-said : answer-of-text s .number ≡ 0 → answer-of-text s .verdict ≡ Holds → Shown recording (x .step) (x .drift) true (root (table-of a))
-  holds-said e v = moved true (holds s e v)
+  -- of the requirement that the tree says
+  pub holds-said : answer-of-text s .number ≡ 0 → answer-of-text s .verdict ≡ Holds → Shown recording (x .step) (x .drift) true (says a)
+  holds-said e v = rw (root-says (f .requirement) a q) at (moved true (holds s e v))
 
-  pub fails-said : answer-of-text s .number ≡ 0 → answer-of-text s .verdict ≡ Fails → Shown recording (x .step) (x .drift) false (root (table-of a))
-  fails-said e v = moved false (fails s e v)
+  pub fails-said : answer-of-text s .number ≡ 0 → answer-of-text s .verdict ≡ Fails → Shown recording (x .step) (x .drift) false (says a)
+  fails-said e v = rw (root-says (f .requirement) a q) at (moved false (fails s e v))
 
 -- and every text that is answered with number 0 stands in these relations
 pub related : (s : List ℕ) → answer-of-text s .number ≡ 0 → (x : Sheet) × (f : Form s x) × (samples : List Sample) × (filled : ℕ) × Rows (x .channels) (f .rows) samples filled × (a : Tree) × Requires (f .requirement) a
