@@ -1,4 +1,4 @@
--- K1 to K13 as one fact, from the requirement's text to the functions' answers: the whole table computes to its answers, and one lemma turns that into each entry.
+-- K1 to K13 and document 01's printed lines as one fact, from text to what is answered and printed: the whole table computes to its answers, and one lemma turns that into each entry.
 -- Assumes nothing.
 use mathlib.Core.Path.{_≡_, refl, sym, ap, _∙_}
 use mathlib.Core.List.{List, [], map}
@@ -15,14 +15,22 @@ use Rattle.sampling.specs.Sampling.{step-obeys, times-close, near, values-near}
 use Rattle.margins.specs.Answers.{margin-judged}
 use Rattle.verdicts.specs.Answer.{verdict-refusal as refusal, verdict-judged as judged}
 use Rattle.text.specs.Mark.{prefix-of, mark-at}
-use Rattle.text.specs.Number.{digits, value, number-at, field-at}
+use Rattle.text.specs.Number.{digits, value, number-at, field-at, signed-at, signed-field-at}
 use Rattle.grammar.specs.Tree.{size}
 use Rattle.building.specs.Nodes.{nodes-of}
 use Rattle.grammar.specs.Reading.{window-at, timed-at, timed-among, leaf-at, more-turns, bind-by, unary-by, unary-at, requirement-tree}
+use Rattle.row_lines.specs.Reading.{value-at, values-from, rest-at, row-at, rows-from}
+use Rattle.sheet_rows.specs.Answer.{times-in, values-in}
+use Rattle.predicate_lines.specs.Reading.{end-at, line-at, stored-in, with-line, lines-from, lines-at}
+use Rattle.head_lines.specs.Reading.{number-line-at, until-feed, requirement-at}
+use Rattle.sheets.specs.Sheets.{behind-predicates, sheet-of}
+use Rattle.printing.specs.Decimal.{digits as decimal-digits}
+use Rattle.answers.specs.Answers.{answer-for, answer-of-text}
+use Rattle.answers.specs.Printed.{line-of}
 use Rattle.bench_readings.specs.Readings.{Answer, answer, Reading, readings}
 
 table : map (λ (r : Reading). map answer (r .asked)) readings ≡ map (λ (r : Reading). r .answered) readings
-unfolding robustness margin-judged judged refusal first tree trees requirement-obeys table-obeys nodes-obey node-obeys all-named names-set channels-obey predicates-obey predicate-obeys value-obeys times-obey all-rising all-early lengths-obey values-obey step-obeys times-close values-near near prefix-of mark-at digits value number-at field-at size window-at timed-at timed-among leaf-at more-turns bind-by unary-by unary-at requirement-tree nodes-of
+unfolding robustness margin-judged judged refusal first tree trees requirement-obeys table-obeys nodes-obey node-obeys all-named names-set channels-obey predicates-obey predicate-obeys value-obeys times-obey all-rising all-early lengths-obey values-obey step-obeys times-close values-near near prefix-of mark-at digits value number-at field-at size window-at timed-at timed-among leaf-at more-turns bind-by unary-by unary-at requirement-tree nodes-of signed-at signed-field-at value-at values-from rest-at row-at rows-from times-in values-in end-at line-at stored-in with-line lines-from lines-at number-line-at until-feed requirement-at behind-predicates sheet-of decimal-digits answer-for answer-of-text line-of
 table = refl
 
 -- what entry k asks is answered as entry k says

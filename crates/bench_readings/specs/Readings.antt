@@ -1,4 +1,4 @@
--- Document 01's bench readings, K1 to K13: what is asked, requirements given as text, and what is answered.
+-- Document 01's bench readings, K1 to K13, and the lines that it prints: what is asked, requirements and sheets given as text, and what is answered.
 -- Assumes nothing.
 use mathlib.Core.List.{List, [], _∷_}
 use Prim.Native.Nat.{ℕ}
@@ -7,7 +7,7 @@ use lib.IntN.{ℤ, pos, negℤ}
 use Rattle.recordings.specs.declared.Range.the-variants.{AtLeast, AtMost, Between}
 use Rattle.recordings.specs.declared.Verdict.{Verdict}
 use Rattle.recordings.specs.declared.Verdict.the-variants.{Holds, NotShown}
-use Rattle.recordings.specs.Card.{Card}
+use Rattle.recordings.specs.Card.{Card, sixteen}
 use Rattle.recordings.specs.Distance.{TOP, distance}
 use Rattle.recordings.specs.Examples.{example}
 use Rattle.tables.specs.declared.Table.{Table}
@@ -15,6 +15,9 @@ use Rattle.margins.specs.Answers.{MarginOutcome, margin-judged}
 use Rattle.verdicts.specs.Answer.{VerdictOutcome, verdict-judged}
 use Rattle.text.specs.Bytes.{bytes}
 use Rattle.requirements.specs.Requirement.{requirement-of}
+use Rattle.sheets.specs.Examples.{example as sheet, with-third, filled-row}
+use Rattle.answers.specs.Answers.{answer-of-text}
+use Rattle.answers.specs.Printed.{line-of}
 
 -- times 0 to 3, values 5, 7, 2, 9; p0 at least 3, p1 at most 6
 abbrev pub bench : Card
@@ -22,7 +25,7 @@ bench = record {
   channels = 1;
   times = 0 ∷ 1 ∷ 2 ∷ 3 ∷ [];
   values = pos 5 ∷ pos 7 ∷ pos 2 ∷ pos 9 ∷ [];
-  predicates = record { channel = 0; range = AtLeast (pos 3) } ∷ record { channel = 0; range = AtMost (pos 6) } ∷ [];
+  predicates = sixteen (record { channel = 0; range = AtLeast (pos 3) } ∷ record { channel = 0; range = AtMost (pos 6) } ∷ []);
 }
 
 -- the table that the requirement reader makes of a text
@@ -30,22 +33,25 @@ abbrev pub table-of : String → Table
 table-of text = requirement-of (bytes text) .table
 
 -- what the margin function answers on the bench recording; a value's distance from "between 3 and 8"; what the verdict function answers, at a drift, on the
--- program's recording, whose step is 1
+-- program's recording, whose step is 1; and the line that is printed for a whole text
 pub data Question : Type 0 where
   margin-of : String → Question
   distance-of : ℤ → Question
   verdict-of : ℕ → String → Question
+  line-for : List ℕ → Question
 
 pub data Answer : Type 0 where
   margin : MarginOutcome → Answer
   number : ℤ → Answer
   verdict : VerdictOutcome → Answer
+  line : List ℕ → Answer
 
 -- with as many cells to work in as these tables need
 abbrev pub answer : Question → Answer
 answer (margin-of text) = margin (margin-judged bench (table-of text) 12)
 answer (distance-of v) = number (distance TOP (Between (pos 3) (pos 8)) v)
 answer (verdict-of drift text) = verdict (verdict-judged example (table-of text) 1 drift 20)
+answer (line-for text) = line (line-of (answer-of-text text))
 
 abbrev pub accepted-margin : ℤ → Answer
 accepted-margin m = margin (record { number = 0; margin = m })
@@ -57,7 +63,7 @@ pub record Reading : Type 0 where
   pub asked : List Question
   pub answered : List Answer
 
--- K1 to K13, in order; then what the program prints of its example
+-- K1 to K13, in order; then what document 01 says is printed for its sheet, and for the sheet with `src=f` at t=2
 abbrev pub readings : List Reading
 readings =
     record { asked = margin-of "p0" ∷ []; answered = accepted-margin (pos 3) ∷ [] }
@@ -76,5 +82,6 @@ readings =
     ∷ record { asked = verdict-of 5 "G[0,2]p0" ∷ []; answered = accepted-verdict NotShown (pos 5) (negℤ (pos 7)) ∷ [] }
     ∷ record { asked = verdict-of 2 "F[1,3]p0" ∷ []; answered = accepted-verdict Holds (pos 6) (negℤ (pos 7)) ∷ [] }
     ∷ record { asked = verdict-of 2 "F[0,1]p0" ∷ []; answered = accepted-verdict NotShown (negℤ (pos TOP)) (negℤ (pos 7)) ∷ [] }
-    ∷ record { asked = verdict-of 2 "G[0,2]p0" ∷ []; answered = accepted-verdict Holds (pos 5) (negℤ (pos 7)) ∷ [] }
+    ∷ record { asked = line-for sheet ∷ []; answered = line (bytes "rows=5 filled=0 margin=6 hold=5 fail=-7 verdict=holds\n") ∷ [] }
+    ∷ record { asked = line-for (with-third filled-row) ∷ []; answered = line (bytes "refused=10\n") ∷ [] }
     ∷ []

@@ -7,12 +7,12 @@ use mathlib.Core.Logic.{inl, inr}
 use Prim.Native.Nat.{ℕ, zero, suc, _+_, _-_, _*_, _≤_, _<_}
 use native.Mathlib.Omega.{arith}
 use lib.Dec.{T, leb, ltb, leb→le, ltb→lt, lit≤, lit<}
-use lib.ListN.{length, getD}
+use lib.ListN.{length, getD, replicate}
 use lib.IntN.{ℤ, pos, _-ℤ_, natAbs}
 use Rattle.numbers.proofs.Parts.{abs-parts, sub-parts}
 use Rattle.lists.specs.Fold.{all-below}
 use Rattle.lists.proofs.Below.{all-at}
-use Rattle.recordings.specs.Card.{Card, rows, time, value, predicate}
+use Rattle.recordings.specs.Card.{Card, rows, time, value, unset-predicate, predicate-at, predicate}
 use Rattle.recordings.specs.History.{OneStep, History}
 use Rattle.recordings.specs.Accepted.{MOST-ROWS, LATEST, FARTHEST, LONGEST-STEP, LARGEST-DRIFT, Proper, Accepted}
 use Rattle.recordings.specs.Examples.{example, ramp}
@@ -55,10 +55,16 @@ accepted {c} {step} {drift} t = record {
   };
 }
 
+-- predicates that are not given are unset
+unset-proper : (n p : ℕ) → Proper (predicate-at (replicate n unset-predicate) p) 1
+unset-proper zero p = record { known = inl refl; ends = tt }
+unset-proper (suc n) zero = record { known = inl refl; ends = tt }
+unset-proper (suc n) (suc p) = unset-proper n p
+
 -- ---- the program's example
 at-least-five : (p : ℕ) → Proper (predicate example p) 1
 at-least-five zero = record { known = inr (lit< tt); ends = record { size = lit≤ tt } }
-at-least-five (suc p) = record { known = inl refl; ends = tt }
+at-least-five (suc p) = unset-proper 15 p
 
 pub example-accepted : Accepted example 1 2
 example-accepted = accepted (record {
@@ -94,7 +100,7 @@ example-has-history = record { follows = λ ch i t h k s o. let e : ch ≡ 0 = o
 pub ramp-accepted : Accepted ramp 1 1
 ramp-accepted = accepted (record {
   one-channel = refl;
-  proper = λ p. record { known = inl refl; ends = tt };
+  proper = unset-proper 16;
   some-row = tt;
   few-rows = tt;
   all-values = refl;

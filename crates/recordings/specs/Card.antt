@@ -1,8 +1,8 @@
 -- All that a requirement is read against: a card's recording and the predicates that the requirement names.
 -- Assumes nothing.
-use mathlib.Core.List.{List}
+use mathlib.Core.List.{List, _++_}
 use Prim.Native.Nat.{ℕ, suc, _+_, _-_, _*_}
-use lib.ListN.{length, getD}
+use lib.ListN.{length, getD, replicate}
 use denote.Ref.{RefT, now}
 use lib.IntN.{ℤ, pos}
 use Rattle.logic.specs.Reading.{Places}
@@ -28,6 +28,10 @@ value c ch i = getD (c .values) (i * c .channels + ch) (pos 0)
 -- a number that no predicate has is unset
 abbrev pub unset-predicate : Predicate
 unset-predicate = record { channel = 0; range = Unset }
+
+-- as a caller passes them: the first are given, the others of the sixteen are unset
+abbrev pub sixteen : List Predicate → List Predicate
+sixteen ps = ps ++ replicate (16 - length ps) unset-predicate
 
 abbrev pub predicate-at : List Predicate → ℕ → Predicate
 predicate-at ps p = getD ps p unset-predicate

@@ -3,12 +3,12 @@
 use mathlib.Core.List.{[], _∷_}
 use lib.IntN.{pos}
 use Rattle.recordings.specs.declared.Range.the-variants.{AtLeast}
-use Rattle.recordings.specs.Card.{Card}
+use Rattle.recordings.specs.Card.{Card, sixteen}
 
 -- p0 is "at least 5"; step 1, drift 2
 abbrev pub example : Card
 example = record {
-  predicates = record { channel = 0; range = AtLeast (pos 5) } ∷ [];
+  predicates = sixteen (record { channel = 0; range = AtLeast (pos 5) } ∷ []);
   channels = 1;
   times = 0 ∷ 1 ∷ 2 ∷ 3 ∷ 4 ∷ [];
   values = pos 10 ∷ pos 11 ∷ pos 10 ∷ pos 9 ∷ pos 10 ∷ [];
@@ -16,4 +16,4 @@ example = record {
 
 -- a steep ramp; step 1, drift 1
 abbrev pub ramp : Card
-ramp = record { predicates = []; channels = 1; times = 0 ∷ 1 ∷ 2 ∷ []; values = pos 5 ∷ pos 7 ∷ pos 9 ∷ [] }
+ramp = record { predicates = sixteen []; channels = 1; times = 0 ∷ 1 ∷ 2 ∷ []; values = pos 5 ∷ pos 7 ∷ pos 9 ∷ [] }
