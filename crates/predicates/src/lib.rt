@@ -90,7 +90,7 @@ fn range_obeys(range: Range) -> bool
     }
 }
 
-fn predicate_obeys(predicate: Predicate, channels: usize) -> bool
+pub fn predicate_obeys(predicate: Predicate, channels: usize) -> bool
     ensures { λ r. ⌜ r ≡ predicate-obeys channels predicate ⌝ }
 {
     let channel = predicate.channel;
