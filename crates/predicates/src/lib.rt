@@ -91,7 +91,7 @@ fn range_obeys(range: Range) -> bool
     }
 }
 
-fn predicate_obeys(predicate: Predicate, channels: usize) -> bool
+pub fn predicate_obeys(predicate: Predicate, channels: usize) -> bool
     ensures { λ r. ⌜ r ≡ predicate-obeys predicate channels ⌝ }
 {
     let channel = predicate.channel;

@@ -34,16 +34,19 @@ every-kind test t u k = elim (decLt k (length kinds)) [
   | no h ↦ rw (List·getD-eq-default kinds unknown {n = k} (omega arith)) (u k (omega arith))
 ]
 
--- ---- two tests that agree, two uses that are the same
-abbrev pub agree : Bool → Bool → Bool
+-- ---- a test of the code, or a use, agrees with what the definitions say of the kind's operator
+abbrev agree : Bool → Bool → Bool
 agree true b = b
 agree false b = not b
 
-pub agreed : {a b : Bool} → T (agree a b) → a ≡ b
+agreed : {a b : Bool} → T (agree a b) → a ≡ b
 agreed {a = true} {b = true} t = refl
 agreed {a = true} {b = false} t = absurd t
 agreed {a = false} {b = true} t = absurd t
 agreed {a = false} {b = false} t = refl
+
+pub by-test : (code : ℕ → Bool) (said : Operator → Bool) → T (all-below (λ k. agree (code k) (said (operator k))) (length kinds)) → ((k : ℕ) → length kinds ≤ k → T (agree (code k) (said unknown))) → (k : ℕ) → code k ≡ said (operator k)
+by-test code said t u k = agreed (every-kind (λ o k. agree (code k) (said o)) t u k)
 
 abbrev same : Use → Use → Bool
 same child v = is-child v
@@ -61,22 +64,29 @@ same-use {u = unused} {v = child} t = absurd t
 same-use {u = unused} {v = number} t = absurd t
 same-use {u = unused} {v = unused} t = refl
 
--- ---- what the code asks of a kind's number
-pub left-test : (k : ℕ) → (leb not-kind k && leb k always-kind) ≡ is-child (left-use (operator k))
-left-test k = agreed (every-kind (λ o k. agree (leb not-kind k && leb k always-kind) (is-child (left-use o))) tt (λ k h. rw (le-leb not-kind k (omega arith), lt-leb k always-kind (omega arith)) tt) k)
+-- kinds from a up to b, both counted
+abbrev from-to : ℕ → ℕ → ℕ → Bool
+from-to a b k = leb a k && leb k b
 
-pub right-test : (k : ℕ) → (leb and-kind k && leb k release-kind) ≡ is-child (right-use (operator k))
-right-test k = agreed (every-kind (λ o k. agree (leb and-kind k && leb k release-kind) (is-child (right-use o))) tt (λ k h. rw (le-leb and-kind k (omega arith), lt-leb k release-kind (omega arith)) tt) k)
+pub left-test : (k : ℕ) → from-to not-kind always-kind k ≡ is-child (left-use (operator k))
+left-test = by-test (from-to not-kind always-kind) (λ o. is-child (left-use o)) tt (λ k h. rw (le-leb not-kind k (omega arith), lt-leb k always-kind (omega arith)) tt)
 
-pub timed-test : (k : ℕ) → (leb until-kind k && leb k always-kind) ≡ timed (operator k)
-timed-test k = agreed (every-kind (λ o k. agree (leb until-kind k && leb k always-kind) (timed o)) tt (λ k h. rw (le-leb until-kind k (omega arith), lt-leb k always-kind (omega arith)) tt) k)
+pub right-test : (k : ℕ) → from-to and-kind release-kind k ≡ is-child (right-use (operator k))
+right-test = by-test (from-to and-kind release-kind) (λ o. is-child (right-use o)) tt (λ k h. rw (le-leb and-kind k (omega arith), lt-leb k release-kind (omega arith)) tt)
+
+pub timed-test : (k : ℕ) → from-to until-kind always-kind k ≡ timed (operator k)
+timed-test = by-test (from-to until-kind always-kind) timed tt (λ k h. rw (le-leb until-kind k (omega arith), lt-leb k always-kind (omega arith)) tt)
 
 pub largest-test : (k : ℕ) → (eqb k or-kind || (eqb k until-kind || eqb k eventually-kind)) ≡ is-largest (operator-extremum (operator k))
-largest-test k = agreed (every-kind (λ o k. agree (eqb k or-kind || (eqb k until-kind || eqb k eventually-kind)) (is-largest (operator-extremum o))) tt
-    (λ k h. rw (ne-eqb k or-kind (λ (e : k ≡ or-kind). omega arith), ne-eqb k until-kind (λ (e : k ≡ until-kind). omega arith), ne-eqb k eventually-kind (λ (e : k ≡ eventually-kind). omega arith)) tt) k)
+largest-test = by-test (λ k. eqb k or-kind || (eqb k until-kind || eqb k eventually-kind)) (λ o. is-largest (operator-extremum o)) tt
+    (λ k h. rw (ne-eqb k or-kind (λ (e : k ≡ or-kind). omega arith), ne-eqb k until-kind (λ (e : k ≡ until-kind). omega arith), ne-eqb k eventually-kind (λ (e : k ≡ eventually-kind). omega arith)) tt)
 
-pub not-test : (k : ℕ) → eqb k not-kind ≡ is-not (operator k)
-not-test k = agreed (every-kind (λ o k. agree (eqb k not-kind) (is-not o)) tt (λ k h. rw (ne-eqb k not-kind (λ (e : k ≡ not-kind). omega arith)) tt) k)
+not-test : (k : ℕ) → eqb k not-kind ≡ is-not (operator k)
+not-test = by-test (λ k. eqb k not-kind) is-not tt (λ k h. rw (ne-eqb k not-kind (λ (e : k ≡ not-kind). omega arith)) tt)
+
+-- "not" has one kind
+pub no-not : (k : ℕ) → (k ≡ not-kind → ⊥) → is-not (operator k) ≡ false
+no-not k h = sym (not-test k) ∙ ne-eqb k not-kind h
 
 -- ---- a use from the tests
 pub left-is : (k : ℕ) → left-use (operator k) ≡ cond (eqb k predicate-kind) number (cond (is-child (left-use (operator k))) child unused)
@@ -115,7 +125,3 @@ temporal-form unknown h = absurd (subst T (sym h) tt)
 temporal-form (joined e) h = absurd (subst T (sym h) tt)
 temporal-form (binary future e) h = refl
 temporal-form (unary future e) h = refl
-
--- "not" alone is kind 2
-pub no-not : (k : ℕ) → (k ≡ not-kind → ⊥) → is-not (operator k) ≡ false
-no-not k h = sym (not-test k) ∙ ne-eqb k not-kind h

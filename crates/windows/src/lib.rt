@@ -1,9 +1,9 @@
 // A node's window as the rows read it, and its strengthening. An end that stands for no end is told apart before anything is added to it.
 ghost use mathlib.Core.Path.{_≡_};
 ghost use Prim.Native.Nat.{_-_, _≤_};
-ghost use Rattle.logic.specs.Strengthening.{contraction, expansion, strengthen-window};
+ghost use Rattle.logic.specs.Strengthening.{sooner, later, contraction, expansion, strengthen-window};
 ghost use Rattle.tables.specs.Tree.{NO-END, window};
-ghost use Rattle.windows.specs.Bounds.{Short};
+ghost use Rattle.windows.specs.Bounds.{Short, ShortStop};
 use logic::Extremum;
 use logic::Stop;
 use logic::Window;
@@ -35,22 +35,38 @@ fn less(a: u64, b: u64) -> u64
     if a < b { 0 } else { a - b }
 }
 
+// An end that is so much sooner. No end remains no end.
+fn sooner(step: u64, stop: Stop) -> Stop
+    ensures { λ r. ⌜ r ≡ sooner step stop ⌝ }
+{
+    match stop {
+        Stop::Endless => Stop::Endless,
+        Stop::Before(end) => Stop::Before(less(end, step)),
+    }
+}
+
+// An end that is so much later.
+fn later(step: u64, stop: Stop) -> Stop
+    requires { ⌜ ShortStop stop × (step ≤ NO-END) ⌝ }
+    ensures { λ r. ⌜ r ≡ later step stop ⌝ }
+{
+    match stop {
+        Stop::Endless => Stop::Endless,
+        Stop::Before(end) => Stop::Before(end + step),
+    }
+}
+
 // The source's contraction: where the step is longer than the window, nothing is left.
 fn contracted(step: u64, w: Window) -> Window
     requires { ⌜ Short w × (step ≤ NO-END) ⌝ }
     ensures { λ r. ⌜ r ≡ contraction step w ⌝ }
 {
     let from = w.from + step;
-    let stop = w.stop;
-    match stop {
-        Stop::Endless => Window {
-            from: from,
-            stop: Stop::Endless,
-        },
-        Stop::Before(end) => Window {
-            from: from,
-            stop: Stop::Before(less(end, step)),
-        },
+    let end = w.stop;
+    let stop = sooner(step, end);
+    Window {
+        from: from,
+        stop: stop,
     }
 }
 
@@ -60,16 +76,11 @@ fn expanded(step: u64, w: Window) -> Window
     ensures { λ r. ⌜ r ≡ expansion step w ⌝ }
 {
     let from = less(w.from, step);
-    let stop = w.stop;
-    match stop {
-        Stop::Endless => Window {
-            from: from,
-            stop: Stop::Endless,
-        },
-        Stop::Before(end) => Window {
-            from: from,
-            stop: Stop::Before(end + step),
-        },
+    let end = w.stop;
+    let stop = later(step, end);
+    Window {
+        from: from,
+        stop: stop,
     }
 }
 

@@ -1,0 +1,2 @@
+-- The distance's answer, refusals included.
+pub mod Answers
