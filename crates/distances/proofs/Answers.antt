@@ -16,20 +16,20 @@ use Rattle.distances.specs.Answers.{CHANNELS, distance-outcome, distance
 
 module _ (p : Predicate) (v : ℤ) where
   predicate-check : Check
-  predicate-check = record { number = 4; sentence = Proper CHANNELS p; passes = predicate-obeys CHANNELS p }
+  predicate-check = record { number = 4; sentence = Proper p CHANNELS; passes = predicate-obeys p CHANNELS }
 
   value-check : Check
   value-check = record { number = 7; sentence = InRange v; passes = value-obeys v }
 
-  pub refused-predicate : predicate-obeys CHANNELS p ≡ false → distance-refusal p v ≡ 4
+  pub refused-predicate : predicate-obeys p CHANNELS ≡ false → distance-refusal p v ≡ 4
   unfolding predicate-check value-check
   refused-predicate h = first-fails predicate-check (value-check ∷ []) h
 
-  pub refused-value : predicate-obeys CHANNELS p ≡ true → value-obeys v ≡ false → distance-refusal p v ≡ 7
+  pub refused-value : predicate-obeys p CHANNELS ≡ true → value-obeys v ≡ false → distance-refusal p v ≡ 7
   unfolding predicate-check value-check
   refused-value h g = first-passes predicate-check (value-check ∷ []) h ∙ first-fails value-check [] g
 
-  pub refused-none : predicate-obeys CHANNELS p ≡ true → value-obeys v ≡ true → distance-refusal p v ≡ 0
+  pub refused-none : predicate-obeys p CHANNELS ≡ true → value-obeys v ≡ true → distance-refusal p v ≡ 0
   unfolding predicate-check value-check first
   refused-none h g = first-passes predicate-check (value-check ∷ []) h ∙ first-passes value-check [] g
 

@@ -17,7 +17,7 @@ use Rattle.distances.specs.Answers.{CHANNELS, distance-checks, distance-
 module _ (p : Predicate) (v : ℤ) where
   -- each test of the list holds exactly where its sentence does
   exact-checks : AllExact (distance-checks p v)
-  exact-checks = (record { sound = proper CHANNELS p; complete = proper-passes CHANNELS p }, λ _. (record { sound = value-in-range v; complete = in-range-passes v }, λ _. tt))
+  exact-checks = (record { sound = proper p CHANNELS; complete = proper-passes p CHANNELS }, λ _. (record { sound = value-in-range v; complete = in-range-passes v }, λ _. tt))
 
   -- a number m is answered exactly when its condition applies and no earlier one does
   pub number-refused : (distance-judged p v .number ≡ 0 → ⊥) → Refused (distance-checks p v) (distance-judged p v .number)
@@ -29,13 +29,13 @@ module _ (p : Predicate) (v : ℤ) where
   refused-number m h = first-is (distance-checks p v) exact-checks h
 
   -- 0 is answered exactly when neither applies
-  pub number-none : distance-judged p v .number ≡ 0 → Proper CHANNELS p × InRange v
+  pub number-none : distance-judged p v .number ≡ 0 → Proper p CHANNELS × InRange v
   unfolding distance-judged
   number-none e =
       let r = passed (distance-checks p v) tt exact-checks e in
       (r .each 0 (omega arith), r .each 1 (omega arith))
 
-  pub none-number : Proper CHANNELS p → InRange v → distance-judged p v .number ≡ 0
+  pub none-number : Proper p CHANNELS → InRange v → distance-judged p v .number ≡ 0
   unfolding distance-judged
   none-number a b = none-fails (distance-checks p v) exact-checks (record { each = each })
     where

@@ -27,7 +27,7 @@ CHANNELS = 8
 -- 4: the predicate is proper on no card, that is, not on one with all channels; then 7: the value is out of range
 abbrev pub distance-checks : Predicate → ℤ → List Check
 distance-checks p v =
-    record { number = 4; sentence = Proper CHANNELS p; passes = predicate-obeys CHANNELS p }
+    record { number = 4; sentence = Proper p CHANNELS; passes = predicate-obeys p CHANNELS }
     ∷ record { number = 7; sentence = InRange v; passes = value-obeys v }
     ∷ []
 

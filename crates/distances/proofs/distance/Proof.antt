@@ -17,7 +17,7 @@ use Rattle.distances.proofs.Answers.{refused-predicate, refused-value, 
 use Rattle.distances.proofs.distance.Statement.{statement}
 use Rattle.distances.proofs.distance.Tie as tie
 
-predicate-passes : (c : tie.Else1) → predicate-obeys CHANNELS (c .before .before .args .predicate) ≡ true
+predicate-passes : (c : tie.Else1) → predicate-obeys (c .before .before .args .predicate) CHANNELS ≡ true
 predicate-passes c = sym (c .before .predicate-obeys .ensures) ∙ not-false _ (c .if1 .left)
 
 -- the test of the value, on the value itself
@@ -48,7 +48,7 @@ returns-2 c =
 distance-of-requires : tie.Need-distance-of-requires
 distance-of-requires c κs =
     let s = c .before .before .before .before in
-    (in-back (value-in-range (s .args .value) (holds (value-passes c))), proper CHANNELS (s .args .predicate) (holds (predicate-passes (c .before .before))) .ends)
+    (in-back (value-in-range (s .args .value) (holds (value-passes c))), proper (s .args .predicate) CHANNELS (holds (predicate-passes (c .before .before))) .ends)
 
 returns-3 : tie.Need-returns-3
 returns-3 c =
