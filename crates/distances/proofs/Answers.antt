@@ -7,29 +7,29 @@ use Prim.Native.Nat.{ℕ}
 use lib.IntN.{ℤ}
 use Rattle.recordings.specs.declared.Predicate.{Predicate}
 use Rattle.recordings.specs.Distance.{TOP, distance}
-use Rattle.recordings.specs.Accepted.{InRange, Proper}
+use Rattle.recordings.specs.Accepted.{MOST-CHANNELS, InRange, Proper}
 use Rattle.refusals.specs.First.{Check, first}
 use Rattle.refusals.proofs.First.{first-passes, first-fails, unless-none, unless-some}
 use Rattle.predicates.specs.Predicates.{predicate-obeys, value-obeys}
 use Rattle.distances.specs.declared.Answer.the-variants.{Distance, Refused}
-use Rattle.distances.specs.Answers.{CHANNELS, distance-outcome, distance-refusal, distance-judged}
+use Rattle.distances.specs.Answers.{distance-outcome, distance-refusal, distance-judged}
 
 module _ (p : Predicate) (v : ℤ) where
   predicate-check : Check
-  predicate-check = record { number = 4; sentence = Proper p CHANNELS; passes = predicate-obeys p CHANNELS }
+  predicate-check = record { number = 4; sentence = Proper p MOST-CHANNELS; passes = predicate-obeys p MOST-CHANNELS }
 
   value-check : Check
   value-check = record { number = 7; sentence = InRange v; passes = value-obeys v }
 
-  pub refused-predicate : predicate-obeys p CHANNELS ≡ false → distance-refusal p v ≡ 4
+  pub refused-predicate : predicate-obeys p MOST-CHANNELS ≡ false → distance-refusal p v ≡ 4
   unfolding predicate-check value-check
   refused-predicate h = first-fails predicate-check (value-check ∷ []) h
 
-  pub refused-value : predicate-obeys p CHANNELS ≡ true → value-obeys v ≡ false → distance-refusal p v ≡ 7
+  pub refused-value : predicate-obeys p MOST-CHANNELS ≡ true → value-obeys v ≡ false → distance-refusal p v ≡ 7
   unfolding predicate-check value-check
   refused-value h g = first-passes predicate-check (value-check ∷ []) h ∙ first-fails value-check [] g
 
-  pub refused-none : predicate-obeys p CHANNELS ≡ true → value-obeys v ≡ true → distance-refusal p v ≡ 0
+  pub refused-none : predicate-obeys p MOST-CHANNELS ≡ true → value-obeys v ≡ true → distance-refusal p v ≡ 0
   unfolding predicate-check value-check first
   refused-none h g = first-passes predicate-check (value-check ∷ []) h ∙ first-passes value-check [] g
 

@@ -6,18 +6,18 @@ use native.Mathlib.Omega.{arith}
 use lib.IntN.{ℤ, pos}
 use Rattle.recordings.specs.declared.Predicate.{Predicate}
 use Rattle.recordings.specs.Distance.{TOP, distance, Measures}
-use Rattle.recordings.specs.Accepted.{InRange, Proper}
+use Rattle.recordings.specs.Accepted.{MOST-CHANNELS, InRange, Proper}
 use Rattle.recordings.proofs.Nearest.{distance-measures}
 use Rattle.recordings.proofs.Distances.{Open, distance-open}
 use Rattle.refusals.specs.First.{AllExact, Refused, check-at}
 use Rattle.refusals.proofs.First.{refused, first-is, passed, none-fails, unless-none, unless-some}
 use Rattle.predicates.proofs.Predicates.{proper, proper-passes, value-in-range, in-range-passes}
-use Rattle.distances.specs.Answers.{CHANNELS, distance-checks, distance-judged}
+use Rattle.distances.specs.Answers.{distance-checks, distance-judged}
 
 module _ (p : Predicate) (v : ℤ) where
   -- each test of the list holds exactly where its sentence does
   exact-checks : AllExact (distance-checks p v)
-  exact-checks = (record { sound = proper p CHANNELS; complete = proper-passes p CHANNELS }, λ _. (record { sound = value-in-range v; complete = in-range-passes v }, λ _. tt))
+  exact-checks = (record { sound = proper p MOST-CHANNELS; complete = proper-passes p MOST-CHANNELS }, λ _. (record { sound = value-in-range v; complete = in-range-passes v }, λ _. tt))
 
   -- a number m is answered exactly when its condition applies and no earlier one does
   pub number-refused : (distance-judged p v .number ≡ 0 → ⊥) → Refused (distance-checks p v) (distance-judged p v .number)
@@ -29,13 +29,13 @@ module _ (p : Predicate) (v : ℤ) where
   refused-number m h = first-is (distance-checks p v) exact-checks h
 
   -- 0 is answered exactly when neither applies
-  pub number-none : distance-judged p v .number ≡ 0 → Proper p CHANNELS × InRange v
+  pub number-none : distance-judged p v .number ≡ 0 → Proper p MOST-CHANNELS × InRange v
   unfolding distance-judged
   number-none e =
       let r = passed (distance-checks p v) tt exact-checks e in
       (r .each 0 (omega arith), r .each 1 (omega arith))
 
-  pub none-number : Proper p CHANNELS → InRange v → distance-judged p v .number ≡ 0
+  pub none-number : Proper p MOST-CHANNELS → InRange v → distance-judged p v .number ≡ 0
   unfolding distance-judged
   none-number a b = none-fails (distance-checks p v) exact-checks (record { each = each })
     where

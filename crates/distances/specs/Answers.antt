@@ -5,7 +5,7 @@ use Prim.Native.Nat.{ℕ}
 use lib.IntN.{ℤ, pos}
 use Rattle.recordings.specs.declared.Predicate.{Predicate}
 use Rattle.recordings.specs.Distance.{TOP, distance}
-use Rattle.recordings.specs.Accepted.{InRange, Proper}
+use Rattle.recordings.specs.Accepted.{MOST-CHANNELS, InRange, Proper}
 use Rattle.refusals.specs.First.{Check, first, unless-refused}
 use Rattle.predicates.specs.Predicates.{predicate-obeys, value-obeys}
 use Rattle.distances.specs.declared.Answer.{Answer}
@@ -20,14 +20,10 @@ abbrev pub distance-outcome : Answer → DistanceOutcome
 distance-outcome (Distance d) = record { number = 0; distance = d }
 distance-outcome (Refused n) = record { number = n; distance = pos 0 }
 
--- a card has up to so many channels
-abbrev pub CHANNELS : ℕ
-CHANNELS = 8
-
 -- 4: the predicate is proper on no card, that is, not on one with all channels; then 7: the value is out of range
 abbrev pub distance-checks : Predicate → ℤ → List Check
 distance-checks p v =
-    record { number = 4; sentence = Proper p CHANNELS; passes = predicate-obeys p CHANNELS }
+    record { number = 4; sentence = Proper p MOST-CHANNELS; passes = predicate-obeys p MOST-CHANNELS }
     ∷ record { number = 7; sentence = InRange v; passes = value-obeys v }
     ∷ []
 

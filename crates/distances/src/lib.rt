@@ -3,20 +3,17 @@ ghost use mathlib.Core.Path.{_≡_};
 ghost use Rattle.distances.specs.Answers.{distance-outcome, distance-judged};
 use recordings::Predicate;
 
-// A card has up to so many channels.
-pub const CHANNELS: usize = 8;
-
 // The distance, or the number of the first refusal that applies.
 pub enum Answer {
     Distance(i64),
     Refused(u64),
 }
 
-// An unset predicate reads as free, as elsewhere.
+// A predicate is refused that no card could have, whatever its channels. An unset one reads as free, as elsewhere.
 pub fn distance(predicate: Predicate, value: i64) -> Answer
     ensures { λ r. ⌜ distance-outcome r ≡ distance-judged predicate value ⌝ }
 {
-    if !predicates::predicate_obeys(predicate, CHANNELS) {
+    if !predicates::predicate_obeys(predicate, recordings::MOST_CHANNELS) {
         return Answer::Refused(4);
     }
     if !predicates::value_obeys(value) {

@@ -13,7 +13,7 @@ use recordings::Range;
 use tables::Node;
 use tables::Table;
 
-pub fn is_set(range: Range) -> bool
+fn is_set(range: Range) -> bool
     ensures { λ r. ⌜ r ≡ is-set range ⌝ }
 {
     !recordings::is_unset(range)

@@ -15,11 +15,10 @@ ghost use Rattle.rows.specs.Cells.{cell, signed, Above, Bounded, Leaf};
 use logic::Extremum;
 use recordings::Predicate;
 use recordings::Range;
+use recordings::TOP;
 
-// No margin is further from zero.
-const TOP: i64 = 4_000_000_000;
-
-const BOTTOM: i64 = -4_000_000_000;
+// No margin is further from zero than TOP.
+const BOTTOM: i64 = -TOP;
 
 // The larger of two, or the smaller.
 pub fn extreme(e: Extremum, a: i64, b: i64) -> i64

@@ -105,7 +105,7 @@ fn right_obeys(kind: u64, right: usize, k: usize) -> bool
     right == 0
 }
 
-pub fn window_obeys(lo: u64, hi: u64) -> bool
+fn window_obeys(lo: u64, hi: u64) -> bool
     ensures { λ r. ⌜ r ≡ window-obeys lo hi ⌝ }
 {
     (lo <= LONGEST) & ((hi == NO_END) | ((hi <= LONGEST) & (lo <= hi)))

@@ -9,6 +9,7 @@ use lib.IntN.{ℤ}
 use Rattle.logic.specs.declared.Window.{Window}
 use Rattle.logic.specs.Negation.{turn}
 use Rattle.logic.specs.Strengthening.{strengthen-window}
+use Rattle.recordings.specs.Accepted.{LONGEST-STEP}
 use Rattle.recordings.specs.Card.{Card, rows}
 use Rattle.rows.specs.Cells.{cell}
 use Rattle.tables.specs.declared.Node.{Node}
@@ -34,7 +35,7 @@ row-of false k = 2 * k + 1
 -- what is judged before any row is filled
 pub record Ready (c : Card) (t : Table) (step cells : ℕ) : Type 0 where
   pub sound : Sound c t
-  pub step-bound : step ≤ 1_000_000_000
+  pub step-bound : step ≤ LONGEST-STEP
   pub room : 2 * t .count * rows c ≤ cells
 
 -- the rows before row r are filled

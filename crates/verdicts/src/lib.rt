@@ -5,6 +5,7 @@ ghost use lib.IntN.{pos};
 ghost use lib.Signed.{ltZ};
 ghost use lib.ListN.{length};
 ghost use Rattle.lists.specs.Fill.{fill};
+ghost use Rattle.recordings.specs.Accepted.{LONGEST-STEP, LARGEST-DRIFT};
 ghost use Rattle.recordings.specs.Verdict.{decide};
 ghost use Rattle.tables.specs.Kind.{operator};
 ghost use Rattle.tables.specs.Tree.{NODES, NO-END, window};
@@ -35,7 +36,7 @@ fn row_for(affirmed: bool, k: usize) -> usize
 
 // The node's window, strengthened; in the negation it is that of the dual operator.
 fn row_window(node: Node, affirmed: bool, step: u64) -> Window
-    requires { ⌜ (node .hi ≤ NO-END) × Short (window node) × (step ≤ 1_000_000_000) ⌝ }
+    requires { ⌜ (node .hi ≤ NO-END) × Short (window node) × (step ≤ LONGEST-STEP) ⌝ }
     ensures { λ r. ⌜ r ≡ strong-window affirmed step (operator (node .kind)) node ⌝ }
 {
     let e = logic::turn(affirmed, tables::extremum_of(node.kind));
@@ -114,7 +115,7 @@ fn strong_rows(
 
 // Whether a margin is above the drift.
 fn exceeds(drift: u64, margin: i64) -> bool
-    requires { ⌜ drift ≤ 1_000_000_000 ⌝ }
+    requires { ⌜ drift ≤ LARGEST-DRIFT ⌝ }
     ensures { λ r. ⌜ r ≡ ltZ (pos drift) margin ⌝ }
 {
     let bound = drift as i64;
@@ -122,7 +123,7 @@ fn exceeds(drift: u64, margin: i64) -> bool
 }
 
 fn decided(drift: u64, hold: i64, fail: i64) -> Verdict
-    requires { ⌜ drift ≤ 1_000_000_000 ⌝ }
+    requires { ⌜ drift ≤ LARGEST-DRIFT ⌝ }
     ensures { λ r. ⌜ r ≡ decide drift hold fail ⌝ }
 {
     if exceeds(drift, hold) {

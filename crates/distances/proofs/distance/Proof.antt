@@ -12,12 +12,12 @@ use Rattle.recordings.specs.Distance.{TOP, distance}
 use Rattle.rows.proofs.Fits.{in-back}
 use Rattle.predicates.specs.Predicates.{predicate-obeys, value-obeys}
 use Rattle.predicates.proofs.Predicates.{proper, value-in-range}
-use Rattle.distances.specs.Answers.{CHANNELS}
 use Rattle.distances.proofs.Answers.{refused-predicate, refused-value, refused-none, refused-outcome, accepted-outcome}
 use Rattle.distances.proofs.distance.Statement.{statement}
 use Rattle.distances.proofs.distance.Tie as tie
+use Rattle.recordings.specs.Accepted.{MOST-CHANNELS}
 
-predicate-passes : (c : tie.Else1) → predicate-obeys (c .before .before .args .predicate) CHANNELS ≡ true
+predicate-passes : (c : tie.Else1) → predicate-obeys (c .before .before .args .predicate) MOST-CHANNELS ≡ true
 predicate-passes c = sym (c .before .predicate-obeys .ensures) ∙ not-false _ (c .if1 .left)
 
 -- the test of the value, on the value itself
@@ -48,7 +48,7 @@ returns-2 c =
 distance-of-requires : tie.Need-distance-of-requires
 distance-of-requires c κs =
     let s = c .before .before .before .before in
-    (in-back (value-in-range (s .args .value) (holds (value-passes c))), proper (s .args .predicate) CHANNELS (holds (predicate-passes (c .before .before))) .ends)
+    (in-back (value-in-range (s .args .value) (holds (value-passes c))), proper (s .args .predicate) MOST-CHANNELS (holds (predicate-passes (c .before .before))) .ends)
 
 returns-3 : tie.Need-returns-3
 returns-3 c =

@@ -23,6 +23,7 @@ use Rattle.verdicts.proofs.verdict.Statement.{statement}
 use Rattle.verdicts.proofs.verdict.Tie as tie
 use Rattle.verdicts.proofs.verdict.Reads as reads
 use Rattle.verdicts.proofs.verdict.Lts as lts
+use Rattle.recordings.specs.Accepted.{LONGEST-STEP, LARGEST-DRIFT}
 
 -- what is handed over
 abbrev card-of : tie.Start → Card
@@ -39,7 +40,7 @@ sound-at c = sound (card-of (c .before .before .before)) (c .before .before .bef
 late-zero : (c : tie.Else3) → first (sampling-checks (card-of (c .before .before .before .before .before .before)) (c .before .before .before .before .before .before .args .step) (c .before .before .before .before .before .before .args .drift)) ≡ 0
 late-zero c = sym (first-alone (card-of (c .before .before .before .before .before .before)) _ _) ∙ (sym (c .before .refusal2 .ensures) ∙ c .if3 .left)
 
-small-at : (c : tie.Else3) → (c .before .before .before .before .before .before .args .step ≤ 1_000_000_000) × (c .before .before .before .before .before .before .args .drift ≤ 1_000_000_000)
+small-at : (c : tie.Else3) → (c .before .before .before .before .before .before .args .step ≤ LONGEST-STEP) × (c .before .before .before .before .before .before .args .drift ≤ LARGEST-DRIFT)
 small-at c =
     let a = accepted (card-of (c .before .before .before .before .before .before)) _ _ (sound-at (c .before .before .before) .recorded) (late-zero c) in
     (a .stepped .short-step, a .stepped .small-drift)
