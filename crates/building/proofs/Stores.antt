@@ -24,7 +24,7 @@ use Rattle.grammar.specs.Operators.{letter}
 use Rattle.grammar.specs.Tree.{Tree, truth, predicate, one, two, size, no-span}
 use Rattle.grammar.specs.Reading.{Reading, got, none, on-got, closing, leaf-at}
 use Rattle.building.specs.declared.Step.{Step}
-use Rattle.building.specs.declared.Step.the-variants.{Read, Refused}
+use Rattle.building.specs.declared.Step.the-variants.{Refused}
 use Rattle.building.specs.Nodes.{node, nodes-of}
 use Rattle.building.specs.Storing.{read-part, cells-of, step-of, leaf-cells, Wrote, Done, after-step, pushed-step, pushed-cells, parent-step, wrap-cells, join-cells, closed-step, WIDTH}
 use Rattle.building.proofs.Cells.{length-nodes, sets-nodes}

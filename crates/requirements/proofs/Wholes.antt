@@ -16,7 +16,7 @@ use Rattle.tables.specs.Tree.{NODES}
 use Rattle.grammar.specs.Tree.{size}
 use Rattle.grammar.specs.Reading.{Reading, got, none, alternative-at, whole, requirement-tree}
 use Rattle.building.specs.declared.Step.{Step}
-use Rattle.building.specs.declared.Step.the-variants.{Read, Refused}
+use Rattle.building.specs.declared.Step.the-variants.{Refused}
 use Rattle.requirements.specs.declared.Requirement.{Requirement}
 use Rattle.building.specs.Nodes.{empty-node, nodes-of, table-of}
 use Rattle.requirements.specs.Requirement.{refused, answer-of, requirement-of}
