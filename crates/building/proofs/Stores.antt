@@ -24,14 +24,14 @@ use Rattle.grammar.specs.Operators.{letter}
 use Rattle.grammar.specs.Tree.{Tree, truth, predicate, one, two, size, no-span}
 use Rattle.grammar.specs.Reading.{Reading, got, none, on-got, closing, leaf-at}
 use Rattle.building.specs.declared.Step.{Step}
-use Rattle.building.specs.declared.Step.the-variants.{Read, Refused}
+use Rattle.building.specs.declared.Step.the-variants.{Refused}
 use Rattle.building.specs.Nodes.{node, nodes-of}
-use Rattle.building.specs.Storing.{cells-of, step-of, leaf-cells, Wrote, Done, pushed-step, pushed-cells, parent-step, wrap-cells, join-cells, closed-step, WIDTH}
+use Rattle.building.specs.Storing.{read-part, cells-of, step-of, leaf-cells, Wrote, Done, after-step, pushed-step, pushed-cells, parent-step, wrap-cells, join-cells, closed-step, WIDTH}
 use Rattle.building.proofs.Cells.{length-nodes, sets-nodes}
 
 -- ---- steps and readings
 
-step-small : (o : ℕ) (a : Tree) (n : ℕ) → o + size a ≤ NODES → step-of o (got a n) ≡ Read n (o + size a - 1) (o + size a)
+step-small : (o : ℕ) (a : Tree) (n : ℕ) → o + size a ≤ NODES → step-of o (got a n) ≡ read-part n (o + size a - 1) (o + size a)
 unfolding step-of
 step-small o a n h = rw (le-leb (o + size a) NODES h)
 
@@ -43,7 +43,7 @@ pub step-none : (o : ℕ) → step-of o none ≡ Refused
 unfolding step-of
 step-none o = refl
 
-refused-read : {e r f : ℕ} → Refused ≡ Read e r f → ⊥
+refused-read : {e r f : ℕ} → Refused ≡ read-part e r f → ⊥
 refused-read h = let z : _≡_ {A = ℕ} 0 1 = cc in omega arith
 
 -- a tree that is refused for its size, or none
@@ -58,14 +58,19 @@ pub record ReadIs (o : ℕ) (x : Reading) (e r f : ℕ) : Type 0 where
   pub root : r ≡ o + size tree - 1
   pub free : f ≡ o + size tree
 
-pub read-is : (o : ℕ) (x : Reading) (e r f : ℕ) → step-of o x ≡ Read e r f → ReadIs o x e r f
+pub read-is : (o : ℕ) (x : Reading) (e r f : ℕ) → step-of o x ≡ read-part e r f → ReadIs o x e r f
 read-is o none e r f h = absurd (refused-read (sym (step-none o) ∙ h))
 read-is o (got a n) e r f h =
     by-le (o + size a) NODES
     (λ l.
-    let s : Read n (o + size a - 1) (o + size a) ≡ Read e r f = sym (step-small o a n l) ∙ h in
-    let z : n ≡ e = cc in
-    record { tree = a; reading = ap (got a) z; fits = l; root = cc; free = cc })
+    let s : read-part n (o + size a - 1) (o + size a) ≡ read-part e r f = sym (step-small o a n l) ∙ h in
+    record {
+      tree = a;
+      reading = ap (λ (y : Step). got a (after-step y (λ end root free. end) 0)) s;
+      fits = l;
+      root = ap (λ (y : Step). after-step y (λ end root free. root) 0) (sym s);
+      free = ap (λ (y : Step). after-step y (λ end root free. free) 0) (sym s);
+    })
     (λ l. absurd (refused-read (sym (step-big o a n l) ∙ h)))
 
 -- a refused reading is done, whatever the cells hold
@@ -91,9 +96,9 @@ parent-done o m us x b e r before mid after l z w h p q = by-le (o + m + 1) NODE
         let t : leb NODES (o + m) ≡ false = lt-leb NODES (o + m) (omega arith) in
         let root : o + m ≡ o + size b - 1 = omega arith in
         let free : o + m + 1 ≡ o + size b = omega arith in
-        let r1 : r ≡ Read e (o + m) (o + m + 1) = rw t at p in
+        let r1 : r ≡ read-part e (o + m) (o + m + 1) = rw t at p in
         let a1 : after ≡ sets mid (WIDTH * (o + m)) (cells-of (x ∷ [])) = rw t at q in
-        let same : Read e (o + m) (o + m + 1) ≡ Read e (o + size b - 1) (o + size b) = cc in
+        let same : read-part e (o + m) (o + m + 1) ≡ read-part e (o + size b - 1) (o + size b) = cc in
         record {
           step = r1 ∙ (same ∙ sym (step-small o b e (omega arith)));
           cells = λ _. a1 ∙ (rw h (sets-nodes before o m us (x ∷ []) l) ∙ ap (λ (ns : List Node). sets before (WIDTH * o) (cells-of ns)) (sym w));
@@ -126,7 +131,7 @@ one-done o k w (got a e) i r before mid after d p q = by-le (o + size a) NODES s
   where
     small : o + size a ≤ NODES → Done o (got (one k w a) e) r before after
     small h =
-        let f : i ≡ Read e (o + size a - 1) (o + size a) = d .step ∙ step-small o a e h in
+        let f : i ≡ read-part e (o + size a - 1) (o + size a) = d .step ∙ step-small o a e h in
         parent-done o (size a) (nodes-of o a) (node k (o + size a - 1) 0 w) (one k w a) e r before mid after (length-nodes o a) refl refl
         (cells-small o a e i before mid d h) (rw f at p) (rw f at q)
 
@@ -146,7 +151,7 @@ two-done o k w a (got b n) j r before mid later after l c d p q = by-le (o + siz
   where
     small : o + size a + size b ≤ NODES → Done o (got (two k w a b) n) r before after
     small h =
-        let f : j ≡ Read n (o + size a + size b - 1) (o + size a + size b) = d .step ∙ step-small (o + size a) b n h in
+        let f : j ≡ read-part n (o + size a + size b - 1) (o + size a + size b) = d .step ∙ step-small (o + size a) b n h in
         let g : o + size a + size b ≡ o + (size a + size b) = omega arith in
         let us = nodes-of o a ++ nodes-of (o + size a) b in
         let m : later ≡ sets before (WIDTH * o) (cells-of us) =
@@ -177,11 +182,11 @@ close-done o s (got a n) i r before after d p = by-le (o + size a) NODES (λ h. 
 
     small : o + size a ≤ NODES → (m : Mark) → mark-at (bytes ")") s n ≡ m → Done o (after-mark m (λ e. got a e) none) r before after
     small h (Next m) e =
-        let f : i ≡ Read n (o + size a - 1) (o + size a) = d .step ∙ step-small o a n h in
-        let g : r ≡ Read m (o + size a - 1) (o + size a) = rw (f, e) at p in
+        let f : i ≡ read-part n (o + size a - 1) (o + size a) = d .step ∙ step-small o a n h in
+        let g : r ≡ read-part m (o + size a - 1) (o + size a) = rw (f, e) at p in
         record { step = g ∙ sym (step-small o a m h); cells = moved m (d .cells) }
     small h Mark·Bad e =
-        let f : i ≡ Read n (o + size a - 1) (o + size a) = d .step ∙ step-small o a n h in
+        let f : i ≡ read-part n (o + size a - 1) (o + size a) = d .step ∙ step-small o a n h in
         let g : r ≡ Refused = rw (f, e) at p in
         rw g (refused-done o none before after (step-none o))
 
@@ -210,7 +215,7 @@ node-stored o a x n r before after z w p q = by-le (o + 1) NODES small big
         let g : o + size a ≤ NODES = omega arith in
         let root : o ≡ o + size a - 1 = omega arith in
         let free : o + 1 ≡ o + size a = omega arith in
-        let same : Read n o (o + 1) ≡ Read n (o + size a - 1) (o + size a) = cc in
+        let same : read-part n o (o + 1) ≡ read-part n (o + size a - 1) (o + size a) = cc in
         ((rw t at p) ∙ (same ∙ sym (step-small o a n g)), (rw t at q) ∙ rw (le-leb (o + size a) NODES g, w) refl)
 
     big : NODES < o + 1 → (r ≡ step-of o (got a n)) × (after ≡ leaf-cells o (got a n) before)

@@ -34,9 +34,12 @@ unfoldable pub cells-of : List Node → List ℕ
 cells-of [] = []
 cells-of (x ∷ xs) = numbers-of x ++ cells-of xs
 
+abbrev pub read-part : ℕ → ℕ → ℕ → Step
+read-part end root free = Read (record { end = end; root = root; free = free })
+
 -- what a reading gives where its first node has the number o and a table has room for NODES
 unfoldable pub step-of : ℕ → Reading → Step
-step-of o (got a n) = cond (leb (o + size a) NODES) (Read n (o + size a - 1) (o + size a)) Refused
+step-of o (got a n) = cond (leb (o + size a) NODES) (read-part n (o + size a - 1) (o + size a)) Refused
 step-of o none = Refused
 
 -- a leaf: the cells of its node are written where it has room, and no other; a refused one writes nothing
@@ -56,12 +59,12 @@ pub record Done (o : ℕ) (x : Reading) (r : Step) (before after : List ℕ) : T
 
 -- what follows a reading that was not refused: its place, root and next free number
 abbrev pub after-step : {A : Type 0} → Step → (ℕ → ℕ → ℕ → A) → A → A
-after-step (Read at root free) f a = f at root free
+after-step (Read p) f a = f (p .end) (p .root) (p .free)
 after-step Refused f a = a
 
 -- one node more, which is the root
 abbrev pub pushed-step : ℕ → ℕ → Step
-pushed-step free at = cond (leb NODES free) Refused (Read at free (free + 1))
+pushed-step free at = cond (leb NODES free) Refused (read-part at free (free + 1))
 
 abbrev pub pushed-cells : ℕ → Node → List ℕ → List ℕ
 pushed-cells free x cells = cond (leb NODES free) cells (sets cells (WIDTH * free) (numbers-of x))
@@ -78,7 +81,7 @@ join-cells k w left p cells = after-step p (λ at root free. pushed-cells free (
 
 -- a reading and the parenthesis that closes it
 abbrev pub closed-step : List ℕ → Step → Step
-closed-step s p = after-step p (λ at root free. after-mark (mark-at (bytes ")") s at) (λ n. Read n root free) Refused) Refused
+closed-step s p = after-step p (λ at root free. after-mark (mark-at (bytes ")") s at) (λ n. read-part n root free) Refused) Refused
 
 -- the node that cells hold at a number, and the table of the first of them
 abbrev pub node-from : List ℕ → ℕ → Node

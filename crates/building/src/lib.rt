@@ -17,9 +17,16 @@ pub const WIDTH: usize = 5;
 // Cells for all nodes of a table.
 pub const CELLS: usize = WIDTH * tables::NODES;
 
-// What reading a part of the grammar gives: the place after it, its root's number and the next free number; or a refusal.
+// A part of the grammar that was read: the place after it, its root's number and the next free number.
+pub struct Part {
+    pub end: usize,
+    pub root: usize,
+    pub free: usize,
+}
+
+// What reading a part gives.
 pub enum Step {
-    Read(usize, usize, usize),
+    Read(Part),
     Refused,
 }
 
@@ -37,7 +44,11 @@ pub fn push(at: usize, free: usize, x: Node, cells: &mut [u64; CELLS]) -> Step
     cells[first + 2] = x.right as u64;
     cells[first + 3] = x.lo;
     cells[first + 4] = x.hi;
-    Step::Read(at, free, free + 1)
+    Step::Read(Part {
+        end: at,
+        root: free,
+        free: free + 1,
+    })
 }
 
 // The parent of one reading.
@@ -45,17 +56,17 @@ pub fn wrap(kind: u64, span: Span, inner: Step, cells: &mut [u64; CELLS]) -> Ste
     ensures step { λ r. ⌜ r ≡ parent-step inner ⌝ }
     ensures cells { λ r. ⌜ now (cells .exit) ≡ wrap-cells kind span inner (now (cells .entry)) ⌝ }
 {
-    let Step::Read(at, root, free) = inner else {
+    let Step::Read(part) = inner else {
         return Step::Refused;
     };
     let x = Node {
         kind: kind,
-        left: root,
+        left: part.root,
         right: 0,
         lo: span.lo,
         hi: span.hi,
     };
-    push(at, free, x, cells)
+    push(part.end, part.free, x, cells)
 }
 
 // The parent of the root `left` and of the reading after it.
@@ -63,30 +74,34 @@ pub fn join(kind: u64, span: Span, left: usize, inner: Step, cells: &mut [u64; C
     ensures step { λ r. ⌜ r ≡ parent-step inner ⌝ }
     ensures cells { λ r. ⌜ now (cells .exit) ≡ join-cells kind span left inner (now (cells .entry)) ⌝ }
 {
-    let Step::Read(at, root, free) = inner else {
+    let Step::Read(part) = inner else {
         return Step::Refused;
     };
     let x = Node {
         kind: kind,
         left: left,
-        right: root,
+        right: part.root,
         lo: span.lo,
         hi: span.hi,
     };
-    push(at, free, x, cells)
+    push(part.end, part.free, x, cells)
 }
 
 // A reading and the parenthesis that closes it.
 pub fn close(s: &[u8], inner: Step) -> Step
     ensures { λ r. ⌜ r ≡ closed-step (now (s .entry)) inner ⌝ }
 {
-    let Step::Read(at, root, free) = inner else {
+    let Step::Read(part) = inner else {
         return Step::Refused;
     };
-    let Mark::Next(next) = text::read_mark(s, at, b")") else {
+    let Mark::Next(next) = text::read_mark(s, part.end, b")") else {
         return Step::Refused;
     };
-    Step::Read(next, root, free)
+    Step::Read(Part {
+        end: next,
+        root: part.root,
+        free: part.free,
+    })
 }
 
 pub fn empty_table() -> Table

@@ -10,8 +10,8 @@ use borrow.Author.Tests.{eq-eqb, ne-eqb}
 use Rattle.text.specs.Bytes.{bytes}
 use Rattle.text.specs.Mark.{mark-at}
 use Rattle.text.specs.declared.Mark.the-variants.{Next, Bad as Mark·Bad}
-use Rattle.head_lines.specs.declared.Requirement.the-variants.{At, Bad}
-use Rattle.head_lines.specs.Reading.{until-feed, requirement-at}
+use Rattle.head_lines.specs.declared.Requirement.the-variants.{Bad}
+use Rattle.head_lines.specs.Reading.{until-feed, requirement-line, requirement-at}
 
 -- ---- the search for a line feed
 module _ (s : List ℕ) (at : ℕ) where
@@ -34,6 +34,6 @@ module _ (s : List ℕ) (at from to : ℕ) (e : mark-at (bytes "req=") s at ≡ 
   unfolding requirement-at
   line-open f = rw (e, ← g, f)
 
-  pub line-whole : (n : ℕ) → mark-at (bytes "\n") s to ≡ Next n → At from to n ≡ requirement-at s at
+  pub line-whole : (n : ℕ) → mark-at (bytes "\n") s to ≡ Next n → requirement-line from to n ≡ requirement-at s at
   unfolding requirement-at
   line-whole n f = rw (e, ← g, f)

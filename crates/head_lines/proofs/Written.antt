@@ -23,7 +23,7 @@ use Rattle.row_lines.proofs.Lines.{lines-split, count, count-append, numeral-co
 use Rattle.head_lines.specs.declared.Requirement.{Requirement}
 use Rattle.head_lines.specs.declared.Requirement.the-variants.{At, Bad}
 use Rattle.head_lines.specs.Form.{NumberLine}
-use Rattle.head_lines.specs.Reading.{number-line-at, until-feed, requirement-at}
+use Rattle.head_lines.specs.Reading.{number-line-at, until-feed, requirement-line, requirement-at}
 
 -- ---- a key and a number
 
@@ -98,7 +98,7 @@ pub record RequirementIs (s : List ℕ) (at from to n : ℕ) : Type 0 where
   pub next : n ≡ to + 1
 
 abbrev RequirementHere : List ℕ → ℕ → Requirement → Type 0
-RequirementHere s at (At from to n) = RequirementIs s at from to n
+RequirementHere s at (At p) = RequirementIs s at (p .from) (p .to) (p .next)
 RequirementHere s at Bad = Unit
 
 requirement-here : (s : List ℕ) (at : ℕ) → RequirementHere s at (requirement-at s at)
@@ -128,18 +128,18 @@ requirement-here s at =
           next = b .end;
         }
 
-pub requirement-is : (s : List ℕ) (at from to n : ℕ) → requirement-at s at ≡ At from to n → RequirementIs s at from to n
+pub requirement-is : (s : List ℕ) (at from to n : ℕ) → requirement-at s at ≡ requirement-line from to n → RequirementIs s at from to n
 requirement-is s at from to n h = rw h at (requirement-here s at)
 
 requirement-read : (s : List ℕ) (at from n : ℕ) (w r : List ℕ) → mark-at (bytes "req=") s at ≡ Next from → drop from s ≡ w ++ (10 ∷ r) → count 10 w ≡ 0
-    → mark-at (bytes "\n") s (from + length w) ≡ Next n → requirement-at s at ≡ At from (from + length w) n
+    → mark-at (bytes "\n") s (from + length w) ≡ Next n → requirement-at s at ≡ requirement-line from (from + length w) n
 unfolding requirement-at
 requirement-read s at from n w r e f c g =
     let h : until-feed (drop from s) ≡ w = ap until-feed f ∙ until-feed-is w r c in
     rw (e, h, g)
 
 pub requirement-taken : (s : List ℕ) (at : ℕ) (w r : List ℕ) → drop at s ≡ bytes "req=" ++ w ++ bytes "\n" ++ r → count 10 w ≡ 0
-    → (n : ℕ) × (requirement-at s at ≡ At (at + 4) (at + 4 + length w) n) × (drop n s ≡ r) × (n ≡ at + 4 + length w + 1)
+    → (n : ℕ) × (requirement-at s at ≡ requirement-line (at + 4) (at + 4 + length w) n) × (drop n s ≡ r) × (n ≡ at + 4 + length w + 1)
 requirement-taken s at w r e c =
     let g : drop at s ≡ bytes "req=" ++ (w ++ (bytes "\n" ++ r)) = simp append-assoc at e in
     let k = mark-taken s at (w ++ (bytes "\n" ++ r)) (bytes "req=") (omega arith) g in

@@ -22,13 +22,16 @@ unfoldable pub until-feed : List ℕ → List ℕ
 until-feed [] = []
 until-feed (b ∷ s) = cond (eqb b 10) [] (b ∷ until-feed s)
 
+abbrev pub requirement-line : ℕ → ℕ → ℕ → Requirement
+requirement-line from to n = At (record { from = from; to = to; next = n })
+
 -- the requirement's line at a place
 unfoldable pub requirement-at : List ℕ → ℕ → Requirement
 requirement-at s at =
     after-mark (mark-at (bytes "req=") s at)
-    (λ from. after-mark (mark-at (bytes "\n") s (from + length (until-feed (drop from s)))) (λ n. At from (from + length (until-feed (drop from s))) n) Bad)
+    (λ from. after-mark (mark-at (bytes "\n") s (from + length (until-feed (drop from s)))) (λ n. requirement-line from (from + length (until-feed (drop from s))) n) Bad)
     Bad
 
 abbrev pub after-requirement : {A : Type 0} → Requirement → (ℕ → ℕ → ℕ → A) → A → A
-after-requirement (At from to n) f x = f from to n
+after-requirement (At p) f x = f (p .from) (p .to) (p .next)
 after-requirement Bad f x = x

@@ -6,9 +6,15 @@ ghost use Prim.Native.Nat.{_+_};
 ghost use lib.ListN.{length, drop};
 ghost use Rattle.head_lines.specs.Reading.{number-line-at, until-feed, requirement-at};
 
-// The requirement's place, and that of the line after it.
+// The requirement's first place, the place behind its last, and that of the next line.
+pub struct RequirementPlace {
+    pub from: usize,
+    pub to: usize,
+    pub next: usize,
+}
+
 pub enum Requirement {
-    At(usize, usize, usize),
+    At(RequirementPlace),
     Bad,
 }
 
@@ -50,5 +56,9 @@ pub fn read_requirement(s: &[u8], at: usize) -> Requirement
     let Mark::Next(next) = text::read_mark(s, to, b"\n") else {
         return Requirement::Bad;
     };
-    Requirement::At(from, to, next)
+    Requirement::At(RequirementPlace {
+        from: from,
+        to: to,
+        next: next,
+    })
 }

@@ -23,7 +23,7 @@ use Rattle.predicate_lines.specs.declared.Predicates.{Predicates}
 use Rattle.predicate_lines.specs.Form.{range-of, PredicateLine, unset, PredicateLines, over, more}
 use Rattle.recordings.specs.Card.{unset-predicate}
 use Rattle.recordings.specs.Distance.{is-unset}
-use Rattle.predicate_lines.specs.Reading.{line-at, after-line, broken-set, stored-in, with-line, lines-from, lines-at}
+use Rattle.predicate_lines.specs.Reading.{set-line, line-at, after-line, broken-set, stored-in, with-line, lines-from, lines-at}
 use Rattle.predicate_lines.proofs.Written.{line-is, line-taken, line-fed}
 
 -- ---- sound
@@ -43,7 +43,7 @@ record Stored (s : List ℕ) (ps q : Predicates) : Type 0 where
   number : ℕ
   predicate : Predicate
   next : ℕ
-  reads : line-at s (ps .next) ≡ Set number predicate next
+  reads : line-at s (ps .next) ≡ set-line number predicate next
   free : is-unset (getD (ps .all) number unset-predicate .range) ≡ true
   same : q ≡ record { ok = true; next = next; all = set (ps .all) number predicate }
 
@@ -51,7 +51,7 @@ with-ok : (s : List ℕ) (ps : Predicates) → with-line s ps .ok ≡ true → S
 unfolding with-line stored-in
 with-ok s ps h = go (line-at s (ps .next)) refl h
   where
-    then : (k : ℕ) (p : Predicate) (n : ℕ) → line-at s (ps .next) ≡ Set k p n → (t : Bool) → is-unset (getD (ps .all) k unset-predicate .range) ≡ t
+    then : (k : ℕ) (p : Predicate) (n : ℕ) → line-at s (ps .next) ≡ set-line k p n → (t : Bool) → is-unset (getD (ps .all) k unset-predicate .range) ≡ t
         → cond t (record { ok = true; next = n; all = set (ps .all) k p }) broken-set .ok ≡ true
         → Stored s ps (cond t (record { ok = true; next = n; all = set (ps .all) k p }) broken-set)
     then k p n e true f g = record { number = k; predicate = p; next = n; reads = e; free = f; same = refl }
@@ -59,7 +59,7 @@ with-ok s ps h = go (line-at s (ps .next)) refl h
 
     go : (x : Line) → line-at s (ps .next) ≡ x → after-line x (λ k p n. stored-in ps k p n) broken-set .ok ≡ true
         → Stored s ps (after-line x (λ k p n. stored-in ps k p n) broken-set)
-    go (Set k p n) e g = then k p n e (is-unset (getD (ps .all) k unset-predicate .range)) refl g
+    go (Set l) e g = then (l .number) (l .predicate) (l .next) e (is-unset (getD (ps .all) (l .number) unset-predicate .range)) refl g
     go Bad e g = absurd (false-true g)
 
 more-here : (s : List ℕ) (ps q : Predicates) → Stored s ps q → (r : Predicates) → LinesHere s q r → LinesHere s ps r
@@ -114,7 +114,7 @@ due-over zero s ps h = refl
 due-over (suc f) s ps h = rw (h, never (leb (ps .next) (length s)))
 
 due-more : (f : ℕ) (s : List ℕ) (at k : ℕ) (p : Predicate) (n : ℕ) (ps : List Predicate) → at ≤ length s → prefix-of (bytes "p=") (drop at s) ≡ true
-    → line-at s at ≡ Set k p n → is-unset (getD ps k unset-predicate .range) ≡ true
+    → line-at s at ≡ set-line k p n → is-unset (getD ps k unset-predicate .range) ≡ true
     → lines-from (suc f) s (record { ok = true; next = at; all = ps }) ≡ lines-from f s (record { ok = true; next = n; all = set ps k p })
 unfolding lines-from with-line stored-in
 due-more f s at k p n ps l h e g = rw (le-leb at (length s) l, h, e, g)

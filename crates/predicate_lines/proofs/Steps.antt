@@ -14,10 +14,10 @@ use Rattle.text.specs.declared.Field.the-variants.{Number, Bad as Field·Bad}
 use Rattle.recordings.specs.declared.Range.{Range}
 use Rattle.predicate_lines.specs.declared.Bound.{Bound}
 use Rattle.predicate_lines.specs.declared.End.the-variants.{Read, Bad as End·Bad}
-use Rattle.predicate_lines.specs.declared.Line.the-variants.{Set, Bad}
+use Rattle.predicate_lines.specs.declared.Line.the-variants.{Bad}
 use Rattle.predicate_lines.specs.Form.{range-of}
 use Rattle.predicate_lines.specs.declared.Predicates.{Predicates}
-use Rattle.predicate_lines.specs.Reading.{end-at, line-at, with-line, lines-from}
+use Rattle.predicate_lines.specs.Reading.{end-at, set-line, line-at, with-line, lines-from}
 
 module _ (s : List ℕ) (at : ℕ) where
   pub line-number : field-at (bytes "p=") s at 15 ≡ Field·Bad → Bad ≡ line-at s at
@@ -44,7 +44,7 @@ module _ (s : List ℕ) (at : ℕ) where
           unfolding line-at
           line-open i = rw (e, f, g, h, i)
 
-          pub line-set : (n : ℕ) (r : Range) → mark-at (bytes "\n") s d ≡ Next n → r ≡ range-of lo hi → Set k (record { channel = ch; range = r }) n ≡ line-at s at
+          pub line-set : (n : ℕ) (r : Range) → mark-at (bytes "\n") s d ≡ Next n → r ≡ range-of lo hi → set-line k (record { channel = ch; range = r }) n ≡ line-at s at
           unfolding line-at
           line-set n r i q = rw (e, f, g, h, i, q)
 

@@ -22,7 +22,7 @@ use Rattle.predicate_lines.specs.declared.End.the-variants.{Read, Bad as
 use Rattle.predicate_lines.specs.declared.Line.{Line}
 use Rattle.predicate_lines.specs.declared.Line.the-variants.{Set, Bad}
 use Rattle.predicate_lines.specs.Form.{EndText, star, number, range-of, PredicateLine}
-use Rattle.predicate_lines.specs.Reading.{end-at, after-end, line-at}
+use Rattle.predicate_lines.specs.Reading.{end-at, after-end, set-line, line-at}
 use Rattle.predicate_lines.proofs.Steps.{line-set}
 
 -- ---- an end
@@ -65,7 +65,7 @@ end-taken s at r stop key p e (number {w} {v} sg) =
 
 -- what an answer says of the line at a place
 abbrev pub LineHere : List ℕ → ℕ → Line → Type 0
-LineHere s at (Set k p n) = (l : List ℕ) × Between s at n l × PredicateLine l k p
+LineHere s at (Set x) = (l : List ℕ) × Between s at (x .next) l × PredicateLine l (x .number) (x .predicate)
 LineHere s at Bad = Unit
 
 pub line-here : (s : List ℕ) (at : ℕ) → LineHere s at (line-at s at)
@@ -85,7 +85,7 @@ line-here s at =
   where
     whole : (k a : ℕ) → field-at (bytes "p=") s at 15 ≡ Number k a → (ch b : ℕ) → field-at (bytes " ch=") s a largest ≡ Number ch b
         → (lo : Bound) (c : ℕ) → end-at (bytes " lo=") s b ≡ Read lo c → (hi : Bound) (d : ℕ) → end-at (bytes " hi=") s c ≡ Read hi d
-        → (n : ℕ) → mark-at (bytes "\n") s d ≡ Next n → LineHere s at (Set k (record { channel = ch; range = range-of lo hi }) n)
+        → (n : ℕ) → mark-at (bytes "\n") s d ≡ Next n → LineHere s at (set-line k (record { channel = ch; range = range-of lo hi }) n)
     whole k a e ch b f lo c g hi d h n i =
         let p = field-is (bytes "p=") s at 15 k a e in
         let q = field-is (bytes " ch=") s a largest ch b f in
@@ -115,7 +115,7 @@ line-here s at =
           },
         )
 
-pub line-is : (s : List ℕ) (at k : ℕ) (p : Predicate) (n : ℕ) → line-at s at ≡ Set k p n → (l : List ℕ) × Between s at n l × PredicateLine l k p
+pub line-is : (s : List ℕ) (at k : ℕ) (p : Predicate) (n : ℕ) → line-at s at ≡ set-line k p n → (l : List ℕ) × Between s at n l × PredicateLine l k p
 line-is s at k p n h = rw h at (line-here s at)
 
 -- a place that was taken, by its name
@@ -123,7 +123,7 @@ taking : {P Q : ℕ → Type 0} {B : Type 0} → (n : ℕ) × P n × Q n → ((n
 taking t f = f (t .0) (t .1) (t .2)
 
 pub line-taken : {k : ℕ} {p : Predicate} {l : List ℕ} (s : List ℕ) (at : ℕ) (r : List ℕ) → PredicateLine l k p → drop at s ≡ l ++ r
-    → (n : ℕ) × (line-at s at ≡ Set k p n) × (drop n s ≡ r)
+    → (n : ℕ) × (line-at s at ≡ set-line k p n) × (drop n s ≡ r)
 line-taken {k} {p} s at r t e =
     let w : List ℕ = bytes "\n" ++ r in
     let x : List ℕ = bytes " hi=" ++ (t .hi ++ w) in

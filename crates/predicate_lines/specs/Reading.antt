@@ -30,6 +30,9 @@ abbrev pub after-end : {A : Type 0} → End → (Bound → ℕ → A) → A → 
 after-end (Read b n) f x = f b n
 after-end End·Bad f x = x
 
+abbrev pub set-line : ℕ → Predicate → ℕ → Line
+set-line k p n = Set (record { number = k; predicate = p; next = n })
+
 -- the predicate line at a place
 unfoldable pub line-at : List ℕ → ℕ → Line
 line-at s at =
@@ -37,14 +40,14 @@ line-at s at =
     (λ number a. after-number (field-at (bytes " ch=") s a largest)
     (λ channel b. after-end (end-at (bytes " lo=") s b)
     (λ lo c. after-end (end-at (bytes " hi=") s c)
-    (λ hi d. after-mark (mark-at (bytes "\n") s d) (λ n. Set number (record { channel = channel; range = range-of lo hi }) n) Bad)
+    (λ hi d. after-mark (mark-at (bytes "\n") s d) (λ n. set-line number (record { channel = channel; range = range-of lo hi }) n) Bad)
     Bad)
     Bad)
     Bad)
     Bad
 
 abbrev pub after-line : {A : Type 0} → Line → (ℕ → Predicate → ℕ → A) → A → A
-after-line (Set k p n) f x = f k p n
+after-line (Set l) f x = f (l .number) (l .predicate) (l .next)
 after-line Bad f x = x
 
 abbrev pub broken-set : Predicates

@@ -24,8 +24,14 @@ pub enum End {
 }
 
 // A predicate's number, the predicate and the place of the next line.
+pub struct NumberedPredicate {
+    pub number: usize,
+    pub predicate: Predicate,
+    pub next: usize,
+}
+
 pub enum Line {
-    Set(usize, Predicate, usize),
+    Set(NumberedPredicate),
     Bad,
 }
 
@@ -90,7 +96,11 @@ fn read_line(s: &[u8], at: usize) -> Line
         channel: channel as usize,
         range: range_of(lo, hi),
     };
-    Line::Set(number as usize, predicate, next)
+    Line::Set(NumberedPredicate {
+        number: number as usize,
+        predicate: predicate,
+        next: next,
+    })
 }
 
 // No predicate set.
@@ -139,10 +149,10 @@ fn with_line(s: &[u8], ps: Predicates) -> Predicates
     ensures { λ r. ⌜ r ≡ with-line (now (s .entry)) ps ⌝ }
 {
     let at = ps.next;
-    let Line::Set(number, predicate, next) = read_line(s, at) else {
+    let Line::Set(line) = read_line(s, at) else {
         return broken();
     };
-    store(ps, number, predicate, next)
+    store(ps, line.number, line.predicate, line.next)
 }
 
 // Whether a predicate line is due at a place.

@@ -23,7 +23,7 @@ use Rattle.grammar.proofs.Turns.{Onward, more-none, more-over, more-turn}
 use Rattle.grammar.proofs.Sound.{sound-onward, unary-sound, bind-at-sound, conjunction-at-sound, got-taken}
 use Rattle.building.specs.declared.Step.{Step}
 use Rattle.building.specs.declared.Step.the-variants.{Read, Refused}
-use Rattle.building.specs.Storing.{step-of, Done, after-step, parent-step, join-cells}
+use Rattle.building.specs.Storing.{read-part, step-of, Done, after-step, parent-step, join-cells}
 use Rattle.building.proofs.Stores.{step-big, step-none, refused-big, ReadIs, read-is, refused-done, done-as, two-done, cells-small}
 
 -- ---- unary, by what it begins with
@@ -84,14 +84,14 @@ module _ (o d : ℕ) (s : List ℕ) (at : ℕ) (p : Step) (before mid : List ℕ
       go (got a n) g = bind-big o (unary-at d) s a n (refused-big o a n g) (binder-at s n)
       go none g = step-none o
 
-  module _ (e r f : ℕ) (q : p ≡ Read e r f) where
+  module _ (e r f : ℕ) (q : p ≡ read-part e r f) where
     left-is : ReadIs o (unary-at d s at) e r f
     left-is = read-is o (unary-at d s at) e r f (sym (u .step) ∙ q)
 
     bound-by : (x : Operator) → binder-at s e ≡ x → bind-by (unary-at d) s (left-is .tree) e x ≡ bind-at d s at
     bound-by x g = sym (ap (λ (y : Reading). on-got y (λ a n. bind-by (unary-at d) s a n (binder-at s n))) (left-is .reading) ∙ ap (bind-by (unary-at d) s (left-is .tree) e) g)
 
-    pub bind-alone : binder-at s e ≡ Absent → Done o (bind-at d s at) (Read e r f) before mid
+    pub bind-alone : binder-at s e ≡ Absent → Done o (bind-at d s at) (read-part e r f) before mid
     unfolding bind-by
     bind-alone g = rw q at (done-as o (unary-at d s at) (bind-at d s at) p before mid (left-is .reading ∙ bound-by Absent g) u)
 
@@ -163,11 +163,11 @@ module _ (part : Reads) (k o : ℕ) (s : List ℕ) (at : ℕ) (x : Reading) (bef
   turning-refused after e =
       refused-done o (more part k s x) before after (ap (step-of o) (sym (h .same)) ∙ more-refused o part k s (h .reading) (sym (h .done .step) ∙ e))
 
-  module _ (e r f : ℕ) (q : p ≡ Read e r f) where
+  module _ (e r f : ℕ) (q : p ≡ read-part e r f) where
     turning-read : ReadIs o (h .reading) e r f
     turning-read = read-is o (h .reading) e r f (sym (h .done .step) ∙ q)
 
-    pub turning-over : mark-at (letter k) s e ≡ Mark·Bad → Done o (more part k s x) (Read e r f) before cells
+    pub turning-over : mark-at (letter k) s e ≡ Mark·Bad → Done o (more part k s x) (read-part e r f) before cells
     turning-over m =
         let i = turning-read in
         let g : h .reading ≡ more part k s x = i .reading ∙ (sym (more-over part k s (i .tree) e m) ∙ (ap (more part k s) (sym (i .reading)) ∙ h .same)) in
@@ -213,10 +213,10 @@ module _ (part : Reads) (k o : ℕ) (s : List ℕ) (at : ℕ) (x : Reading) (bef
         turning-less = rw q (go q′ (turning-turn .done .step))
           where
             go : (y : Step) → y ≡ step-of o (turning-turn .reading) → bytes-left s y < suc (length s) - e
-            go (Read n root free) z =
+            go (Read part) z =
                 let b = mark-is (letter k) s e m g in
-                let i = read-is o (turning-turn .reading) n root free (sym z) in
-                let u : m ≤ n = turned-past (i .tree) n (i .reading) in
+                let i = read-is o (turning-turn .reading) (part .end) (part .root) (part .free) (sym z) in
+                let u : m ≤ part .end = turned-past (i .tree) (part .end) (i .reading) in
                 let l = b .end in
                 let y = b .inside in
                 omega arith

@@ -16,11 +16,11 @@ use Rattle.tables.specs.Tree.{NODES}
 use Rattle.grammar.specs.Tree.{size}
 use Rattle.grammar.specs.Reading.{Reading, got, none, alternative-at, whole, requirement-tree}
 use Rattle.building.specs.declared.Step.{Step}
-use Rattle.building.specs.declared.Step.the-variants.{Read, Refused}
+use Rattle.building.specs.declared.Step.the-variants.{Refused}
 use Rattle.requirements.specs.declared.Requirement.{Requirement}
 use Rattle.building.specs.Nodes.{empty-node, nodes-of, table-of}
 use Rattle.requirements.specs.Requirement.{refused, answer-of, requirement-of}
-use Rattle.building.specs.Storing.{cells-of, step-of, Done, nodes-from, table-from}
+use Rattle.building.specs.Storing.{read-part, cells-of, step-of, Done, nodes-from, table-from}
 use Rattle.building.proofs.Cells.{zeros, length-nodes, table-back}
 use Rattle.building.proofs.Stores.{refused-big, ReadIs, read-is, done-as, cells-small}
 
@@ -35,7 +35,7 @@ module _ (s : List ℕ) (p : Step) (cells : List ℕ) (u : Done 0 (alternative-a
           rw (lt-leb (size a) NODES (omega arith)) (by-test (eqb n (length s)) (λ e. rw e) (λ e. rw e))
       go none h = refl
 
-  module _ (e r f : ℕ) (q : p ≡ Read e r f) where
+  module _ (e r f : ℕ) (q : p ≡ read-part e r f) where
     whole-read : ReadIs 0 (alternative-at 32 s 0) e r f
     whole-read = read-is 0 (alternative-at 32 s 0) e r f (sym (u .step) ∙ q)
 

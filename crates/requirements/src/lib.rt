@@ -58,16 +58,16 @@ fn read_bind(
     ensures { λ r. ⌜ Done free (bind-at depth (now (s .entry)) at) r (now (cells .entry)) (now (cells .exit)) ⌝ }
 {
     let left = read_unary(s, at, depth, free, cells);
-    let Step::Read(end, root, after) = left else {
+    let Step::Read(part) = left else {
         return Step::Refused;
     };
-    match operators::read_binder(s, end) {
+    match operators::read_binder(s, part.end) {
         Operator::Absent => left,
         Operator::Over(kind, span, next) => building::join(
             kind,
             span,
-            root,
-            read_unary(s, next, depth, after, cells),
+            part.root,
+            read_unary(s, next, depth, part.free, cells),
             cells,
         ),
         Operator::Bad => Step::Refused,
@@ -86,17 +86,17 @@ fn read_conjunction(
 {
     let mut p = read_bind(s, at, depth, free, cells);
     loop {
-        let Step::Read(end, root, after) = p else {
+        let Step::Read(part) = p else {
             return Step::Refused;
         };
-        let Mark::Next(next) = operators::read_letter(s, end, tables::AND) else {
+        let Mark::Next(next) = operators::read_letter(s, part.end, tables::AND) else {
             return p;
         };
         p = building::join(
             tables::AND,
             Span { lo: 0, hi: 0 },
-            root,
-            read_bind(s, next, depth, after, cells),
+            part.root,
+            read_bind(s, next, depth, part.free, cells),
             cells,
         );
     }
@@ -114,17 +114,17 @@ fn read_alternative(
 {
     let mut p = read_conjunction(s, at, depth, free, cells);
     loop {
-        let Step::Read(end, root, after) = p else {
+        let Step::Read(part) = p else {
             return Step::Refused;
         };
-        let Mark::Next(next) = operators::read_letter(s, end, tables::OR) else {
+        let Mark::Next(next) = operators::read_letter(s, part.end, tables::OR) else {
             return p;
         };
         p = building::join(
             tables::OR,
             Span { lo: 0, hi: 0 },
-            root,
-            read_conjunction(s, next, depth, after, cells),
+            part.root,
+            read_conjunction(s, next, depth, part.free, cells),
             cells,
         );
     }
@@ -145,11 +145,11 @@ pub fn read_requirement(text: &[u8]) -> Requirement
     ensures { λ r. ⌜ r ≡ requirement-of (now (text .entry)) ⌝ }
 {
     let mut cells = [0u64; building::CELLS];
-    let Step::Read(end, root, count) = read_alternative(text, 0, ENCLOSINGS, 0, &mut cells) else {
+    let Step::Read(part) = read_alternative(text, 0, ENCLOSINGS, 0, &mut cells) else {
         return refuse();
     };
-    if end == text.len() {
-        let table = building::table_from(&cells, count);
+    if part.end == text.len() {
+        let table = building::table_from(&cells, part.free);
         Requirement {
             refusal: 0,
             table: table,

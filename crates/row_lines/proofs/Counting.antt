@@ -7,11 +7,11 @@ use native.Mathlib.Nat.{zero-add, add-zero}
 use native.Mathlib.Omega.{arith}
 use lib.ListN.{length}
 use Rattle.row_lines.specs.declared.RowLine.{RowLine}
-use Rattle.row_lines.specs.declared.RowLine.the-variants.{Measured, Filled, Bad}
+use Rattle.row_lines.specs.declared.RowLine.the-variants.{Filled, Bad}
 use Rattle.row_lines.specs.declared.Counts.{Counts}
 use Rattle.row_lines.specs.declared.Counts.the-variants.{Found, Bad as Counts·Bad}
 use Rattle.row_lines.specs.Form.{Sample}
-use Rattle.row_lines.specs.Reading.{row-at, Listing, listed, broken, also-measured, also-filled, sample-at, rows-from, rows-of, counts}
+use Rattle.row_lines.specs.Reading.{measured-row, row-at, Listing, listed, broken, also-measured, also-filled, sample-at, rows-from, rows-of, counts}
 use Rattle.row_lines.proofs.Exact.{row-past, rows-over, rows-turn}
 
 -- the counts after m measured and k filled rows
@@ -51,16 +51,16 @@ module _ (ch : ℕ) (s : List ℕ) (at m k : ℕ) (i : Counting ch s at m k) whe
     pub count-bad : x ≡ Bad → Counts·Bad ≡ counts (rows-of ch s)
     count-bad h = rw (rows-turn (i .fuel) ch s at Bad (i .enough) l (sym h ∙ e)) at (i .same)
 
-    pub count-measured : (t a n : ℕ) → x ≡ Measured t a n → (at < n) × Counting ch s n (m + 1) k
+    pub count-measured : (t a n : ℕ) → x ≡ measured-row t a n → (at < n) × Counting ch s n (m + 1) k
     count-measured t a n h =
-        let p : at < n = row-past ch s at (Measured t a n) (sym h ∙ e) in (
+        let p : at < n = row-past ch s at (measured-row t a n) (sym h ∙ e) in (
           p,
           record {
             fuel = i .fuel - 1;
             enough = omega (arith, i .enough);
             few = omega (arith, i .few);
             same = sym (tally-measured m k (sample-at s ch t a) (rows-from (i .fuel - 1) ch s n))
-                ∙ (rw (rows-turn (i .fuel) ch s at (Measured t a n) (i .enough) l (sym h ∙ e)) at (i .same));
+                ∙ (rw (rows-turn (i .fuel) ch s at (measured-row t a n) (i .enough) l (sym h ∙ e)) at (i .same));
           },
         )
 

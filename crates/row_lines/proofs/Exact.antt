@@ -15,7 +15,7 @@ use Rattle.text.proofs.Places.{Between, place-inside}
 use Rattle.row_lines.specs.declared.RowLine.{RowLine}
 use Rattle.row_lines.specs.declared.RowLine.the-variants.{Measured, Filled, Bad}
 use Rattle.row_lines.specs.Form.{lines, Sample, Rows, no-row, measured, filled, AreRows}
-use Rattle.row_lines.specs.Reading.{row-at, after-row, Listing, listed, broken, is-broken, also-measured, also-filled, sample-at, rows-from, rows-of}
+use Rattle.row_lines.specs.Reading.{measured-row, row-at, after-row, Listing, listed, broken, is-broken, also-measured, also-filled, sample-at, rows-from, rows-of}
 use Rattle.row_lines.specs.Same.{Alike, no-line, same, filled as Alike·filled, SameButFilled}
 use Rattle.row_lines.proofs.Written.{RowHere, row-here, row-taken}
 use Rattle.row_lines.proofs.Lines.{Fed, fed-some, row-fed, lines-fed, lines-split, lines-none, one-width, one-source}
@@ -28,12 +28,12 @@ fed-past {s} {l} {at} {n} b f =
     omega (arith, b .end)
 
 abbrev pub Past : ℕ → RowLine → Type 0
-Past at (Measured t a n) = at < n
+Past at (Measured r) = at < r .next
 Past at (Filled n) = at < n
 Past at Bad = Unit
 
 past-of : (ch : ℕ) (s : List ℕ) (at : ℕ) (x : RowLine) → RowHere ch s at x → Past at x
-past-of ch s at (Measured t a n) h = fed-past (h .1) (row-fed (h .2))
+past-of ch s at (Measured r) h = fed-past (h .1) (row-fed (h .2))
 past-of ch s at (Filled n) h = fed-past (h .3) (row-fed (h .4))
 past-of ch s at Bad h = tt
 
@@ -72,7 +72,7 @@ RowsHere ch s at broken = Unit
 pub fed-lines : {s l : List ℕ} {at n : ℕ} → Between s at n l → Fed l → lines (drop at s) ≡ l ∷ lines (drop n s)
 fed-lines {s} {l} {at} {n} b f = rw (b .bytes) (lines-fed (drop n s) f)
 
-measured-here : (ch : ℕ) (s : List ℕ) (at t a n : ℕ) (y : Listing) → RowHere ch s at (Measured t a n) → RowsHere ch s n y → RowsHere ch s at (also-measured (sample-at s ch t a) y)
+measured-here : (ch : ℕ) (s : List ℕ) (at t a n : ℕ) (y : Listing) → RowHere ch s at (measured-row t a n) → RowsHere ch s n y → RowsHere ch s at (also-measured (sample-at s ch t a) y)
 measured-here ch s at t a n (listed xs k) h r = rw (fed-lines (h .1) (row-fed (h .2))) (measured (h .2) r)
 measured-here ch s at t a n broken h r = tt
 
@@ -82,7 +82,7 @@ filled-here ch s at n broken h r = tt
 
 turn-here : (f ch : ℕ) (s : List ℕ) (at : ℕ) (x : RowLine) → RowHere ch s at x → ((n : ℕ) → RowsHere ch s n (rows-from f ch s n))
     → RowsHere ch s at (after-row x (λ t a n. also-measured (sample-at s ch t a) (rows-from f ch s n)) (λ n. also-filled (rows-from f ch s n)) broken)
-turn-here f ch s at (Measured t a n) h more = measured-here ch s at t a n (rows-from f ch s n) h (more n)
+turn-here f ch s at (Measured r) h more = measured-here ch s at (r .time) (r .values) (r .next) (rows-from f ch s (r .next)) h (more (r .next))
 turn-here f ch s at (Filled n) h more = filled-here ch s at n (rows-from f ch s n) h (more n)
 turn-here f ch s at Bad h more = tt
 
@@ -112,9 +112,9 @@ rows-taken {ch} (measured {l} {ls} {t} {vs} {samples = xs} {filled = k} row rest
     let p = lines-split (drop at s) l ls e in
     let a = row-taken true s at (p .0) row (p .1) in
     let n : ℕ = a .1 in
-    let past : at < n = row-past ch s at (Measured t (a .0) n) (sym (a .2)) in
+    let past : at < n = row-past ch s at (measured-row t (a .0) n) (sym (a .2)) in
     let more : rows-from (f - 1) ch s n ≡ listed xs k = rows-taken rest (f - 1) s n (omega arith) (ap lines (a .4) ∙ p .2) in
-    rows-turn f ch s at (Measured t (a .0) n) h (starts s at l (p .0) (p .1) (row-fed row)) (sym (a .2)) ∙ (rw (more, a .3))
+    rows-turn f ch s at (measured-row t (a .0) n) h (starts s at l (p .0) (p .1) (row-fed row)) (sym (a .2)) ∙ (rw (more, a .3))
 rows-taken {ch} (filled {l} {ls} {t} {vs} {samples = xs} {filled = k} row rest) f s at h e =
     let p = lines-split (drop at s) l ls e in
     let a = row-taken false s at (p .0) row (p .1) in

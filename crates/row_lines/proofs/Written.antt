@@ -24,7 +24,7 @@ use Rattle.text.proofs.Fields.{mark-case, number-case, signed-case, signed-fiel
 use Rattle.row_lines.specs.declared.RowLine.{RowLine}
 use Rattle.row_lines.specs.declared.RowLine.the-variants.{Measured, Filled, Bad}
 use Rattle.row_lines.specs.Form.{ValueFields, no-field, next, source, Row}
-use Rattle.row_lines.specs.Reading.{value-at, ValuesAt, read, missing, also, values-from, end-of, all-of, rest-at, row-at}
+use Rattle.row_lines.specs.Reading.{value-at, ValuesAt, read, missing, also, values-from, end-of, all-of, measured-row, rest-at, row-at}
 
 -- ---- one value
 
@@ -153,9 +153,9 @@ row-line ch s at t e b a n m x h k g f =
 
 -- what an answer says of the line at a place
 abbrev pub RowHere : ℕ → List ℕ → ℕ → RowLine → Type 0
-RowHere ch s at (Measured t a n) =
-    (l : List ℕ) × Between s at n l × Row ch l true t (all-of (values-from ch 0 s a))
-    × (e : ℕ) × (values-from ch 0 s a ≡ read (all-of (values-from ch 0 s a)) e)
+RowHere ch s at (Measured r) =
+    (l : List ℕ) × Between s at (r .next) l × Row ch l true (r .time) (all-of (values-from ch 0 s (r .values)))
+    × (e : ℕ) × (values-from ch 0 s (r .values) ≡ read (all-of (values-from ch 0 s (r .values))) e)
 RowHere ch s at (Filled n) = (l : List ℕ) × (t : ℕ) × (vs : List ℤ) × Between s at n l × Row ch l false t vs
 RowHere ch s at Bad = Unit
 
@@ -181,7 +181,7 @@ row-here ch s at =
 
     measured : (t a n : ℕ) → Fields ch s a n (values-from ch 0 s a)
         → (Fields ch s a n (values-from ch 0 s a) → (l : List ℕ) × Between s at n l × Row ch l true t (all-of (values-from ch 0 s a)))
-        → RowHere ch s at (Measured t a n)
+        → RowHere ch s at (measured-row t a n)
     measured t a n f line = let l = line f in (l .0, l .1, l .2, f .3, f .4)
 
     filled : (t n : ℕ) {vs : List ℤ} → (l : List ℕ) × Between s at n l × Row ch l false t vs → RowHere ch s at (Filled n)
@@ -189,7 +189,7 @@ row-here ch s at =
 
 -- the answer to a row's line, and the rest behind it
 abbrev pub Taken : Bool → ℕ → List ℕ → ℕ → ℕ → List ℤ → List ℕ → Type 0
-Taken true ch s at t vs r = (a : ℕ) × (n : ℕ) × (row-at s at ch ≡ Measured t a n) × (all-of (values-from ch 0 s a) ≡ vs) × (drop n s ≡ r)
+Taken true ch s at t vs r = (a : ℕ) × (n : ℕ) × (row-at s at ch ≡ measured-row t a n) × (all-of (values-from ch 0 s a) ≡ vs) × (drop n s ≡ r)
 Taken false ch s at t vs r = (n : ℕ) × (row-at s at ch ≡ Filled n) × (drop n s ≡ r)
 
 front-taken : (m : Bool) {ch t : ℕ} {l : List ℕ} {vs : List ℤ} (s : List ℕ) (at : ℕ) (r : List ℕ) (f : Row ch l m t vs) → drop at s ≡ l ++ r

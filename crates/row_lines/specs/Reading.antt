@@ -59,11 +59,15 @@ all-of missing = []
 unfoldable pub rest-at : List ℕ → ℕ → ℕ → Mark
 rest-at s at channels = after-mark (end-of (values-from channels 0 s at)) (λ n. mark-at (bytes "\n") s n) Mark·Bad
 
+-- a measured row's line, by its parts
+abbrev pub measured-row : ℕ → ℕ → ℕ → RowLine
+measured-row t a n = Measured (record { time = t; values = a; next = n })
+
 -- what follows ` src=` in the line of a row of time t
 abbrev pub after-source : List ℕ → ℕ → ℕ → ℕ → RowLine
 after-source s channels t b =
     after-mark (mark-at (bytes "m") s b)
-    (λ a. after-mark (rest-at s a channels) (λ n. Measured t a n) Bad)
+    (λ a. after-mark (rest-at s a channels) (λ n. measured-row t a n) Bad)
     (after-mark (mark-at (bytes "f") s b) (λ a. after-mark (rest-at s a channels) (λ n. Filled n) Bad) Bad)
 
 -- the row whose line begins at a place
@@ -74,7 +78,7 @@ row-at s at channels =
     Bad
 
 abbrev pub after-row : {A : Type 0} → RowLine → (ℕ → ℕ → ℕ → A) → (ℕ → A) → A → A
-after-row (Measured t a n) f g x = f t a n
+after-row (Measured r) f g x = f (r .time) (r .values) (r .next)
 after-row (Filled n) f g x = g n
 after-row Bad f g x = x
 

@@ -8,9 +8,16 @@ ghost use Rattle.row_lines.specs.Reading.{channels-in-range, value-at, v
 // The longest text that is read.
 pub const LIMIT: usize = 65_536;
 
-// A row's line: of a measured row its time, the place of its values and that of the next line; of a filled row that of the next line alone.
+// What a measured row's line says: its time, the place of its values and that of the next line.
+pub struct MeasuredRow {
+    pub time: u64,
+    pub values: usize,
+    pub next: usize,
+}
+
+// A row's line; of a filled row nothing but the place of the next line.
 pub enum RowLine {
-    Measured(u64, usize, usize),
+    Measured(MeasuredRow),
     Filled(usize),
     Bad,
 }
@@ -85,7 +92,11 @@ pub fn read_row(s: &[u8], at: usize, channels: usize) -> RowLine
         let Mark::Next(next) = read_rest(s, values, channels) else {
             return RowLine::Bad;
         };
-        return RowLine::Measured(time, values, next);
+        return RowLine::Measured(MeasuredRow {
+            time: time,
+            values: values,
+            next: next,
+        });
     }
     let Mark::Next(values) = text::read_mark(s, source, b"f") else {
         return RowLine::Bad;
@@ -105,9 +116,9 @@ pub fn count_rows(s: &[u8], channels: usize) -> Counts
     let mut filled: usize = 0;
     while at < s.len() {
         match read_row(s, at, channels) {
-            RowLine::Measured(_, _, next) => {
+            RowLine::Measured(row) => {
                 rows += 1;
-                at = next;
+                at = row.next;
             }
             RowLine::Filled(next) => {
                 filled += 1;

@@ -11,9 +11,9 @@ use lib.Seq.{sets, length-sets, sets-eq}
 use lib.IntN.{ℤ}
 use Rattle.text.specs.declared.signed.Field.the-variants.{Number as Signed·Number, Bad as Signed·Bad}
 use Rattle.row_lines.specs.declared.RowLine.{RowLine}
-use Rattle.row_lines.specs.declared.RowLine.the-variants.{Measured, Filled, Bad}
+use Rattle.row_lines.specs.declared.RowLine.the-variants.{Filled, Bad}
 use Rattle.row_lines.specs.Form.{Sample, Rows, no-row, measured, filled}
-use Rattle.row_lines.specs.Reading.{value-at, ValuesAt, read, missing, also, values-from, all-of, row-at, Listing, listed, broken, also-measured, also-filled, sample-at, rows-from, rows-of}
+use Rattle.row_lines.specs.Reading.{value-at, ValuesAt, read, missing, also, values-from, all-of, measured-row, row-at, Listing, listed, broken, also-measured, also-filled, sample-at, rows-from, rows-of}
 use Rattle.row_lines.proofs.Steps.{values-over, values-none, values-next}
 use Rattle.row_lines.proofs.Written.{RowHere, row-here, values-length}
 use Rattle.row_lines.proofs.Exact.{row-past, rows-over, rows-turn, rows-exact}
@@ -176,17 +176,17 @@ module _ (s : List ℕ) (ch : ℕ) (times₀ : List ℕ) (values₀ : List ℤ) 
           },
         )
 
-    module _ (t a m : ℕ) (h : x ≡ Measured t a m) where
-      here : RowHere ch s at (Measured t a m)
+    module _ (t a m : ℕ) (h : x ≡ measured-row t a m) where
+      here : RowHere ch s at (measured-row t a m)
       here = subst (λ (r : RowLine). RowHere ch s at r) (sym e ∙ h) (row-here ch s at)
 
       turn : (ys : List Sample) × (rows-from (i .fuel - 1) ch s m ≡ listed ys (i .filled)) × (i .rest ≡ sample-at s ch t a ∷ ys)
       turn =
           measured-split (sample-at s ch t a) (rows-from (i .fuel - 1) ch s m) (i .rest) (i .filled)
-          (sym (rows-turn (i .fuel) ch s at (Measured t a m) (i .enough) l (sym h ∙ e)) ∙ i .reads)
+          (sym (rows-turn (i .fuel) ch s at (measured-row t a m) (i .enough) l (sym h ∙ e)) ∙ i .reads)
 
       pub fill-past : at < m
-      fill-past = row-past ch s at (Measured t a m) (sym h ∙ e)
+      fill-past = row-past ch s at (measured-row t a m) (sym h ∙ e)
 
       pub fill-row : n < length times
       fill-row =

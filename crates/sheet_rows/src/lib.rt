@@ -71,11 +71,11 @@ fn store_rows(s: &[u8], channels: usize, times: &mut [u64], values: &mut [i64])
     let mut rows: usize = 0;
     while at < s.len() {
         match row_lines::read_row(s, at, channels) {
-            RowLine::Measured(time, fields, next) => {
-                times[rows] = time;
-                store_values(s, fields, channels, values, rows * channels);
+            RowLine::Measured(row) => {
+                times[rows] = row.time;
+                store_values(s, row.values, channels, values, rows * channels);
                 rows += 1;
-                at = next;
+                at = row.next;
             }
             RowLine::Filled(next) => {
                 at = next;

@@ -9,11 +9,11 @@ use lib.Dec.{ltb}
 use Rattle.text.specs.Bytes.{bytes}
 use Rattle.text.specs.declared.Field.the-variants.{Number, Bad as Field·Bad}
 use Rattle.row_lines.specs.Reading.{limit}
-use Rattle.head_lines.specs.Reading.{number-line-at, requirement-at}
+use Rattle.head_lines.specs.Reading.{number-line-at, requirement-line, requirement-at}
 use Rattle.predicate_lines.specs.declared.Predicates.{Predicates}
 use Rattle.predicate_lines.specs.Reading.{lines-at}
 use Rattle.sheets.specs.declared.Sheet.{Sheet}
-use Rattle.head_lines.specs.declared.Requirement.the-variants.{At, Bad}
+use Rattle.head_lines.specs.declared.Requirement.the-variants.{Bad}
 use Rattle.sheets.specs.Form.{blank}
 use Rattle.sheets.specs.Sheets.{rows-kept, behind-predicates, sheet-of}
 
@@ -39,7 +39,7 @@ module _ (s : List ℕ) (ch : ℕ) (ps : Predicates) where
         unfolding behind-predicates
         chain-requirement r = rw (o, f, h, r)
 
-        module _ (from to rows : ℕ) (r : requirement-at s d ≡ At from to rows) where
+        module _ (from to rows : ℕ) (r : requirement-at s d ≡ requirement-line from to rows) where
           pub chain-rows : rows-kept s rows ch ≡ false → blank ≡ behind-predicates s ch ps
           unfolding behind-predicates
           chain-rows k = rw (o, f, h, r, k)

@@ -23,7 +23,7 @@ use Rattle.row_lines.specs.Same.{Alike, no-line, same, filled, SameButFilled}
 use Rattle.row_lines.proofs.Lines.{count, Fed, lines-split, lines-clear}
 use Rattle.row_lines.proofs.Exact.{fed-lines, unbroken-rows, rows-unbroken, alike-sym, alike-rows}
 use Rattle.head_lines.specs.Form.{NumberLine}
-use Rattle.head_lines.specs.Reading.{number-line-at, requirement-at, after-requirement}
+use Rattle.head_lines.specs.Reading.{number-line-at, requirement-line, requirement-at, after-requirement}
 use Rattle.recordings.specs.declared.Predicate.{Predicate}
 use Rattle.predicate_lines.specs.declared.Predicates.{Predicates}
 use Rattle.predicate_lines.specs.Form.{unset, PredicateLines, over, more}
@@ -63,13 +63,13 @@ blank-good : (s : List ℕ) → Good s blank
 unfolding Good
 blank-good s e = absurd (omega arith)
 
-requirement-case : {A : Type 0} (P : A → Type 0) (x : Requirement) (f : ℕ → ℕ → ℕ → A) (a : A) → ((i j n : ℕ) → x ≡ At i j n → P (f i j n)) → P a → P (after-requirement x f a)
-requirement-case P (At i j n) f a h k = h i j n refl
+requirement-case : {A : Type 0} (P : A → Type 0) (x : Requirement) (f : ℕ → ℕ → ℕ → A) (a : A) → ((i j n : ℕ) → x ≡ requirement-line i j n → P (f i j n)) → P a → P (after-requirement x f a)
+requirement-case P (At p) f a h k = h (p .from) (p .to) (p .next) refl
 requirement-case P Bad f a h k = k
 
 read-good : (s : List ℕ) → length s ≤ limit → (ch a : ℕ) → number-line-at (bytes "chan=") s 0 ≡ Number ch a → lines-at s a .ok ≡ true
     → (step c : ℕ) → number-line-at (bytes "step=") s (lines-at s a .next) ≡ Number step c → (drift d : ℕ) → number-line-at (bytes "drift=") s c ≡ Number drift d
-    → (from to rows : ℕ) → requirement-at s d ≡ At from to rows → rows-kept s rows ch ≡ true
+    → (from to rows : ℕ) → requirement-at s d ≡ requirement-line from to rows → rows-kept s rows ch ≡ true
     → Form s (record { number = 0; channels = ch; predicates = lines-at s a .all; step = step; drift = drift; from = from; to = to; rows = rows })
 unfolding count
 read-good s short ch a e o step c f drift d g from to rows r k =
@@ -160,7 +160,7 @@ predicates-stage s a {qs} {ps} {l} ls form step e =
 
 requirement-stage : (s : List ℕ) (d ch : ℕ) (w : List ℕ) (rows : List (List ℕ)) → lines (drop d s) ≡ (bytes "req=" ++ w ++ bytes "\n") ∷ rows
     → (channels-in-range ch ≡ true → AreRows ch rows)
-    → (n : ℕ) × (requirement-at s d ≡ At (d + 4) (d + 4 + length w) n) × (n ≡ d + 4 + length w + 1) × (rows-kept s n ch ≡ true)
+    → (n : ℕ) × (requirement-at s d ≡ requirement-line (d + 4) (d + 4 + length w) n) × (n ≡ d + 4 + length w + 1) × (rows-kept s n ch ≡ true)
 unfolding count
 requirement-stage s d ch w rows h has =
     let t = lines-split (drop d s) (bytes "req=" ++ w ++ bytes "\n") rows h in
@@ -177,7 +177,7 @@ same-sheet x i j k p q r e =
 
 read-as : (s : List ℕ) (x : Sheet) → length s ≤ limit → x .number ≡ 0 → (a b c d n i j : ℕ) → number-line-at (bytes "chan=") s 0 ≡ Number (x .channels) a
     → lines-at s a ≡ record { ok = true; next = b; all = x .predicates } → number-line-at (bytes "step=") s b ≡ Number (x .step) c
-    → number-line-at (bytes "drift=") s c ≡ Number (x .drift) d → requirement-at s d ≡ At i j n → rows-kept s n (x .channels) ≡ true
+    → number-line-at (bytes "drift=") s c ≡ Number (x .drift) d → requirement-at s d ≡ requirement-line i j n → rows-kept s n (x .channels) ≡ true
     → i ≡ x .from → j ≡ x .to → n ≡ x .rows → sheet-of s ≡ x
 read-as s x l m a b c d n i j e f g h r k from to rows =
     sym

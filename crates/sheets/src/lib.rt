@@ -69,10 +69,10 @@ fn read_behind(s: &[u8], channels: usize, predicates: Predicates) -> Sheet
     else {
         return refused();
     };
-    let Requirement::At(from, to, rows) = head_lines::read_requirement(s, requirement_at) else {
+    let Requirement::At(place) = head_lines::read_requirement(s, requirement_at) else {
         return refused();
     };
-    if !keeps_rows(s, rows, channels) {
+    if !keeps_rows(s, place.next, channels) {
         return refused();
     }
     let all = predicates.all;
@@ -82,9 +82,9 @@ fn read_behind(s: &[u8], channels: usize, predicates: Predicates) -> Sheet
         predicates: all,
         step: step,
         drift: drift,
-        from: from,
-        to: to,
-        rows: rows,
+        from: place.from,
+        to: place.to,
+        rows: place.next,
     }
 }
 

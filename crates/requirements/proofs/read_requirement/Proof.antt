@@ -14,8 +14,8 @@ use Rattle.building.proofs.table_from.Reads as table-from-reads
 read-alternative-requires : tie.Need-read-alternative-requires
 read-alternative-requires c κs = search needs
 
-enum-known-end : tie.Need-enum-known-end
-enum-known-end c = search needs
+enum-known-part : tie.Need-enum-known-part
+enum-known-part c = search needs
 
 enum-told : tie.Need-enum-told
 enum-told c = search needs
@@ -34,17 +34,17 @@ refuse-requires-2 c κs = search needs
 
 returns-2 : tie.Need-returns-2
 returns-2 c =
-    rw (c .table-from .ensures) (whole-read-all _ _ _ (c .before .before .before .before .before .before .read-alternative .ensures) _ _ _ (c .before .before .before .before .end .given .1) (c .before .before .if1 .taken))
+    rw (c .table-from .ensures) (whole-read-all _ _ _ (c .before .before .before .before .before .before .before .read-alternative .ensures) _ _ _ (c .before .before .before .before .before .part .given .1) (c .before .before .if1 .taken))
 
 returns-3 : tie.Need-returns-3
-returns-3 c = c .refuse2 .ensures ∙ whole-part _ _ _ (c .before .before .before .before .before .read-alternative .ensures) _ _ _ (c .before .before .before .end .given .1) (c .before .if1 .left)
+returns-3 c = c .refuse2 .ensures ∙ whole-part _ _ _ (c .before .before .before .before .before .before .read-alternative .ensures) _ _ _ (c .before .before .before .before .part .given .1) (c .before .if1 .left)
 
 pub read-requirement-spec : {M : Type 1} → statement M
 read-requirement-spec =
     tie.close
     (tie.spec
     read-alternative-requires
-    enum-known-end
+    enum-known-part
     enum-told
     refuse-requires
     returns

@@ -20,8 +20,8 @@ loop-holds c = count-start _ _
 read-row-requires : tie.Need-read-row-requires Inv-loop μ-loop
 read-row-requires c κs = search needs
 
-enum-known-next : tie.Need-enum-known-next Inv-loop μ-loop
-enum-known-next c = search needs
+enum-known-row : tie.Need-enum-known-row Inv-loop μ-loop
+enum-known-row c = search needs
 
 add-rows : tie.Need-add-rows Inv-loop μ-loop
 add-rows c = search needs
@@ -30,16 +30,16 @@ loop-less : tie.Need-loop-less Inv-loop μ-loop
 loop-less c =
     let b = c .before .before .before in
     let l = b .before in
-    omega (arith, l .loop-test .taken, count-measured _ _ _ _ _ (l .before .loop .inv) _ (l .loop-test .taken) (b .read-row .ensures) _ _ _ (c .before .next .given .1) .0)
+    omega (arith, l .loop-test .taken, count-measured _ _ _ _ _ (l .before .loop .inv) _ (l .loop-test .taken) (b .read-row .ensures) _ _ _ (c .before .row .given .1) .0)
 
 loop-again : tie.Need-loop-again Inv-loop μ-loop
 loop-again c =
     let b = c .before .before .before in
     let l = b .before in
-    count-measured _ _ _ _ _ (l .before .loop .inv) _ (l .loop-test .taken) (b .read-row .ensures) _ _ _ (c .before .next .given .1) .1
+    count-measured _ _ _ _ _ (l .before .loop .inv) _ (l .loop-test .taken) (b .read-row .ensures) _ _ _ (c .before .row .given .1) .1
 
-enum-known-next-2 : tie.Need-enum-known-next-2 Inv-loop μ-loop
-enum-known-next-2 c = search needs
+enum-known-next : tie.Need-enum-known-next Inv-loop μ-loop
+enum-known-next c = search needs
 
 add-filled : tie.Need-add-filled Inv-loop μ-loop
 add-filled c = search needs
@@ -48,13 +48,13 @@ loop-less-2 : tie.Need-loop-less-2 Inv-loop μ-loop
 loop-less-2 c =
     let b = c .before .before .before in
     let l = b .before in
-    omega (arith, l .loop-test .taken, count-filled _ _ _ _ _ (l .before .loop .inv) _ (l .loop-test .taken) (b .read-row .ensures) _ (c .before .next2 .given .1) .0)
+    omega (arith, l .loop-test .taken, count-filled _ _ _ _ _ (l .before .loop .inv) _ (l .loop-test .taken) (b .read-row .ensures) _ (c .before .next .given .1) .0)
 
 loop-again-2 : tie.Need-loop-again-2 Inv-loop μ-loop
 loop-again-2 c =
     let b = c .before .before .before in
     let l = b .before in
-    count-filled _ _ _ _ _ (l .before .loop .inv) _ (l .loop-test .taken) (b .read-row .ensures) _ (c .before .next2 .given .1) .1
+    count-filled _ _ _ _ _ (l .before .loop .inv) _ (l .loop-test .taken) (b .read-row .ensures) _ (c .before .next .given .1) .1
 
 enum-told : tie.Need-enum-told Inv-loop μ-loop
 enum-told c = search needs
@@ -76,11 +76,11 @@ count-rows-spec =
     μ-loop
     loop-holds
     read-row-requires
-    enum-known-next
+    enum-known-row
     add-rows
     loop-less
     loop-again
-    enum-known-next-2
+    enum-known-next
     add-filled
     loop-less-2
     loop-again-2

@@ -20,15 +20,15 @@ loop-holds c = fill-start _ _ _ _ (c .before .before .pre)
 read-row-requires : tie.Need-read-row-requires Inv-loop μ-loop
 read-row-requires c κs = search needs
 
-enum-known-time : tie.Need-enum-known-time Inv-loop μ-loop
-enum-known-time c = search needs
+enum-known-row : tie.Need-enum-known-row Inv-loop μ-loop
+enum-known-row c = search needs
 
 mul-times : tie.Need-mul-times Inv-loop μ-loop
 mul-times c =
     let k = c in
     let b = k .before .before .before in
     let l = b .before in
-    let h : l .before .loop .rows < length (l .before .loop .times) = fill-row _ _ _ _ _ _ _ _ (l .before .loop .inv) _ (l .loop-test .taken) (b .read-row .ensures) _ _ _ (k .before .time .given .1) in
+    let h : l .before .loop .rows < length (l .before .loop .times) = fill-row _ _ _ _ _ _ _ _ (l .before .loop .inv) _ (l .loop-test .taken) (b .read-row .ensures) _ _ _ (k .before .row .given .1) in
     let g = l .before .loop .inv .t-long in
     let r = l .before .before .before .before .good .1 .1 .0 in
     omega (arith, r)
@@ -38,14 +38,14 @@ slice-write-times c =
     let k = c in
     let b = k .before .before .before in
     let l = b .before in
-    fill-row _ _ _ _ _ _ _ _ (l .before .loop .inv) _ (l .loop-test .taken) (b .read-row .ensures) _ _ _ (k .before .time .given .1)
+    fill-row _ _ _ _ _ _ _ _ (l .before .loop .inv) _ (l .loop-test .taken) (b .read-row .ensures) _ _ _ (k .before .row .given .1)
 
 mul-store-values : tie.Need-mul-store-values Inv-loop μ-loop
 mul-store-values c =
     let k = c .before in
     let b = k .before .before .before in
     let l = b .before in
-    let h = fill-room _ _ _ _ _ _ _ _ (l .before .loop .inv) _ (l .loop-test .taken) (b .read-row .ensures) _ _ _ (k .before .time .given .1) in
+    let h = fill-room _ _ _ _ _ _ _ _ (l .before .loop .inv) _ (l .loop-test .taken) (b .read-row .ensures) _ _ _ (k .before .row .given .1) in
     let g = l .before .loop .inv .v-long in
     let r = l .before .before .before .before .good .1 .1 .1 .0 in
     omega (arith, r)
@@ -55,14 +55,14 @@ store-values-requires c κs =
     let k = c .before in
     let b = k .before .before .before in
     let l = b .before in
-    fill-storable _ _ _ _ _ _ _ _ (l .before .loop .inv) _ (l .loop-test .taken) (b .read-row .ensures) _ _ _ (k .before .time .given .1)
+    fill-storable _ _ _ _ _ _ _ _ (l .before .loop .inv) _ (l .loop-test .taken) (b .read-row .ensures) _ _ _ (k .before .row .given .1)
 
 add-rows : tie.Need-add-rows Inv-loop μ-loop
 add-rows c =
     let k = c .before .before .before in
     let b = k .before .before .before in
     let l = b .before in
-    let h : l .before .loop .rows < length (l .before .loop .times) = fill-row _ _ _ _ _ _ _ _ (l .before .loop .inv) _ (l .loop-test .taken) (b .read-row .ensures) _ _ _ (k .before .time .given .1) in
+    let h : l .before .loop .rows < length (l .before .loop .times) = fill-row _ _ _ _ _ _ _ _ (l .before .loop .inv) _ (l .loop-test .taken) (b .read-row .ensures) _ _ _ (k .before .row .given .1) in
     let g = l .before .loop .inv .t-long in
     let r = l .before .before .before .before .good .1 .1 .0 in
     omega (arith, r)
@@ -72,14 +72,14 @@ loop-less c =
     let k = c .before .before .before in
     let b = k .before .before .before in
     let l = b .before in
-    omega (arith, l .loop-test .taken, fill-past _ _ _ _ _ _ _ _ (l .before .loop .inv) _ (l .loop-test .taken) (b .read-row .ensures) _ _ _ (k .before .time .given .1))
+    omega (arith, l .loop-test .taken, fill-past _ _ _ _ _ _ _ _ (l .before .loop .inv) _ (l .loop-test .taken) (b .read-row .ensures) _ _ _ (k .before .row .given .1))
 
 loop-again : tie.Need-loop-again Inv-loop μ-loop
 loop-again c =
     let k = c .before .before .before in
     let b = k .before .before .before in
     let l = b .before in
-    rw (c .before .store-values .ensures) (fill-measured _ _ _ _ _ _ _ _ (l .before .loop .inv) _ (l .loop-test .taken) (b .read-row .ensures) _ _ _ (k .before .time .given .1))
+    rw (c .before .store-values .ensures) (fill-measured _ _ _ _ _ _ _ _ (l .before .loop .inv) _ (l .loop-test .taken) (b .read-row .ensures) _ _ _ (k .before .row .given .1))
 
 enum-known-next : tie.Need-enum-known-next Inv-loop μ-loop
 enum-known-next c = search needs
@@ -130,7 +130,7 @@ store-rows-spec =
     μ-loop
     loop-holds
     read-row-requires
-    enum-known-time
+    enum-known-row
     mul-times
     slice-write-times
     mul-store-values

@@ -53,8 +53,8 @@ returns-3 c = c .refused3 .ensures ∙ chain-drift _ _ _ (not-false (c .before .
 read-requirement-requires : tie.Need-read-requirement-requires
 read-requirement-requires c κs = search needs
 
-enum-known-from : tie.Need-enum-known-from
-enum-known-from c = search needs
+enum-known-place : tie.Need-enum-known-place
+enum-known-place c = search needs
 
 enum-told-3 : tie.Need-enum-told-3
 enum-told-3 c = search needs
@@ -66,16 +66,16 @@ returns-4 : tie.Need-returns-4
 returns-4 c = c .refused4 .ensures ∙ chain-requirement _ _ _ (not-false (c .before .before .before .before .before .before .before .before .before .before .before .before .before .before .before .before .before .args .predicates .ok) (c .before .before .before .before .before .before .before .before .before .before .before .before .before .before .if1 .left)) _ _ (sym (c .before .before .before .before .before .before .before .before .before .before .before .before .read-number .ensures) ∙ c .before .before .before .before .before .before .before .before .before .before .step .given .1) _ _ (sym (c .before .before .before .before .before .before .before .read-number2 .ensures) ∙ c .before .before .before .before .before .drift .given .1) (sym (c .before .before .before .read-requirement .ensures) ∙ c .before .enum-told3 .given .1)
 
 keeps-rows-requires : tie.Need-keeps-rows-requires
-keeps-rows-requires c κs = requirement-is _ _ _ _ _ (sym (c .before .before .before .read-requirement .ensures) ∙ c .before .from .given .1) .between .inside
+keeps-rows-requires c κs = requirement-is _ _ _ _ _ (sym (c .before .before .before .read-requirement .ensures) ∙ c .before .place .given .1) .between .inside
 
 refused-requires-5 : tie.Need-refused-requires-5
 refused-requires-5 c κs = search needs
 
 returns-5 : tie.Need-returns-5
-returns-5 c = c .refused5 .ensures ∙ chain-rows _ _ _ (not-false (c .before .before .before .before .before .before .before .before .before .before .before .before .before .before .before .before .before .before .before .before .args .predicates .ok) (c .before .before .before .before .before .before .before .before .before .before .before .before .before .before .before .before .before .if1 .left)) _ _ (sym (c .before .before .before .before .before .before .before .before .before .before .before .before .before .before .before .read-number .ensures) ∙ c .before .before .before .before .before .before .before .before .before .before .before .before .before .step .given .1) _ _ (sym (c .before .before .before .before .before .before .before .before .before .before .read-number2 .ensures) ∙ c .before .before .before .before .before .before .before .before .drift .given .1) _ _ _ (sym (c .before .before .before .before .before .before .read-requirement .ensures) ∙ c .before .before .before .before .from .given .1) (sym (c .before .before .keeps-rows .ensures) ∙ not-true (c .before .before .keeps-rows .result) (c .before .if2 .taken))
+returns-5 c = c .refused5 .ensures ∙ chain-rows _ _ _ (not-false (c .before .before .before .before .before .before .before .before .before .before .before .before .before .before .before .before .before .before .before .before .args .predicates .ok) (c .before .before .before .before .before .before .before .before .before .before .before .before .before .before .before .before .before .if1 .left)) _ _ (sym (c .before .before .before .before .before .before .before .before .before .before .before .before .before .before .before .read-number .ensures) ∙ c .before .before .before .before .before .before .before .before .before .before .before .before .before .step .given .1) _ _ (sym (c .before .before .before .before .before .before .before .before .before .before .read-number2 .ensures) ∙ c .before .before .before .before .before .before .before .before .drift .given .1) _ _ _ (sym (c .before .before .before .before .before .before .read-requirement .ensures) ∙ c .before .before .before .before .place .given .1) (sym (c .before .before .keeps-rows .ensures) ∙ not-true (c .before .before .keeps-rows .result) (c .before .if2 .taken))
 
 returns-6 : tie.Need-returns-6
-returns-6 c = chain-read _ _ _ (not-false (c .before .before .before .before .before .before .before .before .before .before .before .before .before .before .before .before .before .before .before .before .args .predicates .ok) (c .before .before .before .before .before .before .before .before .before .before .before .before .before .before .before .before .before .if1 .left)) _ _ (sym (c .before .before .before .before .before .before .before .before .before .before .before .before .before .before .before .read-number .ensures) ∙ c .before .before .before .before .before .before .before .before .before .before .before .before .before .step .given .1) _ _ (sym (c .before .before .before .before .before .before .before .before .before .before .read-number2 .ensures) ∙ c .before .before .before .before .before .before .before .before .drift .given .1) _ _ _ (sym (c .before .before .before .before .before .before .read-requirement .ensures) ∙ c .before .before .before .before .from .given .1) (sym (c .before .before .keeps-rows .ensures) ∙ not-false (c .before .before .keeps-rows .result) (c .before .if2 .left))
+returns-6 c = chain-read _ _ _ (not-false (c .before .before .before .before .before .before .before .before .before .before .before .before .before .before .before .before .before .before .before .before .args .predicates .ok) (c .before .before .before .before .before .before .before .before .before .before .before .before .before .before .before .before .before .if1 .left)) _ _ (sym (c .before .before .before .before .before .before .before .before .before .before .before .before .before .before .before .read-number .ensures) ∙ c .before .before .before .before .before .before .before .before .before .before .before .before .before .step .given .1) _ _ (sym (c .before .before .before .before .before .before .before .before .before .before .read-number2 .ensures) ∙ c .before .before .before .before .before .before .before .before .drift .given .1) _ _ _ (sym (c .before .before .before .before .before .before .read-requirement .ensures) ∙ c .before .before .before .before .place .given .1) (sym (c .before .before .keeps-rows .ensures) ∙ not-false (c .before .before .keeps-rows .result) (c .before .if2 .left))
 
 pub read-behind-spec : {M : Type 1} → statement M
 read-behind-spec =
@@ -96,7 +96,7 @@ read-behind-spec =
     refused-requires-3
     returns-3
     read-requirement-requires
-    enum-known-from
+    enum-known-place
     enum-told-3
     refused-requires-4
     returns-4
