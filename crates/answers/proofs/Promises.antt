@@ -4,7 +4,7 @@ use mathlib.Core.Path.{_≡_, refl, sym, ap, subst, _∙_}
 use mathlib.Core.Bool.{true, false}
 use mathlib.Core.Logic.{⊎-elim}
 use mathlib.Core.List.{List, [], _∷_, _++_}
-use Prim.Native.Nat.{ℕ, zero, suc, _≤_}
+use Prim.Native.Nat.{ℕ, _≤_}
 use native.Mathlib.Omega.{arith}
 use lib.Dec.{leb→le, le→leb, eqb→eq}
 use lib.ListN.{length}
@@ -16,11 +16,11 @@ use Rattle.recordings.specs.Shown.{Shown}
 use Rattle.recordings.specs.Verdict.{verdict}
 use Rattle.tables.specs.declared.Table.{Table}
 use Rattle.tables.specs.Tree.{root}
-use Rattle.refusals.specs.First.{Check, first, Exact, AllExact, Refused, Passed, unless-refused}
+use Rattle.refusals.specs.First.{Check, first, Exact, AllExact, Refused, Passed}
 use Rattle.rules.specs.Refusals.{table-checks, sample-checks}
-use Rattle.refusals.proofs.First.{first-passes, first-fails, passed, none-fails, refused, first-is, first-append, first-of-whole, exact-append, exact-parts}
+use Rattle.refusals.proofs.First.{first-passes, first-fails, passed, none-fails, refused, first-is, first-append, first-of-whole, exact-append, exact-parts, unless-none}
 use Rattle.sampling.specs.Sampling.{checks as sampling-checks}
-use Rattle.verdicts.specs.Answer.{verdict-room as room-check, verdict-refusal as refusal, verdict-judged as judged}
+use Rattle.verdicts.specs.Answer.{verdict-room, verdict-refusal, verdict-judged}
 use Rattle.verdicts.proofs.Promises.{exact-checks, verdict-is, holds as verdict-holds, fails as verdict-fails}
 use Rattle.requirements.specs.declared.Requirement.{Requirement}
 use Rattle.requirements.specs.Requirement.{requirement-of}
@@ -35,9 +35,9 @@ use Rattle.sheets.specs.Sheets.{sheet-of}
 use Rattle.sheets.proofs.Exact.{sheet-sound, sheet-complete, sheet-or-blank, sheet-alike}
 use Rattle.sheets.proofs.Behind.{same-requirement, same-behind}
 use Rattle.answers.specs.declared.Outcome.{Outcome}
-use Rattle.answers.specs.Answers.{ROWS, CELLS, measured, sheet-check, requirement-check, rows-check, table-run, requirement-run, figures, answered, refused-by, answer-for, listing, rows-part, requirement-part, requirement-in, listing-in, whole-run, answer-of-text}
+use Rattle.answers.specs.Answers.{ROWS, CELLS, measured, sheet-check, requirement-check, rows-check, table-run, requirement-run, figures, refused-by, answer-for, listing, rows-part, requirement-part, requirement-in, listing-in, whole-run, answer-of-text}
 use Rattle.answers.specs.Printed.{line-of}
-use Rattle.answers.proofs.Figures.{answered-number}
+use Rattle.answers.proofs.Figures.{only-number, answered-number}
 use Rattle.answers.proofs.Wholes.{sheet-refused, sheet-read}
 
 -- ---- the order of refusals
@@ -46,17 +46,23 @@ for-number : (x : Sheet) (l : Listing) (r : List ℕ) → answer-for x l r .numb
 unfolding answer-for
 for-number x l r = answered-number (first (requirement-run x l r)) (measured x l) (requirement-of r .table) (x .step) (x .drift) (filled-of l)
 
+-- the blank sheet has number 1
+blank-number : {x : Sheet} → x ≡ blank → x .number ≡ 0 → ⊥
+blank-number e z = let f : _≡_ {A = ℕ} 1 0 = ap (λ (y : Sheet). y .number) (sym e) ∙ z in omega arith
+
+abbrev run : List ℕ → List Check
+run s = requirement-run (sheet-of s) (listing-in s) (requirement-in s)
+
+-- behind a sheet that is read, the requirement's list decides
+run-number : (s : List ℕ) → sheet-of s .number ≡ 0 → answer-of-text s .number ≡ first (run s)
+run-number s e = ap (λ (o : Outcome). o .number) (sym (sheet-read s e)) ∙ for-number (sheet-of s) (listing-in s) (requirement-in s)
+
 -- the number is the first of the list, over the whole run
 pub order : (s : List ℕ) → answer-of-text s .number ≡ first (whole-run s)
-unfolding answer-of-text
-order s = go (sheet-of s .number) refl
-  where
-    run : List Check
-    run = requirement-run (sheet-of s) (listing-in s) (requirement-in s)
-
-    go : (n : ℕ) → sheet-of s .number ≡ n → unless-refused n (answer-for (sheet-of s) (listing-in s) (requirement-in s)) (refused-by 1) .number ≡ first (sheet-check s ∷ run)
-    go zero e = for-number (sheet-of s) (listing-in s) (requirement-in s) ∙ sym (first-passes (sheet-check s) run (eq-eqb (sheet-of s .number) 0 e))
-    go (suc n) e = sym (first-fails (sheet-check s) run (ne-eqb (sheet-of s .number) 0 (λ z. let f : suc n ≡ 0 = sym e ∙ z in omega arith)))
+order s = ⊎-elim
+    (λ e. run-number s e ∙ sym (first-passes (sheet-check s) (run s) (eq-eqb (sheet-of s .number) 0 e)))
+    (λ b. ap (λ (o : Outcome). o .number) (sym (sheet-refused s (blank-number b))) ∙ sym (first-fails (sheet-check s) (run s) (ne-eqb (sheet-of s .number) 0 (blank-number b))))
+    (sheet-or-blank s)
 
 -- each test is its sentence
 sheet-check-exact : (s : List ℕ) → Exact (sheet-check s)
@@ -73,7 +79,7 @@ requirement-check-exact r = record {
 
 table-run-exact : (c : Card) (t : Table) (step drift : ℕ) → AllExact (table-run c t step drift)
 table-run-exact c t step drift =
-    let rest : List Check = sample-checks c ++ (room-check c t CELLS ∷ sampling-checks c step drift) in
+    let rest : List Check = sample-checks c ++ (verdict-room c t CELLS ∷ sampling-checks c step drift) in
     let p = exact-parts (table-checks c t) rest (exact-checks c t step drift CELLS) in
     exact-append (table-checks c t) (rows-check c ∷ rest) (p .0) (λ q. (record { sound = leb→le (rows c) ROWS; complete = le→leb (rows c) ROWS }, λ _. p .1 q))
 
@@ -109,38 +115,32 @@ module _ (s : List ℕ) where
   table = requirement-of (requirement-in s) .table
 
   pub refused-alone : (answer-of-text s .number ≡ 0 → ⊥) → answer-of-text s ≡ refused-by (answer-of-text s .number)
-  unfolding answer-of-text answer-for
-  refused-alone h = go (sheet .number) (first (requirement-run sheet (listing-in s) (requirement-in s))) h
-    where
-      go : (n m : ℕ) → (unless-refused n (answered m recording table (sheet .step) (sheet .drift) (filled-of (listing-in s))) (refused-by 1) .number ≡ 0 → ⊥)
-          → unless-refused n (answered m recording table (sheet .step) (sheet .drift) (filled-of (listing-in s))) (refused-by 1) ≡ refused-by (unless-refused n (answered m recording table (sheet .step) (sheet .drift) (filled-of (listing-in s))) (refused-by 1) .number)
-      go zero zero h = absurd (h refl)
-      go zero (suc m) h = refl
-      go (suc n) m h = refl
+  unfolding answer-for
+  refused-alone h = ⊎-elim
+      (λ e. sym (sheet-read s e) ∙ (sym (only-number (first (run s)) recording table (sheet .step) (sheet .drift) (filled-of (listing-in s)) (λ z. h (run-number s e ∙ z))) ∙ ap refused-by (sym (run-number s e))))
+      (λ b. let r = sheet-refused s (blank-number b) in sym r ∙ ap (λ (o : Outcome). refused-by (o .number)) r)
+      (sheet-or-blank s)
 
   pub figures-are : answer-of-text s .number ≡ 0 → answer-of-text s ≡ figures recording table (sheet .step) (sheet .drift) (filled-of (listing-in s))
-  unfolding answer-of-text answer-for
-  figures-are h = go (sheet .number) (first (requirement-run sheet (listing-in s) (requirement-in s))) h
-    where
-      go : (n m : ℕ) → unless-refused n (answered m recording table (sheet .step) (sheet .drift) (filled-of (listing-in s))) (refused-by 1) .number ≡ 0
-          → unless-refused n (answered m recording table (sheet .step) (sheet .drift) (filled-of (listing-in s))) (refused-by 1) ≡ figures recording table (sheet .step) (sheet .drift) (filled-of (listing-in s))
-      go zero zero h = refl
-      go zero (suc m) h = absurd (omega arith)
-      go (suc n) m h = absurd (omega arith)
+  unfolding answer-for
+  figures-are h = ⊎-elim
+      (λ e. sym (sheet-read s e) ∙ unless-none _ _ (sym (run-number s e) ∙ h))
+      (λ b. absurd (let y : _≡_ {A = ℕ} 1 0 = ap (λ (o : Outcome). o .number) (sheet-refused s (blank-number b)) ∙ h in omega arith))
+      (sheet-or-blank s)
 
   -- ---- demand 3, from text to verdict
 
   -- number 0 of the whole run is number 0 of the verdict
-  verdict-accepts : answer-of-text s .number ≡ 0 → judged recording table (sheet .step) (sheet .drift) CELLS .number ≡ 0
-  unfolding judged refusal
+  verdict-accepts : answer-of-text s .number ≡ 0 → verdict-judged recording table (sheet .step) (sheet .drift) CELLS .number ≡ 0
+  unfolding verdict-judged verdict-refusal
   verdict-accepts e =
-      let rest : List Check = sample-checks recording ++ (room-check recording table CELLS ∷ sampling-checks recording (sheet .step) (sheet .drift)) in
+      let rest : List Check = sample-checks recording ++ (verdict-room recording table CELLS ∷ sampling-checks recording (sheet .step) (sheet .drift)) in
       let a = first-of-whole (sheet-check s ∷ requirement-check (requirement-in s) ∷ []) (table-checks recording table ++ (rows-check recording ∷ rest)) tt (sym (order s) ∙ e) in
       let b = first-of-whole (table-checks recording table) (rows-check recording ∷ rest) tt (a .1) in
       let c = first-of-whole (rows-check recording ∷ []) rest tt (b .1) in
       first-append (table-checks recording table) rest tt (b .0) ∙ c .1
 
-  verdict-of-answer : answer-of-text s .number ≡ 0 → answer-of-text s .verdict ≡ judged recording table (sheet .step) (sheet .drift) CELLS .verdict
+  verdict-of-answer : answer-of-text s .number ≡ 0 → answer-of-text s .verdict ≡ verdict-judged recording table (sheet .step) (sheet .drift) CELLS .verdict
   verdict-of-answer e = ap (λ (o : Outcome). o .verdict) (figures-are e) ∙ sym (verdict-is recording table (sheet .step) (sheet .drift) CELLS (verdict-accepts e))
 
   pub holds : answer-of-text s .number ≡ 0 → answer-of-text s .verdict ≡ Holds → Shown recording (sheet .step) (sheet .drift) true (root table)
@@ -164,8 +164,7 @@ module _ (a b : List ℕ) (short-a : length a ≤ limit) (short-b : length b ≤
   refused-same : sheet-of a ≡ blank → answer-of-text a ≡ answer-of-text b
   refused-same e =
       let f : sheet-of b ≡ blank = sym (sheet-alike a b short-a short-b h) ∙ e in
-      sym (sheet-refused a (λ z. let y : _≡_ {A = ℕ} 1 0 = ap (λ (x : Sheet). x .number) (sym e) ∙ z in omega arith))
-      ∙ sheet-refused b (λ z. let y : _≡_ {A = ℕ} 1 0 = ap (λ (x : Sheet). x .number) (sym f) ∙ z in omega arith)
+      sym (sheet-refused a (blank-number e)) ∙ sheet-refused b (blank-number f)
 
   -- get the same answer, and print the same bytes
   pub same-answer : answer-of-text a ≡ answer-of-text b

@@ -21,7 +21,7 @@ use Rattle.requirements.specs.declared.Requirement.{Requirement}
 use Rattle.requirements.specs.Requirement.{requirement-of, accepted}
 use Rattle.requirements.proofs.Answers.{answer-complete}
 use Rattle.requirements.proofs.Says.{root-says}
-use Rattle.row_lines.specs.Form.{lines, Sample, Rows}
+use Rattle.row_lines.specs.Form.{Sample, Rows}
 use Rattle.row_lines.specs.Reading.{channels-in-range, Listing, listed}
 use Rattle.row_lines.proofs.Exact.{rows-exact}
 use Rattle.sheet_rows.specs.Answer.{times-in, values-in}
@@ -31,7 +31,7 @@ use Rattle.sheets.specs.Sheets.{sheet-of}
 use Rattle.sheets.proofs.Exact.{sheet-complete}
 use Rattle.sheets.proofs.Behind.{requirement-bytes, rows-behind}
 use Rattle.answers.specs.declared.Outcome.{Outcome}
-use Rattle.answers.specs.Answers.{measured, listing, rows-part, requirement-part, table-run, figures, answered, table-answer, answer-for, requirement-in, listing-in, answer-of-text}
+use Rattle.answers.specs.Answers.{measured, listing, rows-part, requirement-part, table-run, figures, answered, table-answer, requirement-in, listing-in, answer-of-text}
 use Rattle.answers.proofs.Figures.{answered-number}
 use Rattle.answers.proofs.Wholes.{sheet-read, requirement-read}
 use Rattle.answers.proofs.Promises.{number-none, holds, fails}

@@ -19,7 +19,7 @@ use Rattle.tables.specs.declared.Table.{Table}
 use Rattle.predicates.specs.Predicates.{channels-obey, predicates-obey}
 use Rattle.refusals.specs.First.{first, unless-refused}
 use Rattle.rules.specs.Refusals.{checks}
-use Rattle.verdicts.specs.Answer.{verdict-refusal as refusal}
+use Rattle.verdicts.specs.Answer.{verdict-refusal}
 use Rattle.row_lines.specs.Reading.{limit, channels-in-range, Listing, listed, broken, rows-of}
 use Rattle.row_lines.proofs.Exact.{rows-exact}
 use Rattle.sheet_rows.specs.declared.Answer.{Answer}
@@ -149,7 +149,7 @@ module _ (s : List ℕ) (x : Sheet) (p : Checked s (x .channels)) where
       values-taken = rw (g, z) (front-taken (values-of (listing x s)) values₀ (a .rows * x .channels) (ap (λ (n : ℕ). n * x .channels) (read .counted) ∙ sym (values-long (x .channels) s)))
 
       pub rows-judged : (t : Table)
-          → outcome-by (refusal (card (x .predicates) (x .channels) (take (a .rows) times) (take (a .rows * x .channels) values)) t (x .step) (x .drift) CELLS) (card (x .predicates) (x .channels) (take (a .rows) times) (take (a .rows * x .channels) values)) t (x .step) (x .drift) (a .filled)
+          → outcome-by (verdict-refusal (card (x .predicates) (x .channels) (take (a .rows) times) (take (a .rows * x .channels) values)) t (x .step) (x .drift) CELLS) (card (x .predicates) (x .channels) (take (a .rows) times) (take (a .rows * x .channels) values)) t (x .step) (x .drift) (a .filled)
           ≡ table-answer x (listing x s) t
       rows-judged t =
           let c : Card = measured x (listing x s) in

@@ -14,7 +14,7 @@ use Rattle.rules.specs.Recording.{lengths-obey}
 use Rattle.rules.specs.Refusals.{table-checks, sample-checks, checks}
 use Rattle.refusals.proofs.First.{first-passes}
 use Rattle.sampling.specs.Sampling.{checks as sampling-checks}
-use Rattle.verdicts.specs.Answer.{verdict-room as room-check, verdict-refusal as refusal}
+use Rattle.verdicts.specs.Answer.{verdict-room, verdict-refusal}
 use Rattle.answers.specs.Answers.{ROWS, CELLS, rows-check, table-run}
 
 -- a test that passes, among others
@@ -31,9 +31,9 @@ early-some false q h = omega arith
 
 module _ (c : Card) (t : Table) (step drift : ℕ) where
   -- measured rows that there is room for are judged as any recording
-  pub run-fits : rows c ≤ ROWS → first (table-run c t step drift) ≡ refusal c t step drift CELLS
-  unfolding refusal
-  run-fits h = first-without (table-checks c t) (rows-check c) (sample-checks c ++ (room-check c t CELLS ∷ sampling-checks c step drift)) (le-leb (rows c) ROWS h)
+  pub run-fits : rows c ≤ ROWS → first (table-run c t step drift) ≡ verdict-refusal c t step drift CELLS
+  unfolding verdict-refusal
+  run-fits h = first-without (table-checks c t) (rows-check c) (sample-checks c ++ (verdict-room c t CELLS ∷ sampling-checks c step drift)) (le-leb (rows c) ROWS h)
 
   -- without the rows, the table, the channels and the predicates are judged as with them; and no sample is 5 too
   pub run-wide : channels-obey (c .predicates) (c .channels) ≡ false → first (checks (card (c .predicates) (c .channels) [] []) t) ≡ first (table-run c t step drift)

@@ -2,13 +2,13 @@
 -- Assumes nothing.
 use mathlib.Core.Path.{_≡_, refl, sym, ap}
 use mathlib.Core.List.{List, _++_}
-use Prim.Native.Nat.{ℕ, zero, suc, _+_, _-_}
+use Prim.Native.Nat.{ℕ, suc, _+_, _-_}
 use native.Mathlib.Omega.{arith}
 use lib.ListN.{length, drop, length-drop}
 use borrow.Author.Tests.{eq-eqb, ne-eqb}
 use Rattle.tables.specs.declared.Table.{Table}
-use Rattle.refusals.specs.First.{first, unless-refused}
-use Rattle.refusals.proofs.First.{first-passes}
+use Rattle.refusals.specs.First.{first}
+use Rattle.refusals.proofs.First.{first-passes, unless-none, unless-some}
 use Rattle.requirements.specs.Requirement.{requirement-of}
 use Rattle.text.specs.Bytes.{bytes}
 use Rattle.text.proofs.Places.{length-behind}
@@ -40,15 +40,11 @@ module _ (x : Sheet) (l : Listing) (r : List ℕ) where
 
 pub sheet-refused : (s : List ℕ) → (sheet-of s .number ≡ 0 → ⊥) → refused-by 1 ≡ answer-of-text s
 unfolding answer-of-text
-sheet-refused s h = go (sheet-of s .number) h
-  where
-    go : (n : ℕ) → (n ≡ 0 → ⊥) → refused-by 1 ≡ unless-refused n (answer-for (sheet-of s) (listing-in s) (requirement-in s)) (refused-by 1)
-    go zero h = absurd (h refl)
-    go (suc n) h = refl
+sheet-refused s h = sym (unless-some _ _ _ h)
 
 pub sheet-read : (s : List ℕ) → sheet-of s .number ≡ 0 → answer-for (sheet-of s) (listing-in s) (requirement-in s) ≡ answer-of-text s
 unfolding answer-of-text
-sheet-read s h = rw h refl
+sheet-read s h = sym (unless-none _ _ h)
 
 -- ---- its places and rows
 

@@ -3,7 +3,7 @@
 use mathlib.Core.List.{List, _∷_, _++_}
 use mathlib.Core.Path.{_≡_}
 use mathlib.Core.Bool.{true, false}
-use Prim.Native.Nat.{ℕ, zero, suc, _-_, _≤_}
+use Prim.Native.Nat.{ℕ, _-_, _≤_}
 use lib.Dec.{leb, eqb}
 use lib.ListN.{length, take, drop}
 use lib.IntN.{pos}
@@ -16,7 +16,7 @@ use Rattle.tables.specs.Tree.{root}
 use Rattle.refusals.specs.First.{Check, first, unless-refused}
 use Rattle.rules.specs.Refusals.{table-checks, sample-checks}
 use Rattle.sampling.specs.Sampling.{checks as sampling-checks}
-use Rattle.verdicts.specs.Answer.{verdict-room as room-check}
+use Rattle.verdicts.specs.Answer.{verdict-room}
 use Rattle.grammar.specs.Tree.{Tree}
 use Rattle.grammar.specs.Grammar.{Requires}
 use Rattle.requirements.specs.Requirement.{requirement-of}
@@ -65,7 +65,7 @@ rows-check c = record { number = 5; sentence = rows c ≤ ROWS; passes = leb (ro
 
 -- refusals 3 to 11 of a table, in the order in which they count
 abbrev pub table-run : Card → Table → ℕ → ℕ → List Check
-table-run c t step drift = table-checks c t ++ (rows-check c ∷ (sample-checks c ++ (room-check c t CELLS ∷ sampling-checks c step drift)))
+table-run c t step drift = table-checks c t ++ (rows-check c ∷ (sample-checks c ++ (verdict-room c t CELLS ∷ sampling-checks c step drift)))
 
 -- refusals 2 to 11 of a requirement's bytes
 abbrev pub requirement-run : Sheet → Listing → List ℕ → List Check
@@ -88,8 +88,7 @@ figures c t step drift filled = record {
 }
 
 abbrev pub answered : ℕ → Card → Table → ℕ → ℕ → ℕ → Outcome
-answered zero c t step drift filled = figures c t step drift filled
-answered (suc n) c t step drift filled = refused-by (suc n)
+answered n c t step drift filled = unless-refused n (figures c t step drift filled) (refused-by n)
 
 -- the answer for a table of a sheet, and for a requirement's bytes: functions of the head, the measured rows and the count of filled ones
 abbrev pub table-answer : Sheet → Listing → Table → Outcome

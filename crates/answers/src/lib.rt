@@ -3,7 +3,7 @@ pub mod printed;
 
 ghost use mathlib.Core.Path.{_≡_};
 ghost use Rattle.margins.specs.Answers.{margin-outcome};
-ghost use Rattle.verdicts.specs.Answer.{verdict-outcome as outcome, verdict-refusal as refusal};
+ghost use Rattle.verdicts.specs.Answer.{verdict-outcome, verdict-refusal};
 ghost use Rattle.answers.specs.Answers.{CELLS, listing, rows-part, requirement-part, refused-by, answered, table-answer, answer-for, answer-of-text, Checked, Placed};
 ghost use Rattle.recordings.specs.Card.{lent};
 use recordings::Predicate;
@@ -38,7 +38,7 @@ fn refused(number: u64) -> Outcome
 
 // The parts of an answer of the verdict, and of the margin, in document 01's numbers and values.
 fn number_of(answer: verdicts::Answer) -> u64
-    ensures { λ r. ⌜ r ≡ outcome answer .number ⌝ }
+    ensures { λ r. ⌜ r ≡ verdict-outcome answer .number ⌝ }
 {
     match answer {
         verdicts::Answer::Judged(_, _, _) => 0,
@@ -47,7 +47,7 @@ fn number_of(answer: verdicts::Answer) -> u64
 }
 
 fn verdict_of(answer: verdicts::Answer) -> Verdict
-    ensures { λ r. ⌜ r ≡ outcome answer .verdict ⌝ }
+    ensures { λ r. ⌜ r ≡ verdict-outcome answer .verdict ⌝ }
 {
     match answer {
         verdicts::Answer::Judged(verdict, _, _) => verdict,
@@ -56,7 +56,7 @@ fn verdict_of(answer: verdicts::Answer) -> Verdict
 }
 
 fn hold_of(answer: verdicts::Answer) -> i64
-    ensures { λ r. ⌜ r ≡ outcome answer .hold ⌝ }
+    ensures { λ r. ⌜ r ≡ verdict-outcome answer .hold ⌝ }
 {
     match answer {
         verdicts::Answer::Judged(_, hold, _) => hold,
@@ -65,7 +65,7 @@ fn hold_of(answer: verdicts::Answer) -> i64
 }
 
 fn fail_of(answer: verdicts::Answer) -> i64
-    ensures { λ r. ⌜ r ≡ outcome answer .fail ⌝ }
+    ensures { λ r. ⌜ r ≡ verdict-outcome answer .fail ⌝ }
 {
     match answer {
         verdicts::Answer::Judged(_, _, fail) => fail,
@@ -93,7 +93,7 @@ fn judge(
     drift: u64,
     filled: usize,
 ) -> Outcome
-    ensures { λ r. ⌜ r ≡ answered (refusal (lent predicates channels (times .entry) (values .entry)) table step drift CELLS) (lent predicates channels (times .entry) (values .entry)) table step drift filled ⌝ }
+    ensures { λ r. ⌜ r ≡ answered (verdict-refusal (lent predicates channels (times .entry) (values .entry)) table step drift CELLS) (lent predicates channels (times .entry) (values .entry)) table step drift filled ⌝ }
 {
     let mut work = [0i64; 8192];
     let judged = verdicts::verdict(

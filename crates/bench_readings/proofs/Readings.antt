@@ -12,8 +12,9 @@ use Rattle.predicates.specs.Predicates.{names-set, all-named, requirement-obeys
 use Rattle.refusals.specs.First.{first}
 use Rattle.rules.specs.Recording.{lengths-obey, all-rising, all-early, times-obey, values-obey}
 use Rattle.sampling.specs.Sampling.{step-obeys, times-close, near, values-near}
+use Rattle.distances.specs.Answers.{distance-judged}
 use Rattle.margins.specs.Answers.{margin-judged}
-use Rattle.verdicts.specs.Answer.{verdict-refusal as refusal, verdict-judged as judged}
+use Rattle.verdicts.specs.Answer.{verdict-refusal, verdict-judged}
 use Rattle.text.specs.Mark.{prefix-of, mark-at}
 use Rattle.text.specs.Number.{digits, value, number-at, field-at, signed-at, signed-field-at}
 use Rattle.grammar.specs.Tree.{size}
@@ -30,7 +31,7 @@ use Rattle.answers.specs.Printed.{line-of}
 use Rattle.bench_readings.specs.Readings.{Answer, answer, Reading, readings}
 
 table : map (λ (r : Reading). map answer (r .asked)) readings ≡ map (λ (r : Reading). r .answered) readings
-unfolding robustness margin-judged judged refusal first tree trees requirement-obeys table-obeys nodes-obey node-obeys all-named names-set channels-obey predicates-obey predicate-obeys value-obeys times-obey all-rising all-early lengths-obey values-obey step-obeys times-close values-near near prefix-of mark-at digits value number-at field-at size window-at timed-at timed-among leaf-at more-turns bind-by unary-by unary-at requirement-tree nodes-of signed-at signed-field-at value-at values-from rest-at row-at rows-from times-in values-in end-at line-at stored-in with-line lines-from lines-at number-line-at until-feed requirement-at behind-predicates sheet-of decimal-digits answer-for answer-of-text line-of
+unfolding robustness distance-judged margin-judged verdict-judged verdict-refusal first tree trees requirement-obeys table-obeys nodes-obey node-obeys all-named names-set channels-obey predicates-obey predicate-obeys value-obeys times-obey all-rising all-early lengths-obey values-obey step-obeys times-close values-near near prefix-of mark-at digits value number-at field-at size window-at timed-at timed-among leaf-at more-turns bind-by unary-by unary-at requirement-tree nodes-of signed-at signed-field-at value-at values-from rest-at row-at rows-from times-in values-in end-at line-at stored-in with-line lines-from lines-at number-line-at until-feed requirement-at behind-predicates sheet-of decimal-digits answer-for answer-of-text line-of
 table = refl
 
 -- what entry k asks is answered as entry k says

@@ -8,9 +8,10 @@ use Rattle.recordings.specs.declared.Range.the-variants.{AtLeast, AtMost, Betwe
 use Rattle.recordings.specs.declared.Verdict.{Verdict}
 use Rattle.recordings.specs.declared.Verdict.the-variants.{Holds, NotShown}
 use Rattle.recordings.specs.Card.{Card, sixteen}
-use Rattle.recordings.specs.Distance.{TOP, distance}
+use Rattle.recordings.specs.Distance.{TOP}
 use Rattle.recordings.specs.Examples.{example}
 use Rattle.tables.specs.declared.Table.{Table}
+use Rattle.distances.specs.Answers.{DistanceOutcome, distance-judged}
 use Rattle.margins.specs.Answers.{MarginOutcome, margin-judged}
 use Rattle.verdicts.specs.Answer.{VerdictOutcome, verdict-judged}
 use Rattle.text.specs.Bytes.{bytes}
@@ -32,7 +33,7 @@ bench = record {
 abbrev pub table-of : String → Table
 table-of text = requirement-of (bytes text) .table
 
--- what the margin function answers on the bench recording; a value's distance from "between 3 and 8"; what the verdict function answers, at a drift, on the
+-- what the margin function answers on the bench recording; what the distance function answers of a value and "between 3 and 8"; what the verdict function answers, at a drift, on the
 -- program's recording, whose step is 1; and the line that is printed for a whole text
 pub data Question : Type 0 where
   margin-of : String → Question
@@ -42,19 +43,22 @@ pub data Question : Type 0 where
 
 pub data Answer : Type 0 where
   margin : MarginOutcome → Answer
-  number : ℤ → Answer
+  distance : DistanceOutcome → Answer
   verdict : VerdictOutcome → Answer
   line : List ℕ → Answer
 
 -- with as many cells to work in as these tables need
 abbrev pub answer : Question → Answer
 answer (margin-of text) = margin (margin-judged bench (table-of text) 12)
-answer (distance-of v) = number (distance TOP (Between (pos 3) (pos 8)) v)
+answer (distance-of v) = distance (distance-judged (record { channel = 0; range = Between (pos 3) (pos 8) }) v)
 answer (verdict-of drift text) = verdict (verdict-judged example (table-of text) 1 drift 20)
 answer (line-for text) = line (line-of (answer-of-text text))
 
 abbrev pub accepted-margin : ℤ → Answer
 accepted-margin m = margin (record { number = 0; margin = m })
+
+abbrev pub accepted-distance : ℤ → Answer
+accepted-distance d = distance (record { number = 0; distance = d })
 
 abbrev pub accepted-verdict : Verdict → ℤ → ℤ → Answer
 accepted-verdict v h f = verdict (record { number = 0; verdict = v; hold = h; fail = f })
@@ -76,7 +80,7 @@ readings =
     ∷ record { asked = margin-of "!p0" ∷ []; answered = accepted-margin (negℤ (pos 3)) ∷ [] }
     ∷ record {
       asked = distance-of (pos 2) ∷ distance-of (pos 3) ∷ distance-of (pos 8) ∷ distance-of (pos 9) ∷ [];
-      answered = number (negℤ (pos 1)) ∷ number (pos 1) ∷ number (pos 1) ∷ number (negℤ (pos 1)) ∷ [];
+      answered = accepted-distance (negℤ (pos 1)) ∷ accepted-distance (pos 1) ∷ accepted-distance (pos 1) ∷ accepted-distance (negℤ (pos 1)) ∷ [];
     }
     ∷ record { asked = verdict-of 4 "G[0,2]p0" ∷ []; answered = accepted-verdict Holds (pos 5) (negℤ (pos 7)) ∷ [] }
     ∷ record { asked = verdict-of 5 "G[0,2]p0" ∷ []; answered = accepted-verdict NotShown (pos 5) (negℤ (pos 7)) ∷ [] }

@@ -74,7 +74,7 @@ fn value_at(values: &[i64], at: usize) -> i64
     0
 }
 
-// The table of five numbers for each node: 64 nodes' numbers, copied over zeros.
+// The table of five numbers for each node, copied over zeros.
 pub fn table_from(numbers: &[u64], count: u64) -> Table
     ensures { λ r. ⌜ r ≡ table-from (now (numbers .entry)) count ⌝ }
 {
@@ -84,11 +84,11 @@ pub fn table_from(numbers: &[u64], count: u64) -> Table
 }
 
 // The five numbers of each of a table's nodes, kept as the requirement reader keeps them.
-pub fn cells_of(nodes: [Node; 64]) -> [u64; CELLS]
+pub fn cells_of(nodes: [Node; tables::NODES]) -> [u64; CELLS]
     ensures { λ r. ⌜ r ≡ cells-of nodes ⌝ }
 {
     let mut cells = [0u64; CELLS];
-    for k in 0..64usize {
+    for k in 0..tables::NODES {
         let node = nodes[k];
         building::push(0, k, node, &mut cells);
     }

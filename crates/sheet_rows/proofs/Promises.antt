@@ -13,7 +13,7 @@ use borrow.Author.Tests.{leb-true, le-leb}
 use Rattle.numbers.proofs.Parts.{holds}
 use Rattle.text.proofs.Tests.{by-test, both, false-true}
 use Rattle.refusals.specs.First.{AllExact, check-at, Refused, unless-refused}
-use Rattle.refusals.proofs.First.{refused, first-is, passed, none-fails}
+use Rattle.refusals.proofs.First.{refused, first-is, passed, none-fails, unless-some}
 use Rattle.row_lines.specs.Form.{lines, Sample, Rows}
 use Rattle.row_lines.specs.Reading.{limit, channels-in-range, Listing, listed, broken, is-broken, rows-of}
 use Rattle.row_lines.proofs.Exact.{rows-exact, unbroken-rows, rows-unbroken}
@@ -24,11 +24,6 @@ use Rattle.sheet_rows.proofs.Numbers.{channels-are, are-channels, room-
 told : {b : Bool} → T b → b ≡ true
 told {b = true} t = refl
 told {b = false} t = absurd t
-
--- what is handed back under a refusal
-kept : {A : Type 0} (n : ℕ) (a b : A) → (n ≡ 0 → ⊥) → unless-refused n a b ≡ b
-kept zero a b h = absurd (h refl)
-kept (suc n) a b h = refl
 
 -- no rows are broken where they are read
 unread : (a b : Bool) → not (a && b) ≡ true → a ≡ true → b ≡ false
@@ -107,7 +102,7 @@ module _ (s : List ℕ) (channels times values : ℕ) where
 
   -- under a refusal no row is answered
   pub refused-rows : (answer-of s channels times values .number ≡ 0 → ⊥) → answer-of s channels times values ≡ no-rows (refusal s channels times values)
-  refused-rows h = kept (refusal s channels times values) _ _ (λ z. h (number-is ∙ z))
+  refused-rows h = unless-some (refusal s channels times values) _ _ (λ z. h (number-is ∙ z))
 
   -- else the counts of measured and of filled rows
   pub rows-answered : (r : Readable s channels times values) → answer-of s channels times values ≡ record { number = 0; rows = length (r .samples); filled = r .filled }
@@ -119,10 +114,10 @@ module _ (s : List ℕ) (channels : ℕ) (ts : List ℕ) (vs : List ℤ) where
 
   -- nothing lent changes under a refusal
   pub refused-times : (number ≡ 0 → ⊥) → unless-refused number (in-front (times-of (rows-of channels s)) ts) ts ≡ ts
-  refused-times h = kept number _ _ h
+  refused-times h = unless-some number _ _ h
 
   pub refused-values : (number ≡ 0 → ⊥) → unless-refused number (in-front (values-of (rows-of channels s)) vs) vs ≡ vs
-  refused-values h = kept number _ _ h
+  refused-values h = unless-some number _ _ h
 
   -- else times and values stand in sheet order, and places beyond the measured rows keep their contents
   pub times-stored : (r : Readable s channels (length ts) (length vs)) → unless-refused number (in-front (times-of (rows-of channels s)) ts) ts ≡ in-front (times-in (r .samples)) ts

@@ -3,7 +3,7 @@
 -- Assumes nothing.
 use mathlib.Core.Path.{_≡_, refl, ap, _∙_}
 use mathlib.Core.List.{List, []}
-use Prim.Native.Nat.{ℕ, zero, suc, _≤_, _<_}
+use Prim.Native.Nat.{ℕ, zero, suc, _<_}
 use native.Mathlib.Omega.{arith}
 use native.Mathlib.Decide.{ℕ-discrete}
 use lib.ListN.{length, getD, length-append, List·getD-append}
@@ -47,13 +47,3 @@ formula-same (unary d e) n k l r h = rw (h (n .left) l)
 pub tree-node : (ns : List Node) (k : ℕ) → NodeRules (node-at ns k) k → tree ns k ≡ formula (operator (node-at ns k .kind)) (node-at ns k) (tree ns)
 tree-node ns k r =
     in-list ns k ∙ formula-same (operator (node-at ns k .kind)) (node-at ns k) k (r .left) (r .right) (λ c i. trees-at ns k c i)
-
--- two tables that agree up to node k give it the same requirement
-trees-same : (ns ms : List Node) (k : ℕ) → ((j : ℕ) → j < k → node-at ns j ≡ node-at ms j) → trees ns k ≡ trees ms k
-unfolding trees
-trees-same ns ms zero h = refl
-trees-same ns ms (suc k) h = rw (trees-same ns ms k (λ j i. h j (omega arith)), h k (omega arith))
-
-pub tree-same : (ns ms : List Node) (k : ℕ) → ((j : ℕ) → j ≤ k → node-at ns j ≡ node-at ms j) → tree ns k ≡ tree ms k
-unfolding tree
-tree-same ns ms k h = ap (λ (l : List (Formula ℕ)). getD l k truth) (trees-same ns ms (suc k) (λ j i. h j (omega arith)))

@@ -5,7 +5,7 @@ use lib.ListN.{length}
 use Rattle.numbers.proofs.Bits.{back-ok}
 use Rattle.recordings.specs.Card.{Card, card}
 use Rattle.margins.specs.Answers.{MarginOutcome, margin-outcome, margin-judged}
-use Rattle.verdicts.specs.Answer.{VerdictOutcome as Outcome, verdict-outcome as outcome, verdict-judged as judged}
+use Rattle.verdicts.specs.Answer.{VerdictOutcome, verdict-outcome, verdict-judged}
 use Rattle.answers.specs.Answers.{CELLS}
 use Rattle.answers.proofs.Figures.{judge-refused, judge-accepted}
 use borrow.Author.Needs.{needs}
@@ -40,8 +40,8 @@ refused-requires c κs = search needs
 returns : tie.Need-returns
 returns c =
     let s = c .before .before .before .before .before .before .before in
-    let v : outcome (c .before .before .before .before .verdict .result) ≡ judged (card-of s) (s .args .table) (s .args .step) (s .args .drift) CELLS = c .before .before .before .before .verdict .ensures .0 in
-    c .refused .ensures ∙ judge-refused (card-of s) (s .args .table) (s .args .step) (s .args .drift) (s .args .filled) _ (c .before .before .number-of .ensures ∙ ap (λ (o : Outcome). o .number) v) (c .before .if1 .taken)
+    let v : verdict-outcome (c .before .before .before .before .verdict .result) ≡ verdict-judged (card-of s) (s .args .table) (s .args .step) (s .args .drift) CELLS = c .before .before .before .before .verdict .ensures .0 in
+    c .refused .ensures ∙ judge-refused (card-of s) (s .args .table) (s .args .step) (s .args .drift) (s .args .filled) _ (c .before .before .number-of .ensures ∙ ap (λ (o : VerdictOutcome). o .number) v) (c .before .if1 .taken)
 
 slice-aggregate-margin : tie.Need-slice-aggregate-margin
 slice-aggregate-margin c = search needs
@@ -64,16 +64,16 @@ verdict-of-requires c κs = search needs
 returns-2 : tie.Need-returns-2
 returns-2 c =
     let s = c .before .before .before .before .before .before .before .before .before .before .before .before .before in
-    let v : outcome (c .before .before .before .before .before .before .before .before .before .before .verdict .result) ≡ judged (card-of s) (s .args .table) (s .args .step) (s .args .drift) CELLS = c .before .before .before .before .before .before .before .before .before .before .verdict .ensures .0 in
+    let v : verdict-outcome (c .before .before .before .before .before .before .before .before .before .before .verdict .result) ≡ verdict-judged (card-of s) (s .args .table) (s .args .step) (s .args .drift) CELLS = c .before .before .before .before .before .before .before .before .before .before .verdict .ensures .0 in
     let l : length (c .before .before .before .before .before .before .before .before .before .before .verdict .last .1 .1 .1 .1 .1 .1 .1 .0) ≡ CELLS = search needs in
     let m : margin-outcome (c .before .before .before .before .before .margin .result) ≡ margin-judged (card-of s) (s .args .table) CELLS = c .before .before .before .before .before .margin .ensures .0 ∙ ap (margin-judged (card-of s) (s .args .table)) l in
     judge-accepted (card-of s) (s .args .table) (s .args .step) (s .args .drift) (s .args .filled)
-    (sym (c .before .before .before .before .before .before .before .before .number-of .ensures ∙ ap (λ (o : Outcome). o .number) v) ∙ c .before .before .before .before .before .before .before .if1 .left)
+    (sym (c .before .before .before .before .before .before .before .before .number-of .ensures ∙ ap (λ (o : VerdictOutcome). o .number) v) ∙ c .before .before .before .before .before .before .before .if1 .left)
     _ _ _ _
     (back-ok _ (c .before .before .before .margin-of .ok) ∙ (c .before .before .before .margin-of .ensures ∙ ap (λ (o : MarginOutcome). o .margin) m))
-    (back-ok _ (c .before .before .hold-of .ok) ∙ (c .before .before .hold-of .ensures ∙ ap (λ (o : Outcome). o .hold) v))
-    (back-ok _ (c .before .fail-of .ok) ∙ (c .before .fail-of .ensures ∙ ap (λ (o : Outcome). o .fail) v))
-    (c .verdict-of .ensures ∙ ap (λ (o : Outcome). o .verdict) v)
+    (back-ok _ (c .before .before .hold-of .ok) ∙ (c .before .before .hold-of .ensures ∙ ap (λ (o : VerdictOutcome). o .hold) v))
+    (back-ok _ (c .before .fail-of .ok) ∙ (c .before .fail-of .ensures ∙ ap (λ (o : VerdictOutcome). o .fail) v))
+    (c .verdict-of .ensures ∙ ap (λ (o : VerdictOutcome). o .verdict) v)
 
 pub judge-spec : {M : Type 1} → statement M
 judge-spec =

@@ -1,6 +1,5 @@
 -- A number below ten is its digit; a longer one is its tenth part, which is smaller, and its last digit.
 -- Assumes nothing.
-use mathlib.Core.Path.{_≡_}
 use mathlib.Core.List.{[], _∷_}
 use borrow.Author.Needs.{needs}
 use Rattle.printing.specs.Decimal.{digit-of, decimal}
