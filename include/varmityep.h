@@ -122,6 +122,15 @@ uint64_t varmityep_rows(const uint8_t *text, size_t text_len, uint64_t channels,
                         uint64_t *counts, size_t counts_len);
 
 /*
+ * The distance of a value from one predicate: refusal 0, 4 (channel above 7, or an end broken) or 7
+ * (value). range is a number of a predicate's range; an end that it does not have is not looked at,
+ * and unset counts as free. Writes the distance at result[0].
+ */
+uint64_t varmityep_distance(uint64_t range, uint64_t channel, int64_t lo, int64_t hi,
+                            int64_t value,
+                            int64_t *result, size_t result_len);
+
+/*
  * The margin of a recording: refusal 0 or 3 to 8. The recording has times_len rows; values has
  * times_len x channels. work needs count x times_len cells: cell k x times_len + i ends as node k's
  * margin at sample i; later cells keep their contents. Writes the margin at result[0].

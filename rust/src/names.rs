@@ -37,6 +37,16 @@ extern "C" {
         counts_len: usize,
     ) -> u64;
 
+    fn varmityep_distance(
+        range: u64,
+        channel: u64,
+        lo: i64,
+        hi: i64,
+        value: i64,
+        result: *mut i64,
+        result_len: usize,
+    ) -> u64;
+
     fn varmityep_margin(
         nodes: *const u64,
         nodes_len: usize,
@@ -133,6 +143,15 @@ pub fn rows(
             counts.len(),
         )
     }
+}
+
+/// The predicate as its range, channel, lo and hi.
+pub fn distance(
+    (range, channel, lo, hi): (u64, u64, i64, i64),
+    value: i64,
+    result: &mut [i64],
+) -> u64 {
+    unsafe { varmityep_distance(range, channel, lo, hi, value, result.as_mut_ptr(), result.len()) }
 }
 
 /// What margin and verdict are given besides work.

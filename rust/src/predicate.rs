@@ -1,5 +1,8 @@
 //! Predicates: a channel together with a range of values.
 
+use crate::names;
+use crate::refusal::Refusal;
+
 /// The values that a predicate takes in, its ends counted.
 #[derive(Clone, Copy, PartialEq, Eq, Hash, Debug, Default)]
 pub enum Range {
@@ -20,6 +23,17 @@ pub struct Predicate {
     pub range: Range,
 }
 
+impl Predicate {
+    /// The distance of a value: how far it is inside the range, or minus how far outside; never 0,
+    /// and [`crate::TOP`] where the range is free or unset. Refusals 4 and 7.
+    pub fn distance(&self, value: i64) -> Result<i64, Refusal> {
+        let mut result = [0];
+        let (range, lo, hi) = numbers(self.range);
+        Refusal::check(names::distance((range, self.channel, lo, hi), value, &mut result))?;
+        Ok(result[0])
+    }
+}
+
 /// Predicates 0 to 15.
 pub type Predicates = [Predicate; 16];
 
@@ -33,16 +47,21 @@ impl Flat {
     pub const BLANK: Flat = Flat { ranges: [0; 32], ends: [0; 32] };
 }
 
+/// A range's number and its ends, 0 where it has no such end.
+fn numbers(range: Range) -> (u64, i64, i64) {
+    match range {
+        Range::Unset => (0, 0, 0),
+        Range::Free => (1, 0, 0),
+        Range::AtLeast(lo) => (2, lo, 0),
+        Range::AtMost(hi) => (3, 0, hi),
+        Range::Between(lo, hi) => (4, lo, hi),
+    }
+}
+
 pub(crate) fn to_flat(predicates: &Predicates) -> Flat {
     let mut flat = Flat::BLANK;
     for (p, predicate) in predicates.iter().enumerate() {
-        let (range, lo, hi) = match predicate.range {
-            Range::Unset => (0, 0, 0),
-            Range::Free => (1, 0, 0),
-            Range::AtLeast(lo) => (2, lo, 0),
-            Range::AtMost(hi) => (3, 0, hi),
-            Range::Between(lo, hi) => (4, lo, hi),
-        };
+        let (range, lo, hi) = numbers(predicate.range);
         flat.ranges[2 * p..2 * p + 2].copy_from_slice(&[range, predicate.channel]);
         flat.ends[2 * p..2 * p + 2].copy_from_slice(&[lo, hi]);
     }

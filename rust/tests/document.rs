@@ -2,7 +2,7 @@
 
 use varmityep::{
     answer, margin, read_requirement, read_rows, read_sheet, verdict, Counts, Judgement, Node,
-    Predicate, Predicates, Range, Recording, Refusal, Table, Verdict,
+    Predicate, Predicates, Range, Recording, Refusal, Table, Verdict, TOP,
 };
 
 const EXAMPLE: &str = "\
@@ -153,6 +153,20 @@ fn every_refusal_of_the_readers() {
     assert_eq!(read(row, 9, 1), Some(Refusal::Predicates));
     assert_eq!(read(row, 1, 0), Some(Refusal::Samples));
     assert_eq!((times, values), ([7], [7]));
+}
+
+#[test]
+fn distances_are_counted_from_one() {
+    let of = |range, value| Predicate { channel: 7, range }.distance(value);
+    assert_eq!(of(Range::AtLeast(5), 10), Ok(6));
+    assert_eq!(of(Range::AtLeast(5), 5), Ok(1));
+    assert_eq!(of(Range::AtLeast(5), 4), Ok(-1));
+    assert_eq!(of(Range::AtMost(5), 9), Ok(-4));
+    assert_eq!(of(Range::Between(5, 8), 6), Ok(2));
+    assert_eq!(of(Range::Free, -3), Ok(TOP));
+    assert_eq!(of(Range::Between(8, 5), 6), Err(Refusal::Predicates));
+    assert_eq!(of(Range::Free, 1_000_000_001), Err(Refusal::Values));
+    assert_eq!(Predicate { channel: 8, range: Range::Free }.distance(0), Err(Refusal::Predicates));
 }
 
 #[test]

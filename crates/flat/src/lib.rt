@@ -95,7 +95,8 @@ pub fn cells_of(nodes: [Node; tables::NODES]) -> [u64; CELLS]
     cells
 }
 
-fn range_from(number: u64, lo: i64, hi: i64) -> Range
+// A number that no range has is unset.
+pub fn range_from(number: u64, lo: i64, hi: i64) -> Range
     ensures { λ r. ⌜ r ≡ range-from number lo hi ⌝ }
 {
     match number {

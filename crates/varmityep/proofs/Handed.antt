@@ -1,9 +1,9 @@
 -- What the readers write into slices with room stands in front of them, and is what the margin and the verdict take up: the table of the text, the predicates of the sheet. Under a refusal
 -- every slice keeps what it held.
 -- Assumes nothing.
-use mathlib.Core.Path.{_≡_, refl}
+use mathlib.Core.Path.{_≡_, sym}
 use mathlib.Core.List.{List}
-use Prim.Native.Nat.{ℕ, zero, suc, _≤_}
+use Prim.Native.Nat.{ℕ, _≤_}
 use lib.IntN.{ℤ}
 use lib.ListN.{length}
 use lib.Seq.{take-all}
@@ -17,6 +17,7 @@ use Rattle.predicate_lines.proofs.Exact.{lines-keep}
 use Rattle.sheets.specs.Sheets.{sheet-of}
 use Rattle.sheets.proofs.Exact.{sheet-sound}
 use Rattle.sheet_rows.specs.Answer.{in-front}
+use Rattle.refusals.proofs.First.{unless-some}
 use Rattle.flat.specs.Written.{written}
 use Rattle.flat.specs.Tables.{table-from}
 use Rattle.flat.specs.Predicates.{ranges-of, ends-of, predicates-from}
@@ -25,8 +26,7 @@ use Rattle.flat.proofs.Back.{predicates-back, table-read-back}
 
 -- under a refusal a slice keeps what it held
 pub kept : {X : Type 0} (n : ℕ) (new old : List X) → (n ≡ 0 → ⊥) → old ≡ handed n new old
-kept zero new old h = absurd (h refl)
-kept (suc n) new old h = refl
+kept n new old h = sym (unless-some n (written new old) old h)
 
 -- as the row reader's rows do
 pub written-in-front : {X : Type 0} (new old : List X) → length new ≤ length old → written new old ≡ in-front new old

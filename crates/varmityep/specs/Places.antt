@@ -6,21 +6,31 @@ use lib.IntN.{ℤ, pos}
 use Rattle.recordings.specs.declared.Verdict.{Verdict}
 use Rattle.recordings.specs.declared.Verdict.the-variants.{Holds, Fails, NotShown}
 use Rattle.recordings.specs.Card.{Card, card}
+use Rattle.recordings.specs.declared.Predicate.{Predicate}
 use Rattle.refusals.specs.First.{unless-refused}
+use Rattle.distances.specs.Answers.{DistanceOutcome}
 use Rattle.margins.specs.Answers.{MarginOutcome as Margin}
 use Rattle.verdicts.specs.Answer.{VerdictOutcome as Judgement}
 use Rattle.sheets.specs.declared.Sheet.{Sheet}
 use Rattle.sheet_rows.specs.declared.Answer.{Answer as Rows}
-use Rattle.flat.specs.Predicates.{predicates-from}
+use Rattle.flat.specs.Predicates.{range-from, predicates-from}
 use Rattle.flat.specs.Written.{written}
 
 -- what a requirement is read against: predicates in flat numbers, and a recording
 unfoldable pub card-from : List ℕ → List ℤ → ℕ → List ℕ → List ℤ → Card
 card-from ranges ends channels times values = card (predicates-from ranges ends) channels times values
 
+-- one predicate in four numbers
+abbrev pub predicate-of : ℕ → ℕ → ℤ → ℤ → Predicate
+predicate-of range channel lo hi = record { channel = channel; range = range-from range lo hi }
+
 -- what a slice holds afterwards: new contents in front, and under a refusal what it held before
 abbrev pub handed : {X : Type 0} → ℕ → List X → List X → List X
 handed number new old = unless-refused number (written new old) old
+
+-- the distance
+abbrev pub distance-handed : DistanceOutcome → List ℤ → List ℤ
+distance-handed d old = handed (d .number) (d .distance ∷ []) old
 
 -- the margin
 abbrev pub margin-handed : Margin → List ℤ → List ℤ

@@ -1,5 +1,6 @@
 // The library for C and Rust: every function takes and hands back flat numbers and slices, and the number of the refusal, 0 for none; `varmityep_answer` prints it. Nothing is asked of a caller
 // but that each slice is a pointer and a length that belong together. include/varmityep.h has the declarations in C.
+use recordings::Predicate;
 use recordings::Verdict;
 ghost use mathlib.Core.Path.{_≡_};
 ghost use mathlib.Core.List.{[], _∷_};
@@ -14,11 +15,12 @@ ghost use Rattle.requirements.specs.Requirement.{requirement-of};
 ghost use Rattle.row_lines.specs.Reading.{rows-of};
 ghost use Rattle.refusals.specs.First.{unless-refused};
 ghost use Rattle.sheet_rows.specs.Answer.{answer-of, times-of, values-of, in-front};
+ghost use Rattle.distances.specs.Answers.{distance-outcome, distance-judged};
 ghost use Rattle.margins.specs.Answers.{margin-outcome, margin-judged, margin-cells};
 ghost use Rattle.verdicts.specs.Answer.{verdict-outcome, verdict-judged, verdict-cells};
 ghost use Rattle.answers.specs.Answers.{answer-of-text};
 ghost use Rattle.answers.specs.Printed.{LINE, line-of};
-ghost use Rattle.varmityep.specs.Places.{sheet-places, row-places, card-from, handed, margin-handed, verdict-number, verdict-handed};
+ghost use Rattle.varmityep.specs.Places.{sheet-places, row-places, card-from, predicate-of, handed, distance-handed, margin-handed, verdict-number, verdict-handed};
 
 // The printed line of the answer to a whole text, and its length.
 #[no_mangle]
@@ -115,6 +117,43 @@ fn hand(number: u64, places: &[i64], result: &mut [i64]) -> u64
         flat::write_values(places, result);
     }
     number
+}
+
+fn hand_distance(answer: distances::Answer, result: &mut [i64]) -> u64
+    ensures number { λ r. ⌜ r ≡ distance-outcome answer .number ⌝ }
+    ensures result { λ _. ⌜ now (result .exit) ≡ distance-handed (distance-outcome answer) (now (result .entry)) ⌝ }
+{
+    match answer {
+        distances::Answer::Distance(distance) => {
+            let places = [distance];
+            hand(0, &places, result)
+        }
+        distances::Answer::Refused(number) => {
+            let places = [0i64];
+            hand(number, &places, result)
+        }
+    }
+}
+
+// The distance of a value from one predicate.
+#[no_mangle]
+pub extern "C" fn varmityep_distance(
+    range: u64,
+    channel: u64,
+    lo: i64,
+    hi: i64,
+    value: i64,
+    result: &mut [i64],
+) -> u64
+    ensures number { λ r. ⌜ r ≡ distance-judged (predicate-of range channel lo hi) value .number ⌝ }
+    ensures result { λ _. ⌜ now (result .exit) ≡ distance-handed (distance-judged (predicate-of range channel lo hi) value) (now (result .entry)) ⌝ }
+{
+    let predicate = Predicate {
+        channel: channel as usize,
+        range: flat::range_from(range, lo, hi),
+    };
+    let answer = distances::distance(predicate, value);
+    hand_distance(answer, result)
 }
 
 fn hand_margin(answer: margins::Answer, result: &mut [i64]) -> u64

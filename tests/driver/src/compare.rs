@@ -98,6 +98,22 @@ pub fn rows(
     Ok(same(others, "rows", read)?.0)
 }
 
+/// Refusal numbers of the distances of values about each predicate's ends, and of a value given.
+pub fn distances(others: &Others, call: &Call, value: i64) -> Result<Vec<u64>, String> {
+    let flat = flat_predicates(&call.predicates);
+    let mut numbers = Vec::new();
+    for (p, ends) in flat.ends.chunks(2).enumerate() {
+        for value in ends.iter().flat_map(|&end| [end.saturating_sub(1), end]).chain([value]) {
+            let (number, _) = same(others, "distance", |library| {
+                let mut result = [SIGNED_NOISE];
+                (library.distance(&flat, p, value, &mut result), result)
+            })?;
+            numbers.push(number);
+        }
+    }
+    Ok(numbers)
+}
+
 /// Refusal numbers of margin and verdict.
 pub fn calls(others: &Others, call: &Call) -> Result<(u64, u64), String> {
     let mut table = flat_table(&call.table);

@@ -120,7 +120,13 @@ fn damaged_sheet(bench: &mut Bench, rng: &mut Prng) -> Result<(), Failure> {
 }
 
 fn library_call(bench: &mut Bench, rng: &mut Prng) -> Result<(), Failure> {
-    foretold_call(bench, &call(rng))
+    let foretold = call(rng);
+    let shown = format!("{:?}\n", foretold.call).into_bytes();
+    let value = rng.pick(&[0, 1_000_000_000, 1_000_000_001, -1_000_000_001, i64::MIN, i64::MAX]);
+    for number in at(&shown, compare::distances(bench.others, &foretold.call, value))? {
+        bench.tally.add(format!("distance refused={number}"));
+    }
+    foretold_call(bench, &foretold)
 }
 
 fn long_call(bench: &mut Bench, rng: &mut Prng) -> Result<(), Failure> {

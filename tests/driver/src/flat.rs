@@ -117,6 +117,11 @@ impl Library for Peer {
         hand(read, |read| [read.measured as u64, read.filled as u64], counts)
     }
 
+    fn distance(&self, flat: &FlatPredicates, p: usize, value: i64, result: &mut [i64; 1]) -> u64 {
+        let found = peer::predicate::judged_distance(&predicates(flat)[p], value);
+        hand(found, |distance| [distance], result)
+    }
+
     fn margin(&self, call: &FlatCall, work: &mut [i64], result: &mut [i64; 1]) -> u64 {
         let (table, predicates) = (table(call.table), predicates(call.predicates));
         let margin = peer::margin::margin(&table, &predicates, &recording(call), work);

@@ -67,6 +67,15 @@ pub trait Library {
         counts: &mut [u64; 2],
     ) -> u64;
 
+    /// Refusal 0, 4 or 7; the distance of a value from predicate p in result.
+    fn distance(
+        &self,
+        predicates: &FlatPredicates,
+        p: usize,
+        value: i64,
+        result: &mut [i64; 1],
+    ) -> u64;
+
     /// Refusal 0 or 3 to 8; the margin in result.
     fn margin(&self, call: &FlatCall, work: &mut [i64], result: &mut [i64; 1]) -> u64;
 

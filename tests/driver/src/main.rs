@@ -168,6 +168,7 @@ fn wanted(thousands: u64) -> Vec<(String, u64)> {
     each("answer refused=", &[1, 2, 3, 4, 5, 6, 7, 8, 9, 10, 11], 5);
     each("margin call refused=", &[0, 3, 4, 5, 6, 7, 8], 3);
     each("verdict call refused=", &[0, 3, 4, 5, 6, 7, 8, 9, 10, 11], 2);
+    each("distance refused=", &[0, 4, 7], 20);
     each("requirement refused=", &[0, 2], 10);
     each("rows refused=", &[0, 1, 4, 5], 2);
     for verdict in ["holds", "fails", "unshown"] {

@@ -44,6 +44,11 @@ impl Library for Proved {
         names::rows(text, channels, times, values, counts)
     }
 
+    fn distance(&self, flat: &FlatPredicates, p: usize, value: i64, result: &mut [i64; 1]) -> u64 {
+        let (ranges, ends) = (&flat.ranges[2 * p..], &flat.ends[2 * p..]);
+        names::distance((ranges[0], ranges[1], ends[0], ends[1]), value, result)
+    }
+
     fn margin(&self, call: &FlatCall, work: &mut [i64], result: &mut [i64; 1]) -> u64 {
         names::margin(&flat(call), work, result)
     }

@@ -75,6 +75,22 @@ unsafe extern "C" fn varmityep_rows(
     Peer.rows(from_raw_parts(text, text_len), channels, times, values, counts)
 }
 
+#[no_mangle]
+unsafe extern "C" fn varmityep_distance(
+    range: u64,
+    channel: u64,
+    lo: i64,
+    hi: i64,
+    value: i64,
+    result: *mut i64,
+    result_len: usize,
+) -> u64 {
+    let mut predicates = FlatPredicates { ranges: [0; 32], ends: [0; 32] };
+    predicates.ranges[..2].copy_from_slice(&[range, channel]);
+    predicates.ends[..2].copy_from_slice(&[lo, hi]);
+    Peer.distance(&predicates, 0, value, whole(result, result_len))
+}
+
 /// Margin and verdict are handed the same; the verdict its step and drift, too.
 macro_rules! judging {
     ($name:ident, [$($number:ident),*], $ask:ident) => {

@@ -1,6 +1,7 @@
 //! Predicates: a channel together with one of five ranges, and the distance of a value from it.
 
-use crate::limits::{LARGEST_VALUE, PREDICATES, TOP};
+use crate::limits::{LARGEST_VALUE, MOST_CHANNELS, PREDICATES, TOP};
+use crate::refusal::{when, Refusal};
 
 #[derive(Clone, Copy, PartialEq, Eq, Debug)]
 pub enum Range {
@@ -71,6 +72,13 @@ pub fn distance(range: Range, value: i64) -> i64 {
     } else {
         -nearest(ends, value).expect("a value is outside only of a range with an end")
     }
+}
+
+/// The distance as an answer of its own: a predicate that no card takes, a value that no card has.
+pub fn judged_distance(predicate: &Predicate, value: i64) -> Result<i64, Refusal> {
+    when(predicate.broken(MOST_CHANNELS), Refusal::Predicates)?;
+    when(!(-LARGEST_VALUE..=LARGEST_VALUE).contains(&value), Refusal::Values)?;
+    Ok(distance(predicate.range, value))
 }
 
 fn nearest(numbers: [Option<i64>; 2], value: i64) -> Option<i64> {
