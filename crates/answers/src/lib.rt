@@ -3,7 +3,7 @@ pub mod printed;
 
 ghost use mathlib.Core.Path.{_≡_};
 ghost use Rattle.margins.specs.Answers.{margin-outcome};
-ghost use Rattle.verdicts.specs.Answer.{verdict-outcome, verdict-refusal};
+ghost use Rattle.verdicts.specs.Answer.{verdict-refusal};
 ghost use Rattle.answers.specs.Answers.{CELLS, listing, rows-part, requirement-part, refused-by, answered, table-answer, answer-for, answer-of-text, Checked, Placed};
 ghost use Rattle.recordings.specs.Card.{lent};
 use recordings::Predicate;
@@ -36,43 +36,7 @@ fn refused(number: u64) -> Outcome
     }
 }
 
-// The parts of an answer of the verdict, and of the margin, in document 01's numbers and values.
-fn number_of(answer: verdicts::Answer) -> u64
-    ensures { λ r. ⌜ r ≡ verdict-outcome answer .number ⌝ }
-{
-    match answer {
-        verdicts::Answer::Judged(_, _, _) => 0,
-        verdicts::Answer::Refused(number) => number,
-    }
-}
-
-fn verdict_of(answer: verdicts::Answer) -> Verdict
-    ensures { λ r. ⌜ r ≡ verdict-outcome answer .verdict ⌝ }
-{
-    match answer {
-        verdicts::Answer::Judged(verdict, _, _) => verdict,
-        verdicts::Answer::Refused(_) => Verdict::NotShown,
-    }
-}
-
-fn hold_of(answer: verdicts::Answer) -> i64
-    ensures { λ r. ⌜ r ≡ verdict-outcome answer .hold ⌝ }
-{
-    match answer {
-        verdicts::Answer::Judged(_, hold, _) => hold,
-        verdicts::Answer::Refused(_) => 0,
-    }
-}
-
-fn fail_of(answer: verdicts::Answer) -> i64
-    ensures { λ r. ⌜ r ≡ verdict-outcome answer .fail ⌝ }
-{
-    match answer {
-        verdicts::Answer::Judged(_, _, fail) => fail,
-        verdicts::Answer::Refused(_) => 0,
-    }
-}
-
+// The margin of an answer, 0 of a refused one, as document 01 has it.
 fn margin_of(answer: margins::Answer) -> i64
     ensures { λ r. ⌜ r ≡ margin-outcome answer .margin ⌝ }
 {
@@ -96,7 +60,7 @@ fn judge(
     ensures { λ r. ⌜ r ≡ answered (verdict-refusal (lent predicates channels (times .entry) (values .entry)) table step drift CELLS) (lent predicates channels (times .entry) (values .entry)) table step drift filled ⌝ }
 {
     let mut work = [0i64; 8192];
-    let judged = verdicts::verdict(
+    let answer = verdicts::verdict(
         table,
         predicates,
         channels,
@@ -106,19 +70,21 @@ fn judge(
         drift,
         &mut work,
     );
-    let number = number_of(judged);
-    if number != 0 {
-        return refused(number);
-    }
-    let plain = margins::margin(table, predicates, channels, times, values, &mut work);
-    Outcome {
-        number: 0,
-        rows: times.len(),
-        filled: filled,
-        margin: margin_of(plain),
-        hold: hold_of(judged),
-        fail: fail_of(judged),
-        verdict: verdict_of(judged),
+    match answer {
+        verdicts::Answer::Refused(number) => refused(number),
+        verdicts::Answer::Judged(judged) => {
+            let plain = margins::margin(table, predicates, channels, times, values, &mut work);
+            let verdict = judged.verdict;
+            Outcome {
+                number: 0,
+                rows: times.len(),
+                filled: filled,
+                margin: margin_of(plain),
+                hold: judged.hold,
+                fail: judged.fail,
+                verdict: verdict,
+            }
+        }
     }
 }
 

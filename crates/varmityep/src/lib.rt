@@ -210,8 +210,9 @@ fn hand_verdict(answer: verdicts::Answer, result: &mut [i64]) -> u64
     ensures result { λ _. ⌜ now (result .exit) ≡ verdict-handed (verdict-outcome answer) (now (result .entry)) ⌝ }
 {
     match answer {
-        verdicts::Answer::Judged(verdict, hold, fail) => {
-            let places = [verdict_number(verdict), hold, fail];
+        verdicts::Answer::Judged(judged) => {
+            let verdict = judged.verdict;
+            let places = [verdict_number(verdict), judged.hold, judged.fail];
             hand(0, &places, result)
         }
         verdicts::Answer::Refused(number) => {

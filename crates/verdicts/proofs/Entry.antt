@@ -47,7 +47,7 @@ module _ (c : Card) (t : Table) (step drift size : ℕ) where
       let z : verdict-refusal c t step drift size ≡ 0 → ⊥ = λ z. h (sym e ∙ z) in
       rw (unless-some (verdict-refusal c t step drift size) (verdict c step drift (root t)) NotShown z, unless-some (verdict-refusal c t step drift size) (hold c step (root t)) (pos 0) z, unless-some (verdict-refusal c t step drift size) (fail c step (root t)) (pos 0) z, e) refl
 
-  pub accepted-outcome : {v : Verdict} {h f : ℤ} → verdict-refusal c t step drift size ≡ 0 → v ≡ verdict c step drift (root t) → h ≡ hold c step (root t) → f ≡ fail c step (root t) → verdict-outcome (Judged v h f) ≡ verdict-judged c t step drift size
+  pub accepted-outcome : {v : Verdict} {h f : ℤ} → verdict-refusal c t step drift size ≡ 0 → v ≡ verdict c step drift (root t) → h ≡ hold c step (root t) → f ≡ fail c step (root t) → verdict-outcome (Judged (record { verdict = v; hold = h; fail = f })) ≡ verdict-judged c t step drift size
   unfolding verdict-judged
   accepted-outcome e p q r = rw (e, p, q, r) refl
 

@@ -1,6 +1,6 @@
 -- What the verdict function promises, in the customer's words: each is read off its contract, `verdict-outcome r ≡ verdict-judged ..` and `verdict-cells ..`, whose number 0 is acceptance.
 -- Assumes nothing.
-use mathlib.Core.Path.{_≡_, sym, _∙_}
+use mathlib.Core.Path.{_≡_, sym, ap, _∙_}
 use mathlib.Core.Bool.{Bool, true, false}
 use mathlib.Core.List.{List, _∷_}
 use Prim.Native.Nat.{ℕ, _+_, _*_, _≤_, _<_}
@@ -16,6 +16,7 @@ use Rattle.recordings.specs.Margin.{margin}
 use Rattle.recordings.specs.Verdict.{hold, fail, verdict}
 use Rattle.recordings.specs.Accepted.{Accepted}
 use Rattle.recordings.specs.Shown.{Shown}
+use Rattle.recordings.proofs.Margins.{margin-not-zero}
 use Rattle.recordings.proofs.Verdicts.{holds-shown, fails-shown}
 use Rattle.tables.specs.declared.Table.{Table}
 use Rattle.tables.specs.Tree.{tree, root}
@@ -25,9 +26,10 @@ use Rattle.refusals.proofs.First.{refused, first-is, parts-none, exact-append, 
 use Rattle.rules.proofs.Refusals.{exact, passed-sound, sound, sound-passes}
 use Rattle.sampling.specs.Sampling.{checks as sampling-checks}
 use Rattle.sampling.proofs.Sampling.{accepted, accepted-passes, exact as sampling-exact}
+use Rattle.verdicts.specs.declared.Answer.the-variants.{Refused as RefusedBy}
 use Rattle.verdicts.specs.Cells.{strong, row-value, cells}
 use Rattle.verdicts.specs.Rows.{row-of}
-use Rattle.verdicts.specs.Answer.{verdict-room, verdict-checks, verdict-refusal, verdict-judged, verdict-cells}
+use Rattle.verdicts.specs.Answer.{VerdictOutcome, verdict-outcome, verdict-room, verdict-checks, verdict-refusal, verdict-judged, verdict-cells}
 use Rattle.verdicts.proofs.Rows.{row-value-of}
 use Rattle.verdicts.proofs.Entry.{refused-late}
 
@@ -59,6 +61,12 @@ module _ (c : Card) (t : Table) (step drift size : ℕ) where
   pub fail-is : verdict-judged c t step drift size .number ≡ 0 → verdict-judged c t step drift size .fail ≡ fail c step (root t)
   unfolding verdict-judged
   fail-is e = unless-none _ _ e
+
+  -- hold is never 0, so the number of a refused answer is not 0 either
+  pub refused-some : {n : ℕ} → verdict-outcome (RefusedBy n) ≡ verdict-judged c t step drift size → n ≡ 0 → ⊥
+  refused-some e z =
+      let m : verdict-judged c t step drift size .number ≡ 0 = ap (λ (o : VerdictOutcome). o .number) (sym e) ∙ z in
+      margin-not-zero c (strengthened step true (root t)) 0 (sym (hold-is m) ∙ ap (λ (o : VerdictOutcome). o .hold) (sym e))
 
   pub refused-values : (verdict-judged c t step drift size .number ≡ 0 → ⊥) → (verdict-judged c t step drift size .verdict ≡ NotShown) × (verdict-judged c t step drift size .hold ≡ pos 0) × (verdict-judged c t step drift size .fail ≡ pos 0)
   unfolding verdict-judged

@@ -26,7 +26,7 @@ pub record VerdictOutcome : Type 0 where
   pub fail : ℤ
 
 abbrev pub verdict-outcome : Answer → VerdictOutcome
-verdict-outcome (Judged v h f) = record { number = 0; verdict = v; hold = h; fail = f }
+verdict-outcome (Judged j) = record { number = 0; verdict = j .verdict; hold = j .hold; fail = j .fail }
 verdict-outcome (Refused n) = record { number = n; verdict = NotShown; hold = pos 0; fail = pos 0 }
 
 -- 8: work shorter than 2 × n × rows cells

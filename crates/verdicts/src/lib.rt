@@ -20,9 +20,16 @@ use recordings::Verdict;
 use tables::Node;
 use tables::Table;
 
-// What the verdict hands back: the verdict with hold and fail, or the number of a refusal.
+// The verdict, and the strengthened margins that it was decided by.
+pub struct Judgement {
+    pub verdict: Verdict,
+    pub hold: i64,
+    pub fail: i64,
+}
+
+// What the verdict hands back: the judgement, or the number of a refusal.
 pub enum Answer {
-    Judged(Verdict, i64, i64),
+    Judged(Judgement),
     Refused(u64),
 }
 
@@ -166,5 +173,10 @@ pub fn verdict(
     let root = 2 * (count - 1);
     let hold = rows::cell_at(rows, work, root, 0);
     let fail = rows::cell_at(rows, work, root + 1, 0);
-    Answer::Judged(decided(drift, hold, fail), hold, fail)
+    let judgement = Judgement {
+        verdict: decided(drift, hold, fail),
+        hold: hold,
+        fail: fail,
+    };
+    Answer::Judged(judgement)
 }

@@ -34,10 +34,10 @@ same-length c = search needs
 
 returns : tie.Need-returns
 returns c =
-    let v = c .before .before .before .before in
+    let v = c .before .before .before .before .before in
     let a = v .before .before in
-    let y : toZ w64 (ofZ w64 (a .answer .given .0 .1 .0)) ≡ a .answer .given .0 .1 .0 = search needs in
-    let z : toZ w64 (ofZ w64 (a .answer .given .0 .1 .1 .0)) ≡ a .answer .given .0 .1 .1 .0 = search needs in
+    let y : toZ w64 (ofZ w64 (a .answer .given .0 .0 .hold)) ≡ a .answer .given .0 .0 .hold = search needs in
+    let z : toZ w64 (ofZ w64 (a .answer .given .0 .0 .fail)) ≡ a .answer .given .0 .0 .fail = search needs in
     rw (a .answer .given .1) (c .before .hand .ensures .0, rw (back-ok _ (v .verdict-number .ok), v .verdict-number .ensures, y, z) at (c .before .hand .ensures .1))
 
 same-length-2 : tie.Need-same-length-2
