@@ -18,8 +18,9 @@ use Rattle.text.proofs.Tests.{by-test}
 use Rattle.text.proofs.Places.{Between, between-both, after-bytes, place-inside, place-after}
 use Rattle.text.proofs.Answers.{mark-is, field-is}
 use Rattle.text.proofs.Fields.{mark-case, number-case, mark-taken, field-taken}
-use Rattle.row_lines.specs.Form.{lines}
-use Rattle.row_lines.proofs.Lines.{lines-split, count, count-append, numeral-count, Fed}
+use Rattle.lines.specs.Lines.{lines}
+use Rattle.lines.proofs.Counts.{count, count-append, numeral-count}
+use Rattle.lines.proofs.Lines.{lines-split, Fed}
 use Rattle.head_lines.specs.declared.Requirement.{Requirement}
 use Rattle.head_lines.specs.declared.Requirement.the-variants.{At, Bad}
 use Rattle.head_lines.specs.Form.{NumberLine}

@@ -12,8 +12,8 @@ use Rattle.text.specs.Bytes.{bytes}
 use Rattle.text.specs.Mark.{prefix-of, key-at}
 use Rattle.text.proofs.Tests.{false-true, never, test-case}
 use Rattle.text.proofs.Places.{place-inside}
-use Rattle.row_lines.specs.Form.{lines, size}
-use Rattle.row_lines.proofs.Lines.{fed-some, lines-fed, lines-split}
+use Rattle.lines.specs.Lines.{lines, size}
+use Rattle.lines.proofs.Lines.{fed-some, lines-fed, lines-split}
 use Rattle.recordings.specs.declared.Predicate.{Predicate}
 use Rattle.predicate_lines.specs.declared.Bound.{Bound}
 use Rattle.predicate_lines.specs.declared.Bound.the-variants.{Missing, At}

@@ -14,7 +14,8 @@ use Rattle.text.specs.declared.Field.the-variants.{Number}
 use Rattle.text.proofs.Places.{Between, between-both}
 use Rattle.text.proofs.Answers.{mark-is, mark-first, field-is}
 use Rattle.text.proofs.Fields.{mark-case, number-case, signed-case, signed-bytes, signed-first, mark-taken, field-taken, signed-taken}
-use Rattle.row_lines.proofs.Lines.{count, count-append, numeral-count, signed-count, Fed}
+use Rattle.lines.proofs.Counts.{count, count-append, numeral-count, signed-count}
+use Rattle.lines.proofs.Lines.{Fed}
 use Rattle.recordings.specs.declared.Predicate.{Predicate}
 use Rattle.predicate_lines.specs.declared.Bound.{Bound}
 use Rattle.predicate_lines.specs.declared.End.{End}

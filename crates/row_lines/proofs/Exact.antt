@@ -14,18 +14,16 @@ use Rattle.text.proofs.Tests.{false-true, test-case}
 use Rattle.text.proofs.Places.{Between, place-inside}
 use Rattle.row_lines.specs.declared.RowLine.{RowLine}
 use Rattle.row_lines.specs.declared.RowLine.the-variants.{Measured, Filled, Bad}
-use Rattle.row_lines.specs.Form.{lines, Sample, Rows, no-row, measured, filled, AreRows}
+use Rattle.lines.specs.Lines.{lines}
+use Rattle.lines.proofs.Lines.{Fed, fed-some, lines-split, lines-none}
+use Rattle.lines.proofs.Places.{fed-lines, fed-past}
+use Rattle.row_lines.specs.Form.{Sample, Rows, no-row, measured, filled, AreRows}
 use Rattle.row_lines.specs.Reading.{measured-row, row-at, after-row, Listing, listed, broken, is-broken, also-measured, also-filled, sample-at, rows-from, rows-of}
 use Rattle.row_lines.specs.Same.{Alike, no-line, same, filled as Alike·filled, SameButFilled}
 use Rattle.row_lines.proofs.Written.{RowHere, row-here, row-taken}
-use Rattle.row_lines.proofs.Lines.{Fed, fed-some, row-fed, lines-fed, lines-split, lines-none, one-width, one-source}
+use Rattle.row_lines.proofs.Lines.{row-fed, one-width, one-source}
 
 -- ---- a row has a byte at least
-
-fed-past : {s l : List ℕ} {at n : ℕ} → Between s at n l → Fed l → at < n
-fed-past {s} {l} {at} {n} b f =
-    let e : length l ≡ length (f .body) + 1 = ap length (f .ends) ∙ length-append (f .body) (bytes "\n") in
-    omega (arith, b .end)
 
 abbrev pub Past : ℕ → RowLine → Type 0
 Past at (Measured r) = at < r .next
@@ -67,10 +65,6 @@ rows-turn f ch s at x h l e = let g : f ≡ suc (f - 1) = omega arith in ap (λ 
 abbrev RowsHere : ℕ → List ℕ → ℕ → Listing → Type 0
 RowsHere ch s at (listed xs k) = Rows ch (lines (drop at s)) xs k
 RowsHere ch s at broken = Unit
-
--- a line, and the lines behind it
-pub fed-lines : {s l : List ℕ} {at n : ℕ} → Between s at n l → Fed l → lines (drop at s) ≡ l ∷ lines (drop n s)
-fed-lines {s} {l} {at} {n} b f = rw (b .bytes) (lines-fed (drop n s) f)
 
 measured-here : (ch : ℕ) (s : List ℕ) (at t a n : ℕ) (y : Listing) → RowHere ch s at (measured-row t a n) → RowsHere ch s n y → RowsHere ch s at (also-measured (sample-at s ch t a) y)
 measured-here ch s at t a n (listed xs k) h r = rw (fed-lines (h .1) (row-fed (h .2))) (measured (h .2) r)

@@ -1,31 +1,14 @@
--- The form of a sheet's rows, in the order of document 01: lines, the fields of a row, a row, rows.
+-- The form of a sheet's rows, in the order of document 01: the fields of a row, a row, rows.
 -- Assumes nothing.
 use Prim.Native.Nat.{ℕ, suc, _+_, _≤_}
 use mathlib.Core.Path.{_≡_}
 use mathlib.Core.Bool.{Bool, true, false}
 use mathlib.Core.List.{List, [], _∷_, _++_}
-use lib.ListN.{length}
 use lib.IntN.{ℤ}
-use lib.Dec.{eqb}
 use Rattle.text.specs.Bytes.{bytes}
 use Rattle.text.specs.Number.{largest}
 use Rattle.text.specs.Numeral.{Numeral, Signed}
 use Rattle.recordings.specs.Accepted.{MOST-CHANNELS}
-
--- a text cut after each line feed; what follows the last one is a line too, which is no row, since it lacks its line feed
-abbrev pub cut : ℕ → Bool → List (List ℕ) → List (List ℕ)
-cut b true ls = (b ∷ []) ∷ ls
-cut b false [] = (b ∷ []) ∷ []
-cut b false (l ∷ ls) = (b ∷ l) ∷ ls
-
-unfoldable pub lines : List ℕ → List (List ℕ)
-lines [] = []
-lines (b ∷ s) = cut b (eqb b 10) (lines s)
-
--- how many bytes lines have together
-unfoldable pub size : List (List ℕ) → ℕ
-size [] = 0
-size (l ∷ ls) = length l + size ls
 
 -- the fields ` v0=`, ` v1=` and so on: of k channels, from channel c on, whose number is written as any other
 pub data ValueFields : ℕ → ℕ → List ℕ → List ℤ → Type 0 where

@@ -4,7 +4,8 @@ use Prim.Native.Nat.{ℕ}
 use mathlib.Core.Bool.{false}
 use mathlib.Core.List.{List, [], _∷_}
 use lib.IntN.{ℤ}
-use Rattle.row_lines.specs.Form.{lines, Row}
+use Rattle.lines.specs.Lines.{lines}
+use Rattle.row_lines.specs.Form.{Row}
 
 pub data Alike : List (List ℕ) → List (List ℕ) → Type 0 where
   no-line : Alike [] []

@@ -14,7 +14,8 @@ use Rattle.numbers.proofs.Parts.{holds}
 use Rattle.text.proofs.Tests.{by-test, both, false-true}
 use Rattle.refusals.specs.First.{AllExact, check-at, Refused, unless-refused}
 use Rattle.refusals.proofs.First.{refused, first-is, passed, none-fails, unless-some}
-use Rattle.row_lines.specs.Form.{lines, Sample, Rows}
+use Rattle.lines.specs.Lines.{lines}
+use Rattle.row_lines.specs.Form.{Sample, Rows}
 use Rattle.row_lines.specs.Reading.{limit, channels-in-range, Listing, listed, broken, is-broken, rows-of}
 use Rattle.row_lines.proofs.Exact.{rows-exact, unbroken-rows, rows-unbroken}
 use Rattle.sheet_rows.specs.Answer.{measured-of, has-room, RoomFor, Readable, text-check, room-check, row-checks, refusal, no-rows, counted, answer-of, times-in, values-in, times-of, values-of, in-front}

@@ -8,7 +8,8 @@ use lib.IntN.{ℤ}
 use lib.Dec.{leb}
 use Rattle.recordings.specs.Accepted.{MOST-ROWS}
 use Rattle.refusals.specs.First.{Check, first, unless-refused}
-use Rattle.row_lines.specs.Form.{lines, Sample, Rows, AreRows, ChannelsInRange}
+use Rattle.lines.specs.Lines.{lines}
+use Rattle.row_lines.specs.Form.{Sample, Rows, AreRows, ChannelsInRange}
 use Rattle.row_lines.specs.Reading.{limit, channels-in-range, Listing, listed, broken, is-broken, rows-of}
 use Rattle.sheet_rows.specs.declared.Answer.{Answer}
 

@@ -6,26 +6,18 @@ use mathlib.Core.List.{List, [], _∷_, _++_, append-assoc}
 use Prim.Native.Nat.{ℕ, _+_, _-_, _≤_}
 use native.Mathlib.Omega.{arith}
 use lib.ListN.{length, take, drop}
-use lib.Seq.{drop-append-add, take-append-seam}
+use lib.Seq.{take-append-seam}
 use Rattle.text.specs.Bytes.{bytes}
 use Rattle.text.proofs.Places.{after-bytes}
-use Rattle.row_lines.specs.Form.{lines, size}
+use Rattle.lines.specs.Lines.{lines, size}
 use Rattle.row_lines.specs.Reading.{limit}
 use Rattle.row_lines.specs.Same.{SameButFilled}
-use Rattle.row_lines.proofs.Lines.{lines-split}
+use Rattle.lines.proofs.Lines.{lines-split, size-append}
+use Rattle.lines.proofs.Places.{lines-behind}
 use Rattle.sheets.specs.declared.Sheet.{Sheet}
 use Rattle.sheets.specs.Form.{Form}
 use Rattle.sheets.specs.Sheets.{sheet-of}
-use Rattle.sheets.proofs.Exact.{size-append, sheet-sound, alike-form}
-
--- the lines behind the first ones
-lines-behind : (ls ks : List (List ℕ)) (s : List ℕ) → lines s ≡ ls ++ ks → lines (drop (size ls) s) ≡ ks
-unfolding size
-lines-behind [] ks s h = h
-lines-behind (l ∷ ls) ks s h =
-    let t = lines-split s l (ls ++ ks) h in
-    let e : drop (length l + size ls) s ≡ drop (size ls) (t .0) = ap (drop (length l + size ls)) (t .1) ∙ drop-append-add l (t .0) (size ls) in
-    ap lines e ∙ lines-behind ls ks (t .0) (t .2)
+use Rattle.sheets.proofs.Exact.{sheet-sound, alike-form}
 
 -- the text from the requirement on
 pub record Behind (s requirement : List ℕ) (rows : List (List ℕ)) (x : Sheet) : Type 0 where

@@ -17,11 +17,14 @@ use Rattle.text.specs.Mark.{prefix-of}
 use Rattle.text.specs.declared.Field.the-variants.{Number}
 use Rattle.text.proofs.Tests.{false-true, test-case}
 use Rattle.text.proofs.Fields.{number-case}
-use Rattle.row_lines.specs.Form.{lines, size, AreRows, Row}
+use Rattle.lines.specs.Lines.{lines, size}
+use Rattle.lines.proofs.Counts.{count}
+use Rattle.lines.proofs.Lines.{Fed, lines-split, lines-clear, size-append}
+use Rattle.lines.proofs.Places.{fed-lines}
+use Rattle.row_lines.specs.Form.{AreRows, Row}
 use Rattle.row_lines.specs.Reading.{limit, channels-in-range, is-broken, rows-of}
 use Rattle.row_lines.specs.Same.{Alike, no-line, same, filled, SameButFilled}
-use Rattle.row_lines.proofs.Lines.{count, Fed, lines-split, lines-clear}
-use Rattle.row_lines.proofs.Exact.{fed-lines, unbroken-rows, rows-unbroken, alike-sym, alike-rows}
+use Rattle.row_lines.proofs.Exact.{unbroken-rows, rows-unbroken, alike-sym, alike-rows}
 use Rattle.head_lines.specs.Form.{NumberLine}
 use Rattle.head_lines.specs.Reading.{number-line-at, requirement-line, requirement-at, after-requirement}
 use Rattle.recordings.specs.declared.Predicate.{Predicate}
@@ -131,11 +134,6 @@ sheet-sound s =
     (λ t. number-case (Good s) (number-line-at (bytes "chan=") s 0) _ _ (λ ch a e. behind-good s (ltb-false limit (length s) t) ch a e) (λ e. blank-good s))
 
 -- ---- complete
-
-pub size-append : (ls ms : List (List ℕ)) → size (ls ++ ms) ≡ size ls + size ms
-unfolding size
-size-append [] ms = sym (zero-add (size ms))
-size-append (l ∷ ls) ms = let h : size (ls ++ ms) ≡ size ls + size ms = size-append ls ms in omega arith
 
 -- a line `step=` is no predicate line
 step-stops : {l : List ℕ} {v : ℕ} (ls : List (List ℕ)) → NumberLine (bytes "step=") l v → (x : List ℕ) → lines x ≡ l ∷ ls → prefix-of (bytes "p=") x ≡ false

@@ -11,7 +11,8 @@ use Rattle.text.specs.Bytes.{bytes}
 use Rattle.text.specs.Mark.{prefix-of, mark-at}
 use Rattle.text.specs.Number.{digits, value, number-at, field-at, signed-at, signed-field-at}
 use Rattle.text.specs.Numeral.{Numeral, digit, longer, plain, minus}
-use Rattle.row_lines.specs.Form.{lines, Row, no-field, next}
+use Rattle.lines.specs.Lines.{lines}
+use Rattle.row_lines.specs.Form.{Row, no-field, next}
 use Rattle.row_lines.specs.Same.{SameButFilled, no-line, same, filled}
 use Rattle.row_lines.specs.Reading.{value-at, values-from, rest-at, row-at, rows-from}
 use Rattle.predicate_lines.specs.Reading.{end-at, line-at, stored-in, with-line, lines-from, lines-at}

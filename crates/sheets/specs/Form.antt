@@ -6,7 +6,8 @@ use mathlib.Core.Bool.{true}
 use mathlib.Core.List.{List, _∷_, _++_}
 use lib.ListN.{length}
 use Rattle.text.specs.Bytes.{bytes}
-use Rattle.row_lines.specs.Form.{lines, size, AreRows}
+use Rattle.lines.specs.Lines.{lines, size}
+use Rattle.row_lines.specs.Form.{AreRows}
 use Rattle.row_lines.specs.Reading.{limit, channels-in-range}
 use Rattle.head_lines.specs.Form.{NumberLine}
 use Rattle.predicate_lines.specs.Form.{unset, PredicateLines}

@@ -1,0 +1,2 @@
+-- The lines of a text (`Lines`).
+pub mod Lines
