@@ -1,0 +1,139 @@
+-- A head is read exactly where it is written: the places follow one another as its lines do.
+-- Assumes nothing.
+use mathlib.Core.Path.{_≡_, refl, sym, ap, _∙_}
+use mathlib.Core.List.{List, [], _∷_, _++_, append-assoc}
+use mathlib.Core.Bool.{true, false}
+use Prim.Native.Nat.{ℕ, _+_}
+use native.Mathlib.Omega.{arith}
+use lib.ListN.{length, getD, drop}
+use Rattle.text.specs.Bytes.{bytes}
+use Rattle.text.specs.Mark.{prefix-of}
+use Rattle.text.specs.declared.Field.the-variants.{Number}
+use Rattle.text.proofs.Tests.{false-true, test-case}
+use Rattle.text.proofs.Fields.{number-case}
+use Rattle.lines.specs.Lines.{lines, size}
+use Rattle.lines.proofs.Counts.{count}
+use Rattle.lines.proofs.Lines.{Fed, Each, none, also, each-append, lines-split, size-append}
+use Rattle.lines.proofs.Places.{LinesBetween, one-line, lines-both}
+use Rattle.head_lines.specs.Form.{NumberLine}
+use Rattle.head_lines.specs.Reading.{number-line-at}
+use Rattle.head_lines.proofs.Written.{number-line-is, number-line-taken, number-line-fed}
+use Rattle.recordings.specs.declared.Predicate.{Predicate}
+use Rattle.predicate_lines.specs.declared.Predicates.{Predicates}
+use Rattle.predicate_lines.specs.Form.{unset, PredicateLines, over, more}
+use Rattle.predicate_lines.specs.Reading.{lines-at}
+use Rattle.predicate_lines.proofs.Exact.{predicates-are, predicates-taken}
+use Rattle.predicate_lines.proofs.Written.{line-fed}
+use Rattle.heads.specs.declared.Head.{Head}
+use Rattle.heads.specs.declared.HeadLines.{HeadLines}
+use Rattle.heads.specs.Form.{HeadForm}
+use Rattle.heads.specs.Reading.{head-place, broken-head, behind-channels, head-of}
+use Rattle.heads.proofs.Chain.{chain-read, chain-behind}
+
+-- ---- sound
+
+-- what an answer says of the head
+abbrev HeadHere : List ℕ → HeadLines → Type 0
+HeadHere s p = p .ok ≡ true → (ls : List (List ℕ)) × HeadForm ls (p .head) × LinesBetween s 0 (p .next) ls
+
+no-head-here : (s : List ℕ) → HeadHere s broken-head
+no-head-here s e = absurd (false-true e)
+
+head-read : (s : List ℕ) (ch a : ℕ) → number-line-at (bytes "chan=") s 0 ≡ Number ch a → lines-at s a .ok ≡ true
+    → (step c : ℕ) → number-line-at (bytes "step=") s (lines-at s a .next) ≡ Number step c → (drift d : ℕ) → number-line-at (bytes "drift=") s c ≡ Number drift d
+    → HeadHere s (head-place (record { channels = ch; predicates = lines-at s a .all; step = step; drift = drift }) d)
+unfolding count
+head-read s ch a e o step c f drift d g _ =
+    let x = number-line-is (bytes "chan=") s 0 ch a e in
+    let p = predicates-are s a o in
+    let y = number-line-is (bytes "step=") s (lines-at s a .next) step c f in
+    let z = number-line-is (bytes "drift=") s c drift d g in
+    let l₁ = one-line (x .1) (number-line-fed refl (x .2)) in
+    let l₂ : LinesBetween s a (lines-at s a .next) (p .taken) = record { cuts = p .cuts; place = p .place } in
+    let l₃ = lines-both (one-line (y .1) (number-line-fed refl (y .2))) (one-line (z .1) (number-line-fed refl (z .2))) in (
+      x .0 ∷ (p .taken ++ (y .0 ∷ z .0 ∷ [])),
+      record { chan = x .0; ps = p .taken; step = y .0; drift = z .0; sequence = refl; channels = x .2; predicates = p .form; steps = y .2; drifts = z .2 },
+      lines-both l₁ (lines-both l₂ l₃),
+    )
+
+head-here : (s : List ℕ) → HeadHere s (head-of s)
+unfolding head-of behind-channels
+head-here s =
+    number-case (HeadHere s) (number-line-at (bytes "chan=") s 0) _ _
+    (λ ch a e. test-case (HeadHere s) (lines-at s a .ok) _ _
+    (λ o. number-case (HeadHere s) (number-line-at (bytes "step=") s (lines-at s a .next)) _ _
+    (λ step c f. number-case (HeadHere s) (number-line-at (bytes "drift=") s c) _ _
+    (λ drift d g. head-read s ch a e o step c f drift d g)
+    (λ g. no-head-here s))
+    (λ f. no-head-here s))
+    (λ o. no-head-here s))
+    (λ e. no-head-here s)
+
+pub head-is : (s : List ℕ) → head-of s .ok ≡ true → (ls : List (List ℕ)) × HeadForm ls (head-of s .head) × LinesBetween s 0 (head-of s .next) ls
+head-is s e = head-here s e
+
+-- ---- complete
+
+-- a line `step=` is no predicate line
+step-stops : {l : List ℕ} {v : ℕ} (ls : List (List ℕ)) → NumberLine (bytes "step=") l v → (x : List ℕ) → lines x ≡ l ∷ ls → prefix-of (bytes "p=") x ≡ false
+unfolding prefix-of
+step-stops {l} ls f x h = let t = lines-split x l ls h in ap (prefix-of (bytes "p=")) (t .1 ∙ ap (λ (y : List ℕ). y ++ t .0) (f .spelled))
+
+predicates-place : (s : List ℕ) (a b : ℕ) (qs : List Predicate) (ps rest : List (List ℕ)) → lines-at s a ≡ record { ok = true; next = b; all = qs }
+    → lines (drop a s) ≡ ps ++ rest → lines (drop b s) ≡ rest → b ≡ a + size ps
+predicates-place s a b qs ps rest e f g =
+    let t = predicates-are s a (ap (λ (x : Predicates). x .ok) e) in
+    let n : lines-at s a .next ≡ b = ap (λ (x : Predicates). x .next) e in
+    let h : t .taken ++ rest ≡ ps ++ rest = ap (λ (x : List (List ℕ)). t .taken ++ x) (sym (ap (λ (k : ℕ). lines (drop k s)) n ∙ g)) ∙ (sym (t .cuts) ∙ f) in
+    let k : size (t .taken) + size rest ≡ size ps + size rest = sym (size-append (t .taken) rest) ∙ (ap size h ∙ size-append ps rest) in
+    omega (arith, t .place)
+
+predicates-stage : (s : List ℕ) (a : ℕ) {qs : List Predicate} {ps : List (List ℕ)} {l : List ℕ} {v : ℕ} (ls : List (List ℕ))
+    → PredicateLines unset ps qs → NumberLine (bytes "step=") l v → lines (drop a s) ≡ ps ++ (l ∷ ls)
+    → (b : ℕ) × (lines-at s a ≡ record { ok = true; next = b; all = qs }) × (lines (drop b s) ≡ l ∷ ls) × (b ≡ a + size ps)
+predicates-stage s a {qs} {ps} {l} ls form step e =
+    let t = predicates-taken form s a (l ∷ ls) e (λ x h. step-stops ls step x h) in
+    (t .0, t .1, t .2, predicates-place s a (t .0) qs ps (l ∷ ls) (t .1) e (t .2))
+
+pub head-taken : (s : List ℕ) {ls : List (List ℕ)} {h : Head} (rest : List (List ℕ)) → HeadForm ls h → lines s ≡ ls ++ rest → head-of s ≡ head-place h (size ls)
+unfolding size
+head-taken s {ls} {h} rest f e =
+    let cuts : lines s ≡ f .chan ∷ (f .ps ++ (f .step ∷ f .drift ∷ rest)) =
+    e ∙ (ap (λ (x : List (List ℕ)). x ++ rest) (f .sequence) ∙ ap (λ (x : List (List ℕ)). f .chan ∷ x) (append-assoc (f .ps) (f .step ∷ f .drift ∷ []) rest)) in
+    let a = number-line-taken (bytes "chan=") s 0 (f .ps ++ (f .step ∷ f .drift ∷ rest)) (omega arith) (f .channels) cuts in
+    let b = predicates-stage s (a .0) (f .drift ∷ rest) (f .predicates) (f .steps) (a .2) in
+    let c = number-line-taken (bytes "step=") s (b .0) (f .drift ∷ rest) (omega arith) (f .steps) (b .2) in
+    let d = number-line-taken (bytes "drift=") s (c .0) rest (omega arith) (f .drifts) (c .2) in
+    let w : size ls ≡ length (f .chan) + (size (f .ps) + (length (f .step) + (length (f .drift) + 0))) = ap size (f .sequence) ∙ ap (λ (n : ℕ). length (f .chan) + n) (size-append (f .ps) (f .step ∷ f .drift ∷ [])) in
+    let n : d .0 ≡ size ls = omega (arith, a .3, b .3, c .3, d .3) in
+    sym
+    (chain-behind s (h .channels) (a .0) (a .1) (record { ok = true; next = b .0; all = h .predicates }) (sym (b .1)) _
+    (chain-read s (h .channels) (record { ok = true; next = b .0; all = h .predicates }) refl (h .step) (c .0) (c .1) (h .drift) (d .0) (d .1)))
+    ∙ ap (head-place h) n
+
+-- ---- a head's lines
+
+-- each ends in its only line feed, and begins as neither a requirement nor a row does
+pub record HeadLine (l : List ℕ) : Type 0 where
+  pub fed : Fed l
+  pub no-requirement : getD l 0 0 ≡ 114 → ⊥
+  pub no-row : getD l 0 0 ≡ 116 → ⊥
+
+predicate-lines : {ps qs : List Predicate} {ls : List (List ℕ)} → PredicateLines ps ls qs → Each HeadLine ls
+predicate-lines over = none
+predicate-lines (more {l} line free rest) =
+    let f : getD l 0 0 ≡ 112 = ap (λ (y : List ℕ). getD y 0 0) (line .spelled) in
+    also (record { fed = line-fed line; no-requirement = λ e. omega arith; no-row = λ e. omega arith }) (predicate-lines rest)
+
+pub head-lines : {ls : List (List ℕ)} {h : Head} → HeadForm ls h → Each HeadLine ls
+unfolding count
+head-lines {ls} {h} f =
+    let i : getD (f .chan) 0 0 ≡ 99 = ap (λ (y : List ℕ). getD y 0 0) (f .channels .spelled) in
+    let j : getD (f .step) 0 0 ≡ 115 = ap (λ (y : List ℕ). getD y 0 0) (f .steps .spelled) in
+    let k : getD (f .drift) 0 0 ≡ 100 = ap (λ (y : List ℕ). getD y 0 0) (f .drifts .spelled) in
+    rw (f .sequence)
+    (also (record { fed = number-line-fed refl (f .channels); no-requirement = λ e. omega arith; no-row = λ e. omega arith })
+    (each-append (predicate-lines (f .predicates))
+    (also (record { fed = number-line-fed refl (f .steps); no-requirement = λ e. omega arith; no-row = λ e. omega arith })
+    (also (record { fed = number-line-fed refl (f .drifts); no-requirement = λ e. omega arith; no-row = λ e. omega arith })
+    none))))

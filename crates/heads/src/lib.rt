@@ -1,0 +1,85 @@
+// The head of a sheet: `chan=`, `p=` lines, `step=`, `drift=`, in this order. Each line reader answers the place of the next line, so one line more is one reader more.
+use predicate_lines::Predicates;
+use recordings::Predicate;
+use text::Field;
+ghost use mathlib.Core.Path.{_≡_};
+ghost use Rattle.heads.specs.Form.{no-head};
+ghost use Rattle.heads.specs.Reading.{broken-head, behind-channels, head-of};
+
+// What the head's lines say.
+pub struct Head {
+    pub channels: usize,
+    pub predicates: [Predicate; 16],
+    pub step: u64,
+    pub drift: u64,
+}
+
+// Whether the lines are a head, the place of the line behind it, and what it says.
+pub struct HeadLines {
+    pub ok: bool,
+    pub next: usize,
+    pub head: Head,
+}
+
+// The head of no sheet.
+pub fn no_head() -> Head
+    ensures { λ r. ⌜ r ≡ no-head ⌝ }
+{
+    let none = predicate_lines::unset_predicates();
+    Head {
+        channels: 0,
+        predicates: none,
+        step: 0,
+        drift: 0,
+    }
+}
+
+fn broken() -> HeadLines
+    ensures { λ r. ⌜ r ≡ broken-head ⌝ }
+{
+    let none = no_head();
+    HeadLines {
+        ok: false,
+        next: 0,
+        head: none,
+    }
+}
+
+// What follows the channels' line.
+fn read_behind(s: &[u8], channels: usize, predicates: Predicates) -> HeadLines
+    ensures { λ r. ⌜ r ≡ behind-channels (now (s .entry)) channels predicates ⌝ }
+{
+    if !predicates.ok {
+        return broken();
+    }
+    let step_at = predicates.next;
+    let Field::Number(step, drift_at) = head_lines::read_number(s, step_at, b"step=") else {
+        return broken();
+    };
+    let Field::Number(drift, next) = head_lines::read_number(s, drift_at, b"drift=") else {
+        return broken();
+    };
+    let all = predicates.all;
+    let head = Head {
+        channels: channels,
+        predicates: all,
+        step: step,
+        drift: drift,
+    };
+    HeadLines {
+        ok: true,
+        next: next,
+        head: head,
+    }
+}
+
+// The head of a text.
+pub fn read_head(s: &[u8]) -> HeadLines
+    ensures { λ r. ⌜ r ≡ head-of (now (s .entry)) ⌝ }
+{
+    let Field::Number(channels, next) = head_lines::read_number(s, 0, b"chan=") else {
+        return broken();
+    };
+    let predicates = predicate_lines::read_predicates(s, next);
+    read_behind(s, channels as usize, predicates)
+}
