@@ -1,12 +1,13 @@
 -- The rows of a text are read exactly where its lines are rows, so filled rows reach nothing but their count: texts that differ in them alone have one reading.
 -- Assumes nothing.
-use mathlib.Core.Path.{_≡_, refl, sym, ap, _∙_}
+use mathlib.Core.Path.{_≡_, refl, sym, ap, subst, _∙_}
 use mathlib.Core.Logic.{_↔_}
 use mathlib.Core.List.{List, [], _∷_, _++_}
-use mathlib.Core.Bool.{true, false}
+use mathlib.Core.Bool.{Bool, true, false}
 use Prim.Native.Nat.{ℕ, zero, suc, _+_, _-_, _≤_, _<_}
 use native.Mathlib.Omega.{arith}
-use lib.ListN.{length, drop, drop-of-length-le, length-drop, length-append}
+use lib.ListN.{length, getD, drop, drop-of-length-le, length-drop, length-append}
+use lib.IntN.{ℤ}
 use lib.Dec.{leb}
 use borrow.Author.Tests.{leb-true, le-leb, lt-leb}
 use Rattle.text.specs.Bytes.{bytes}
@@ -15,9 +16,9 @@ use Rattle.text.proofs.Places.{Between, place-inside}
 use Rattle.row_lines.specs.declared.RowLine.{RowLine}
 use Rattle.row_lines.specs.declared.RowLine.the-variants.{Measured, Filled, Bad}
 use Rattle.lines.specs.Lines.{lines}
-use Rattle.lines.proofs.Lines.{Fed, fed-some, lines-split, lines-none}
+use Rattle.lines.proofs.Lines.{Fed, fed-some, lines-split, lines-none, Each, none, also}
 use Rattle.lines.proofs.Places.{fed-lines, fed-past}
-use Rattle.row_lines.specs.Form.{Sample, Rows, no-row, measured, filled, AreRows}
+use Rattle.row_lines.specs.Form.{Row, Sample, Rows, no-row, measured, filled, AreRows}
 use Rattle.row_lines.specs.Reading.{measured-row, row-at, after-row, Listing, listed, broken, is-broken, also-measured, also-filled, sample-at, rows-from, rows-of}
 use Rattle.row_lines.specs.Same.{Alike, no-line, same, filled as Alike·filled, SameButFilled}
 use Rattle.row_lines.proofs.Written.{RowHere, row-here, row-taken}
@@ -165,3 +166,28 @@ rows-alike a b h ch = go (rows-of ch a) (rows-of ch b) refl refl
     go (listed xs k) y e f = e ∙ sym (lead a b h xs k e)
     go broken (listed xs k) e f = lead b a (alike-sym h) xs k f ∙ sym f
     go broken broken e f = e ∙ sym f
+
+row-first : {ch t : ℕ} {l : List ℕ} {m : Bool} {vs : List ℤ} → Row ch l m t vs → getD l 0 0 ≡ 116
+row-first f = ap (λ (l : List ℕ). getD l 0 0) (f .spelled)
+
+-- a line that does not begin with `t`, as every row does
+pub record NoRow (l : List ℕ) : Type 0 where
+  pub first : getD l 0 0 ≡ 116 → ⊥
+
+alike-line : {ls ms : List (List ℕ)} → Alike ls ms → (l : List ℕ) (ks : List (List ℕ)) → ls ≡ l ∷ ks → NoRow l → (ns : List (List ℕ)) × (ms ≡ l ∷ ns) × Alike ks ns
+alike-line no-line l ks e h = let z : _≡_ {A = ℕ} 0 1 = cc in absurd (omega arith)
+alike-line (same {l = k} {ls} {ms} a) l ks e h =
+    let f : k ≡ l = cc in
+    let g : ls ≡ ks = cc in
+    (ms, rw f, subst (λ (x : List (List ℕ)). Alike x ms) g a)
+alike-line (Alike·filled {l = k} r q a) l ks e h =
+    let f : k ≡ l = cc in
+    absurd (h .first (ap (λ (y : List ℕ). getD y 0 0) (sym f) ∙ row-first r))
+
+-- lines in front, none of which is a row, stand in both texts
+pub alike-front : {ls xs ms : List (List ℕ)} → Each NoRow ls → Alike xs ms → (ks : List (List ℕ)) → xs ≡ ls ++ ks → (ns : List (List ℕ)) × (ms ≡ ls ++ ns) × Alike ks ns
+alike-front {xs} {ms} none a ks e = (ms, refl, subst (λ (x : List (List ℕ)). Alike x ms) e a)
+alike-front (also {l} {ls} p h) a ks e =
+    let t = alike-line a l (ls ++ ks) e p in
+    let u = alike-front h (t .2) ks refl in
+    (u .0, t .1 ∙ ap (λ (x : List (List ℕ)). l ∷ x) (u .1), u .2)
