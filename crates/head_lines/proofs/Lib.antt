@@ -1,3 +1,2 @@
--- What is read is what is written (`Written`), and the steps of the code (`Steps`).
+-- What is read is what is written (`Written`).
 pub mod Written
-pub mod Steps

@@ -1,4 +1,4 @@
--- The form of a head's line that has one number. The requirement's line is `req=` and any bytes up to the line feed.
+-- The form of a head's line that has one number.
 -- Assumes nothing.
 use Prim.Native.Nat.{ℕ, _≤_}
 use mathlib.Core.Path.{_≡_}

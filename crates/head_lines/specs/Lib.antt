@@ -1,3 +1,3 @@
--- The form of a line with one number (`Form`), and the lines' reading at a place (`Reading`).
+-- The form of a line with one number (`Form`), and its reading at a place (`Reading`).
 pub mod Form
 pub mod Reading
