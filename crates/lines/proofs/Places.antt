@@ -2,13 +2,13 @@
 -- Assumes nothing.
 use mathlib.Core.Path.{_≡_, refl, sym, ap, _∙_}
 use mathlib.Core.List.{List, [], _∷_, _++_, append-assoc}
-use Prim.Native.Nat.{ℕ, _+_, _<_}
+use Prim.Native.Nat.{ℕ, _+_, _-_, _≤_, _<_}
 use native.Mathlib.Omega.{arith}
-use lib.ListN.{length, drop}
+use lib.ListN.{length, drop, length-drop}
 use lib.Seq.{drop-append-add}
 use Rattle.text.proofs.Places.{Between}
 use Rattle.lines.specs.Lines.{lines, size}
-use Rattle.lines.proofs.Lines.{Fed, fed-some, lines-fed, lines-split, size-append}
+use Rattle.lines.proofs.Lines.{Fed, fed-some, lines-fed, lines-split, size-append, size-lines}
 
 -- the lines of s from a place `at` up to the place `n` are ls
 pub record LinesBetween (s : List ℕ) (at n : ℕ) (ls : List (List ℕ)) : Type 0 where
@@ -33,6 +33,12 @@ lines-both {s} {a} {b} {c} {ls} {ms} p q = record {
   cuts = p .cuts ∙ (ap (λ (x : List (List ℕ)). ls ++ x) (q .cuts) ∙ sym (append-assoc ls ms (lines (drop c s))));
   place = omega (arith, p .place, q .place, size-append ls ms);
 }
+
+-- and the place behind them is inside
+pub lines-inside : {s : List ℕ} {at n : ℕ} {ls : List (List ℕ)} → LinesBetween s at n ls → at ≤ length s → n ≤ length s
+lines-inside {s} {at} {n} {ls} b l =
+    let e : length s - at ≡ size ls + size (lines (drop n s)) = sym (length-drop at s) ∙ (sym (size-lines (drop at s)) ∙ (ap size (b .cuts) ∙ size-append ls (lines (drop n s)))) in
+    omega (arith, b .place)
 
 -- a line has a byte at least
 pub fed-past : {s l : List ℕ} {at n : ℕ} → Between s at n l → Fed l → at < n

@@ -1,65 +1,60 @@
--- The chain of line readers, line by line: the first that fails refuses the sheet, and the last gives it.
+-- The parts' readers one after the other: the first that fails refuses the sheet, and the last gives it.
 -- Assumes nothing.
 use mathlib.Core.Path.{_≡_}
 use mathlib.Core.List.{List}
-use mathlib.Core.Bool.{true, false}
-use Prim.Native.Nat.{ℕ}
+use mathlib.Core.Bool.{Bool, true, false}
+use Prim.Native.Nat.{ℕ, _≤_, _<_}
 use lib.ListN.{length}
 use lib.Dec.{ltb}
-use Rattle.text.specs.Bytes.{bytes}
-use Rattle.text.specs.declared.Field.the-variants.{Number, Bad as Field·Bad}
+use borrow.Author.Tests.{le-leb, lt-leb}
 use Rattle.row_lines.specs.Reading.{limit}
-use Rattle.head_lines.specs.Reading.{number-line-at, requirement-line, requirement-at}
-use Rattle.predicate_lines.specs.declared.Predicates.{Predicates}
-use Rattle.predicate_lines.specs.Reading.{lines-at}
+use Rattle.heads.specs.declared.Head.{Head}
+use Rattle.heads.specs.declared.HeadLines.{HeadLines}
+use Rattle.heads.specs.Reading.{head-of}
+use Rattle.requirement_lines.specs.declared.Requirements.{Requirements}
+use Rattle.requirement_lines.specs.Form.{MOST-REQUIREMENTS}
+use Rattle.requirement_lines.specs.Reading.{requirements-at, stored}
 use Rattle.sheets.specs.declared.Sheet.{Sheet}
-use Rattle.head_lines.specs.declared.Requirement.the-variants.{Bad}
 use Rattle.sheets.specs.Form.{blank}
-use Rattle.sheets.specs.Sheets.{rows-kept, behind-predicates, sheet-of}
+use Rattle.sheets.specs.Sheets.{rows-kept, lines-kept, behind-head, sheet-of}
 
--- ---- what follows the predicate lines
+-- ---- what follows the head
 
-module _ (s : List ℕ) (ch : ℕ) (ps : Predicates) where
-  pub chain-predicates : ps .ok ≡ false → blank ≡ behind-predicates s ch ps
-  unfolding behind-predicates
-  chain-predicates o = rw o
+module _ (s : List ℕ) (h : Head) (rs : Requirements) where
+  pub lines-broken : rs .ok ≡ false → false ≡ lines-kept s h rs
+  lines-broken o = rw o
 
-  module _ (o : ps .ok ≡ true) where
-    pub chain-step : number-line-at (bytes "step=") s (ps .next) ≡ Field·Bad → blank ≡ behind-predicates s ch ps
-    unfolding behind-predicates
-    chain-step f = rw (o, f)
+  module _ (o : rs .ok ≡ true) where
+    pub lines-missing : rs .count < 1 → false ≡ lines-kept s h rs
+    lines-missing l = rw (o, lt-leb _ _ l)
 
-    module _ (step c : ℕ) (f : number-line-at (bytes "step=") s (ps .next) ≡ Number step c) where
-      pub chain-drift : number-line-at (bytes "drift=") s c ≡ Field·Bad → blank ≡ behind-predicates s ch ps
-      unfolding behind-predicates
-      chain-drift h = rw (o, f, h)
+    pub lines-there : 1 ≤ rs .count → (b : Bool) → b ≡ rows-kept s (rs .next) (h .channels) → b ≡ lines-kept s h rs
+    lines-there l b e = rw (o, le-leb _ _ l) e
 
-      module _ (drift d : ℕ) (h : number-line-at (bytes "drift=") s c ≡ Number drift d) where
-        pub chain-requirement : requirement-at s d ≡ Bad → blank ≡ behind-predicates s ch ps
-        unfolding behind-predicates
-        chain-requirement r = rw (o, f, h, r)
+  pub behind-broken : lines-kept s h rs ≡ false → blank 1 ≡ behind-head s h rs
+  unfolding behind-head
+  behind-broken k = rw k
 
-        module _ (from to rows : ℕ) (r : requirement-at s d ≡ requirement-line from to rows) where
-          pub chain-rows : rows-kept s rows ch ≡ false → blank ≡ behind-predicates s ch ps
-          unfolding behind-predicates
-          chain-rows k = rw (o, f, h, r, k)
+  module _ (k : lines-kept s h rs ≡ true) where
+    pub behind-crowded : MOST-REQUIREMENTS < rs .count → blank 12 ≡ behind-head s h rs
+    unfolding behind-head
+    behind-crowded l = rw (k, lt-leb _ _ l)
 
-          pub chain-read : rows-kept s rows ch ≡ true
-              → record { number = 0; channels = ch; predicates = ps .all; step = step; drift = drift; from = from; to = to; rows = rows } ≡ behind-predicates s ch ps
-          unfolding behind-predicates
-          chain-read k = rw (o, f, h, r, k)
+    pub behind-read : rs .count ≤ MOST-REQUIREMENTS → record { number = 0; head = h; count = rs .count; requirements = rs .places; rows = rs .next } ≡ behind-head s h rs
+    unfolding behind-head
+    behind-read l = rw (k, le-leb _ _ l)
 
 -- ---- the whole sheet
 
-pub chain-long : (s : List ℕ) → ltb limit (length s) ≡ true → blank ≡ sheet-of s
+pub sheet-long : (s : List ℕ) → ltb limit (length s) ≡ true → blank 1 ≡ sheet-of s
 unfolding sheet-of
-chain-long s l = rw l
+sheet-long s l = rw l
 
 module _ (s : List ℕ) (l : ltb limit (length s) ≡ false) where
-  pub chain-channels : number-line-at (bytes "chan=") s 0 ≡ Field·Bad → blank ≡ sheet-of s
+  pub sheet-headless : head-of s .ok ≡ false → blank 1 ≡ sheet-of s
   unfolding sheet-of
-  chain-channels e = rw (l, e)
+  sheet-headless o = rw (l, o)
 
-  pub chain-behind : (ch a : ℕ) → number-line-at (bytes "chan=") s 0 ≡ Number ch a → (ps : Predicates) → ps ≡ lines-at s a → (x : Sheet) → x ≡ behind-predicates s ch ps → x ≡ sheet-of s
+  pub sheet-behind : (h : HeadLines) → h ≡ head-of s → h .ok ≡ true → (rs : Requirements) → rs ≡ stored (requirements-at s (h .next)) → (x : Sheet) → x ≡ behind-head s (h .head) rs → x ≡ sheet-of s
   unfolding sheet-of
-  chain-behind ch a e ps g x h = rw (l, e, ← g) h
+  sheet-behind h e o rs g x f = rw (l, ← e, o, ← g) f

@@ -1,6 +1,8 @@
--- What is read is what is written (`Exact`), what the places hold (`Behind`), the steps of the code (`Steps`, `Chain`), and the examples.
-pub mod Exact
+-- The chain of the parts' readers (`Chain`), that a sheet is read exactly where it is written (`Exact`), what its places hold (`Behind`), the text with one requirement alone
+-- (`Only`), the steps of the code (`Steps`), and the examples (`Examples`).
 pub mod Behind
-pub mod Steps
 pub mod Chain
+pub mod Exact
 pub mod Examples
+pub mod Only
+pub mod Steps

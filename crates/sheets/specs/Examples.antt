@@ -8,9 +8,10 @@ use lib.IntN.{pos}
 use Rattle.text.specs.Bytes.{bytes}
 use Rattle.recordings.specs.declared.Range.the-variants.{AtLeast}
 use Rattle.predicate_lines.specs.Form.{unset}
+use Rattle.requirement_lines.specs.Form.{nowhere}
 use Rattle.sheets.specs.declared.Sheet.{Sheet}
 
--- a text by its parts: the channels' line, predicate lines, the step's, the drift's and the requirement's line, rows
+-- a text by its parts: the channels' line, predicate lines, the step's and the drift's line, requirement lines, rows
 abbrev pub parts : String → String → String → String → String → String → List ℕ
 parts chan ps step drift req rows = bytes chan ++ bytes ps ++ bytes step ++ bytes drift ++ bytes req ++ bytes rows
 
@@ -23,17 +24,14 @@ example =
 abbrev pub contents : Sheet
 contents = record {
   number = 0;
-  channels = 1;
-  predicates = set unset 0 (record { channel = 0; range = AtLeast (pos 5) });
-  step = 1;
-  drift = 2;
-  from = 45;
-  to = 53;
+  head = record { channels = 1; predicates = set unset 0 (record { channel = 0; range = AtLeast (pos 5) }); step = 1; drift = 2 };
+  count = 1;
+  requirements = set nowhere 0 (record { from = 45; to = 53 });
   rows = 54;
 }
 
 -- no text, a blank line, CR LF, no last line feed; a key that is not due; a space too many; numbers out of their form or range; a predicate's number twice;
--- a row with a field too many, too few, of another channel or source; a second requirement
+-- a row with a field too many, too few, of another channel or source; a requirement behind a row, and one that lacks its line feed, also where rows are unread
 abbrev pub damaged : List (List ℕ)
 damaged =
     parts "" "" "" "" "" ""
@@ -54,7 +52,9 @@ damaged =
     ∷ parts "chan=1\n" "p=0 ch=0 lo=2147483648 hi=*\n" "step=1\n" "drift=2\n" "req=p0\n" ""
     ∷ parts "chan=1\n" "p=0 ch=0 lo=* hi=-2147483648\n" "step=1\n" "drift=2\n" "req=p0\n" ""
     ∷ parts "chan=1\n" "p=0 ch=0 lo=* hi=*\np=0 ch=0 lo=1 hi=*\n" "step=1\n" "drift=2\n" "req=p0\n" ""
-    ∷ parts "chan=1\n" "" "step=1\n" "drift=2\n" "req=p0\n" "req=p0\n"
+    ∷ parts "chan=1\n" "" "step=1\n" "drift=2\n" "req=p0\n" "t=0 src=m v0=1\nreq=p0\n"
+    ∷ parts "chan=1\n" "" "step=1\n" "drift=2\n" "req=p0\nreq=p1" ""
+    ∷ parts "chan=0\n" "" "step=1\n" "drift=2\n" "req=p0\nreq=p1" ""
     ∷ parts "chan=1\n" "" "step=1\n" "drift=2\n" "req=p0\n" "t=0 src=m v0=1 v1=2\n"
     ∷ parts "chan=2\n" "" "step=1\n" "drift=2\n" "req=p0\n" "t=0 src=m v0=1\n"
     ∷ parts "chan=2\n" "" "step=1\n" "drift=2\n" "req=p0\n" "t=0 src=m v1=1 v0=2\n"
@@ -62,7 +62,7 @@ damaged =
     ∷ parts "chan=1\n" "" "step=1\n" "drift=2\n" "req=p0\n" "t=4294967296 src=f v0=1\n"
     ∷ []
 
--- ends that a later number judges; predicates in any order, one free; no requirement, one with spaces; rows behind a channel count out of range, which are unread;
+-- ends that a later number judges; predicates in any order, one free; an empty requirement, one with spaces, two; rows behind a channel count out of range, which are unread;
 -- filled rows out of order and beyond the range of values
 abbrev pub accepted : List (List ℕ)
 accepted =
@@ -70,8 +70,25 @@ accepted =
     ∷ parts "chan=1\n" "" "step=0\n" "drift=4294967295\n" "req=\n" ""
     ∷ parts "chan=1\n" "p=15 ch=4294967295 lo=9 hi=-9\np=2 ch=0 lo=* hi=*\n" "step=1\n" "drift=2\n" "req= p0 \n" ""
     ∷ parts "chan=0\n" "" "step=1\n" "drift=2\n" "req=p0\n" "anything\r, no line feed"
-    ∷ parts "chan=9\n" "" "step=1\n" "drift=2\n" "req=p0\n" "req=p1\n"
+    ∷ parts "chan=9\n" "" "step=1\n" "drift=2\n" "req=p0\nreq=p1\n" "unread\nreq=p2"
+    ∷ parts "chan=1\n" "" "step=1\n" "drift=2\n" "req=p0\nreq=p1\n" "t=0 src=m v0=1\n"
     ∷ parts "chan=2\n" "" "step=1\n" "drift=2\n" "req=p0\n" "t=9 src=f v0=-2147483647 v1=0\nt=4294967295 src=f v0=7 v1=2147483647\nt=0 src=m v0=1 v1=-1\n"
+    ∷ []
+
+-- sixteen `req=` lines; a seventeenth; one outside the grammar among seventeen; seventeen where rows are unread; seventeen and a row that breaks the form
+abbrev pub eight : String
+eight = "req=p0\nreq=p1\nreq=p2\nreq=p3\nreq=p4\nreq=p5\nreq=p6\nreq=p7\n"
+
+abbrev pub with-sixteen : String → String → String → List ℕ
+with-sixteen chan more rows = parts chan "" "step=1\n" "drift=2\n" eight eight ++ bytes more ++ bytes rows
+
+abbrev pub crowded : List (List ℕ)
+crowded =
+    with-sixteen "chan=1\n" "" "t=0 src=m v0=1\n"
+    ∷ with-sixteen "chan=1\n" "req=p0\n" "t=0 src=m v0=1\n"
+    ∷ with-sixteen "chan=1\n" "req=)\n" "t=0 src=m v0=1\n"
+    ∷ with-sixteen "chan=0\n" "req=p0\n" "t=0"
+    ∷ with-sixteen "chan=1\n" "req=p0\n" "t=0\n"
     ∷ []
 
 -- document 01's sheet with another third row

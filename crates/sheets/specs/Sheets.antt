@@ -1,16 +1,16 @@
--- The sheet of a text, read line by line. `Exact` in proofs/ shows that it has number 0 exactly where the form of Form.antt stands, with that form's contents.
+-- The sheet of a text, read part by part. `Exact` in proofs/ shows that it has number 0 exactly where the form of Form.antt stands, with that form's contents.
 -- Assumes nothing.
 use Prim.Native.Nat.{ℕ}
 use mathlib.Core.Bool.{Bool, not, cond, _&&_}
 use mathlib.Core.List.{List}
 use lib.ListN.{length, drop}
-use lib.Dec.{ltb}
-use Rattle.text.specs.Bytes.{bytes}
-use Rattle.text.specs.Number.{after-number}
+use lib.Dec.{leb, ltb}
 use Rattle.row_lines.specs.Reading.{limit, channels-in-range, is-broken, rows-of}
-use Rattle.head_lines.specs.Reading.{number-line-at, requirement-at, after-requirement}
-use Rattle.predicate_lines.specs.declared.Predicates.{Predicates}
-use Rattle.predicate_lines.specs.Reading.{lines-at}
+use Rattle.heads.specs.declared.Head.{Head}
+use Rattle.heads.specs.Reading.{head-of}
+use Rattle.requirement_lines.specs.declared.Requirements.{Requirements}
+use Rattle.requirement_lines.specs.Form.{MOST-REQUIREMENTS}
+use Rattle.requirement_lines.specs.Reading.{requirements-at, stored}
 use Rattle.sheets.specs.declared.Sheet.{Sheet}
 use Rattle.sheets.specs.Form.{blank}
 
@@ -18,23 +18,19 @@ use Rattle.sheets.specs.Form.{blank}
 abbrev pub rows-kept : List ℕ → ℕ → ℕ → Bool
 rows-kept s at channels = not (channels-in-range channels && is-broken (rows-of channels (drop at s)))
 
--- what follows the predicates, given the channel count
-unfoldable pub behind-predicates : List ℕ → ℕ → Predicates → Sheet
-behind-predicates s channels ps =
-    cond (ps .ok)
-    (after-number (number-line-at (bytes "step=") s (ps .next))
-    (λ step c. after-number (number-line-at (bytes "drift=") s c)
-    (λ drift d. after-requirement (requirement-at s d)
-    (λ from to rows. cond (rows-kept s rows channels)
-    (record { number = 0; channels = channels; predicates = ps .all; step = step; drift = drift; from = from; to = to; rows = rows })
-    blank)
-    blank)
-    blank)
-    blank)
-    blank
+-- there are requirements, and what follows them is in order
+abbrev pub lines-kept : List ℕ → Head → Requirements → Bool
+lines-kept s h rs = rs .ok && (leb 1 (rs .count) && rows-kept s (rs .next) (h .channels))
 
--- the sheet of a text; a text that is too long, or whose lines are not the ones due, gives the blank one
+-- what follows the head: 1 for the whole text before 12
+unfoldable pub behind-head : List ℕ → Head → Requirements → Sheet
+behind-head s h rs =
+    cond (lines-kept s h rs)
+    (cond (leb (rs .count) MOST-REQUIREMENTS) (record { number = 0; head = h; count = rs .count; requirements = rs .places; rows = rs .next }) (blank 12))
+    (blank 1)
+
+-- the sheet of a text; a text that is too long, or whose lines are not the ones due, gives none
 unfoldable pub sheet-of : List ℕ → Sheet
 sheet-of s =
-    cond (ltb limit (length s)) blank
-    (after-number (number-line-at (bytes "chan=") s 0) (λ channels a. behind-predicates s channels (lines-at s a)) blank)
+    cond (ltb limit (length s)) (blank 1)
+    (cond (head-of s .ok) (behind-head s (head-of s .head) (stored (requirements-at s (head-of s .next)))) (blank 1))

@@ -1,25 +1,22 @@
-// The sheet reader: the head's lines in their order, `chan=`, `p=` lines, `step=`, `drift=`, `req=`, then rows, which are judged here and read by the row reader.
-// It judges the whole text; a line reader answers the place of the next line.
-use head_lines::Requirement;
-use predicate_lines::Predicates;
-use recordings::Predicate;
+// The sheet reader: the head, `req=` lines, then rows, which are judged here and read by the row reader.
+// It judges the whole text, so that 1 comes before 12; each part's reader answers the place of the next line.
+use heads::Head;
+use requirement_lines::Place;
+use requirement_lines::Requirements;
 use row_lines::Counts;
-use text::Field;
 ghost use mathlib.Core.Path.{_≡_};
+ghost use mathlib.Core.Bool.{true};
 ghost use Prim.Native.Nat.{_≤_};
 ghost use lib.ListN.{length};
 ghost use Rattle.sheets.specs.Form.{blank};
-ghost use Rattle.sheets.specs.Sheets.{rows-kept, behind-predicates, sheet-of};
+ghost use Rattle.sheets.specs.Sheets.{rows-kept, lines-kept, behind-head, sheet-of};
 
-// Document 01's number, 0 where the text has the form, and the sheet's contents: the requirement is the bytes from `from` up to `to`, and the rows begin at `rows`.
+// Document 01's number, 0 where the text has the form, and the sheet's contents: requirement k is the bytes of place k, and the rows begin at `rows`.
 pub struct Sheet {
     pub number: u64,
-    pub channels: usize,
-    pub predicates: [Predicate; 16],
-    pub step: u64,
-    pub drift: u64,
-    pub from: usize,
-    pub to: usize,
+    pub head: Head,
+    pub count: usize,
+    pub requirements: [Place; 16],
     pub rows: usize,
 }
 
@@ -37,54 +34,55 @@ fn keeps_rows(s: &[u8], at: usize, channels: usize) -> bool
     true
 }
 
-// The one sheet of a refusal.
-fn refused() -> Sheet
-    ensures { λ r. ⌜ r ≡ blank ⌝ }
+// Whether there are requirements, and what follows them is in order.
+fn keeps_lines(s: &[u8], head: Head, found: Requirements) -> bool
+    requires { ⌜ (found .ok ≡ true → found .next ≤ length (now s)) ⌝ }
+    ensures { λ r. ⌜ r ≡ lines-kept (now (s .entry)) head found ⌝ }
 {
-    let none = predicate_lines::unset_predicates();
+    if !found.ok {
+        return false;
+    }
+    if found.count < 1 {
+        return false;
+    }
+    let rows = found.next;
+    let channels = head.channels;
+    keeps_rows(s, rows, channels)
+}
+
+// No sheet, under a refusal.
+fn refused(number: u64) -> Sheet
+    ensures { λ r. ⌜ r ≡ blank number ⌝ }
+{
+    let none = heads::no_head();
+    let places = requirement_lines::nowhere();
     Sheet {
-        number: 1,
-        channels: 0,
-        predicates: none,
-        step: 0,
-        drift: 0,
-        from: 0,
-        to: 0,
+        number: number,
+        head: none,
+        count: 0,
+        requirements: places,
         rows: 0,
     }
 }
 
-// What follows the predicate lines: `step=`, `drift=`, `req=` and the rows.
-fn read_behind(s: &[u8], channels: usize, predicates: Predicates) -> Sheet
-    ensures { λ r. ⌜ r ≡ behind-predicates (now (s .entry)) channels predicates ⌝ }
+// What follows the head.
+fn read_behind(s: &[u8], head: Head, found: Requirements) -> Sheet
+    requires { ⌜ (found .ok ≡ true → found .next ≤ length (now s)) ⌝ }
+    ensures { λ r. ⌜ r ≡ behind-head (now (s .entry)) head found ⌝ }
 {
-    if !predicates.ok {
-        return refused();
+    if !keeps_lines(s, head, found) {
+        return refused(1);
     }
-    let step_at = predicates.next;
-    let Field::Number(step, drift_at) = head_lines::read_number(s, step_at, b"step=") else {
-        return refused();
-    };
-    let Field::Number(drift, requirement_at) = head_lines::read_number(s, drift_at, b"drift=")
-    else {
-        return refused();
-    };
-    let Requirement::At(place) = head_lines::read_requirement(s, requirement_at) else {
-        return refused();
-    };
-    if !keeps_rows(s, place.next, channels) {
-        return refused();
+    if requirement_lines::MOST < found.count {
+        return refused(12);
     }
-    let all = predicates.all;
+    let places = found.places;
     Sheet {
         number: 0,
-        channels: channels,
-        predicates: all,
-        step: step,
-        drift: drift,
-        from: place.from,
-        to: place.to,
-        rows: place.next,
+        head: head,
+        count: found.count,
+        requirements: places,
+        rows: found.next,
     }
 }
 
@@ -93,11 +91,13 @@ pub fn read_sheet(s: &[u8]) -> Sheet
     ensures { λ r. ⌜ r ≡ sheet-of (now (s .entry)) ⌝ }
 {
     if row_lines::LIMIT < s.len() {
-        return refused();
+        return refused(1);
     }
-    let Field::Number(channels, next) = head_lines::read_number(s, 0, b"chan=") else {
-        return refused();
-    };
-    let predicates = predicate_lines::read_predicates(s, next);
-    read_behind(s, channels as usize, predicates)
+    let lines = heads::read_head(s);
+    if !lines.ok {
+        return refused(1);
+    }
+    let found = requirement_lines::read_requirements(s, lines.next);
+    let head = lines.head;
+    read_behind(s, head, found)
 }
