@@ -1,10 +1,10 @@
 -- The word by the arm.
 -- Assumes nothing.
 use borrow.Author.Needs.{needs}
-use Rattle.answers.proofs.printed.verdict_word.Statement.{statement}
-use Rattle.answers.proofs.printed.verdict_word.Tie as tie
-use Rattle.answers.proofs.printed.verdict_word.Reads as reads
-use Rattle.answers.proofs.printed.verdict_word.Lts as lts
+use Rattle.outcome_lines.proofs.verdict_word.Statement.{statement}
+use Rattle.outcome_lines.proofs.verdict_word.Tie as tie
+use Rattle.outcome_lines.proofs.verdict_word.Reads as reads
+use Rattle.outcome_lines.proofs.verdict_word.Lts as lts
 use Rattle.printing.proofs.word.Reads as word-reads
 
 enum-told : tie.Need-enum-told

@@ -4,10 +4,10 @@ use mathlib.Core.Path.{_≡_}
 use Rattle.printing.proofs.Printed.{printed-then}
 use Rattle.numbers.proofs.Bits.{back}
 use borrow.Author.Needs.{needs}
-use Rattle.answers.proofs.printed.signed_field.Statement.{statement}
-use Rattle.answers.proofs.printed.signed_field.Tie as tie
-use Rattle.answers.proofs.printed.signed_field.Reads as reads
-use Rattle.answers.proofs.printed.signed_field.Lts as lts
+use Rattle.outcome_lines.proofs.signed_field.Statement.{statement}
+use Rattle.outcome_lines.proofs.signed_field.Tie as tie
+use Rattle.outcome_lines.proofs.signed_field.Reads as reads
+use Rattle.outcome_lines.proofs.signed_field.Lts as lts
 use Rattle.printing.proofs.signed.Reads as signed-reads
 use Rattle.printing.proofs.word.Reads as word-reads
 

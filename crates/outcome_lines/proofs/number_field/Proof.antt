@@ -2,10 +2,10 @@
 -- Assumes nothing.
 use Rattle.printing.proofs.Printed.{printed-then}
 use borrow.Author.Needs.{needs}
-use Rattle.answers.proofs.printed.number_field.Statement.{statement}
-use Rattle.answers.proofs.printed.number_field.Tie as tie
-use Rattle.answers.proofs.printed.number_field.Reads as reads
-use Rattle.answers.proofs.printed.number_field.Lts as lts
+use Rattle.outcome_lines.proofs.number_field.Statement.{statement}
+use Rattle.outcome_lines.proofs.number_field.Tie as tie
+use Rattle.outcome_lines.proofs.number_field.Reads as reads
+use Rattle.outcome_lines.proofs.number_field.Lts as lts
 use Rattle.printing.proofs.number.Reads as number-reads
 use Rattle.printing.proofs.word.Reads as word-reads
 

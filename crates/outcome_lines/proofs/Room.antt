@@ -14,8 +14,8 @@ use Rattle.recordings.specs.declared.Verdict.the-variants.{Holds, Fails, NotSho
 use Rattle.text.specs.Bytes.{bytes}
 use Rattle.printing.specs.Decimal.{decimal, decimal-signed}
 use Rattle.printing.proofs.Lengths.{decimal-few, signed-few}
-use Rattle.answers.specs.declared.Outcome.{Outcome}
-use Rattle.answers.specs.Printed.{LINE, word-of, field, figures-line, refusal-line, line-by, line-of}
+use Rattle.outcomes.specs.declared.Outcome.{Outcome}
+use Rattle.outcome_lines.specs.Printed.{LINE, word-of, field, figures-line, refusal-line, line-by, line-of}
 
 -- at most n bytes
 record Few (bs : List ℕ) (n : ℕ) : Type 0 where

@@ -1,13 +1,13 @@
 -- The number behind its key, and the line feed.
 -- Assumes nothing.
 use Rattle.printing.proofs.Printed.{printed-then}
-use Rattle.answers.proofs.Lines.{refusal-few}
+use Rattle.outcome_lines.proofs.Room.{refusal-few}
 use borrow.Author.Needs.{needs}
-use Rattle.answers.proofs.printed.refusal_line.Statement.{statement}
-use Rattle.answers.proofs.printed.refusal_line.Tie as tie
-use Rattle.answers.proofs.printed.refusal_line.Reads as reads
-use Rattle.answers.proofs.printed.refusal_line.Lts as lts
-use Rattle.answers.proofs.printed.number_field.Reads as number-field-reads
+use Rattle.outcome_lines.proofs.refusal_line.Statement.{statement}
+use Rattle.outcome_lines.proofs.refusal_line.Tie as tie
+use Rattle.outcome_lines.proofs.refusal_line.Reads as reads
+use Rattle.outcome_lines.proofs.refusal_line.Lts as lts
+use Rattle.outcome_lines.proofs.number_field.Reads as number-field-reads
 use Rattle.printing.proofs.word.Reads as word-reads
 
 slice-aggregate-number-field : tie.Need-slice-aggregate-number-field

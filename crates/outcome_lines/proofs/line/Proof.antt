@@ -2,14 +2,14 @@
 -- Assumes nothing.
 use mathlib.Core.Path.{_≡_}
 use Rattle.numbers.proofs.Bits.{back}
-use Rattle.answers.proofs.Lines.{line-refused, line-judged, room-refused, room-judged}
+use Rattle.outcome_lines.proofs.Room.{line-refused, line-judged, room-refused, room-judged}
 use borrow.Author.Needs.{needs}
-use Rattle.answers.proofs.printed.line.Statement.{statement}
-use Rattle.answers.proofs.printed.line.Tie as tie
-use Rattle.answers.proofs.printed.line.Reads as reads
-use Rattle.answers.proofs.printed.line.Lts as lts
-use Rattle.answers.proofs.printed.figures_line.Reads as figures-line-reads
-use Rattle.answers.proofs.printed.refusal_line.Reads as refusal-line-reads
+use Rattle.outcome_lines.proofs.line.Statement.{statement}
+use Rattle.outcome_lines.proofs.line.Tie as tie
+use Rattle.outcome_lines.proofs.line.Reads as reads
+use Rattle.outcome_lines.proofs.line.Lts as lts
+use Rattle.outcome_lines.proofs.figures_line.Reads as figures-line-reads
+use Rattle.outcome_lines.proofs.refusal_line.Reads as refusal-line-reads
 
 refusal-line-requires : tie.Need-refusal-line-requires
 refusal-line-requires c κs = search needs

@@ -4,17 +4,17 @@ use mathlib.Core.Path.{_≡_, ap, _∙_}
 use lib.ListN.{length}
 use Rattle.printing.specs.Output.{Output, printed}
 use Rattle.printing.proofs.Printed.{printed-then, printed-length}
-use Rattle.answers.specs.Printed.{figures-line}
+use Rattle.outcome_lines.specs.Printed.{figures-line}
 use Rattle.numbers.proofs.Bits.{back, back-is}
-use Rattle.answers.proofs.Lines.{figures-few}
+use Rattle.outcome_lines.proofs.Room.{figures-few}
 use borrow.Author.Needs.{needs}
-use Rattle.answers.proofs.printed.figures_line.Statement.{statement}
-use Rattle.answers.proofs.printed.figures_line.Tie as tie
-use Rattle.answers.proofs.printed.figures_line.Reads as reads
-use Rattle.answers.proofs.printed.figures_line.Lts as lts
-use Rattle.answers.proofs.printed.number_field.Reads as number-field-reads
-use Rattle.answers.proofs.printed.signed_field.Reads as signed-field-reads
-use Rattle.answers.proofs.printed.verdict_word.Reads as verdict-word-reads
+use Rattle.outcome_lines.proofs.figures_line.Statement.{statement}
+use Rattle.outcome_lines.proofs.figures_line.Tie as tie
+use Rattle.outcome_lines.proofs.figures_line.Reads as reads
+use Rattle.outcome_lines.proofs.figures_line.Lts as lts
+use Rattle.outcome_lines.proofs.number_field.Reads as number-field-reads
+use Rattle.outcome_lines.proofs.signed_field.Reads as signed-field-reads
+use Rattle.outcome_lines.proofs.verdict_word.Reads as verdict-word-reads
 use Rattle.printing.proofs.word.Reads as word-reads
 
 abbrev entry : tie.After-slice-known9 → tie.Start

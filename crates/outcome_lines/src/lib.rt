@@ -1,17 +1,21 @@
-// The printed line of an answer, in a lent slice from a place on. Each function answers the place behind what it printed.
+// The printed lines of a sheet's outcomes, in a lent slice from a place on. Each function answers the place behind what it printed.
 ghost use mathlib.Core.Path.{_≡_};
 ghost use mathlib.Core.List.{_++_};
-ghost use Prim.Native.Nat.{_≤_};
-ghost use lib.ListN.{length};
+ghost use Prim.Native.Nat.{_≤_, _<_};
+ghost use lib.ListN.{length, take};
 ghost use Rattle.printing.specs.Decimal.{decimal, decimal-signed};
 ghost use Rattle.printing.specs.Output.{output, printed};
-ghost use Rattle.answers.specs.Answers.{answer-of-text};
-ghost use Rattle.answers.specs.Printed.{LINE, word-of, figures-line, refusal-line, line-of};
-use crate::Outcome;
+ghost use Rattle.outcomes.specs.Arrangement.{arrangement};
+ghost use Rattle.outcome_lines.specs.Printed.{LINE, NUMBERED, LINES, word-of, figures-line, refusal-line, line-of, numbered-line, lines-in, entry-lines, lines-of};
+use outcomes::Outcome;
+use outcomes::Outcomes;
 use recordings::Verdict;
 
 // No line is longer: the longest that 64-bit numbers give has 153 bytes.
 pub const LINE: usize = 160;
+
+// Sixteen lines with their numbers are not longer.
+pub const LINES: usize = 2688;
 
 fn verdict_word(out: &mut [u8], at: usize, verdict: Verdict) -> usize
     ensures { λ r. ⌜ output (out .exit) r ≡ printed (output (out .entry) at) (word-of verdict) ⌝ }
@@ -90,10 +94,56 @@ pub fn line(out: &mut [u8], at: usize, outcome: Outcome) -> usize
     )
 }
 
-// The line that is printed for a whole text, at the front of a slice; with LINE places it is whole.
-pub fn answer_line(text: &[u8], out: &mut [u8]) -> usize
-    ensures { λ r. ⌜ output (out .exit) r ≡ printed (output (out .entry) 0) (line-of (answer-of-text (now (text .entry)))) ⌝ }
-    ensures room { λ _. ⌜ length (line-of (answer-of-text (now (text .entry)))) ≤ LINE ⌝ }
+// A line with its requirement's number in front.
+fn numbered_line(out: &mut [u8], at: usize, k: usize, outcome: Outcome) -> usize
+    requires { ⌜ k < 16 ⌝ }
+    ensures { λ r. ⌜ output (out .exit) r ≡ printed (output (out .entry) at) (numbered-line k outcome) ⌝ }
+    ensures room { λ _. ⌜ length (numbered-line k outcome) ≤ NUMBERED ⌝ }
 {
-    line(out, 0, crate::answer(text))
+    let at = number_field(out, at, b"req=", k as u64);
+    let at = printing::word(out, at, b" ");
+    line(out, at, outcome)
+}
+
+// The numbered lines of the first `count` outcomes, by rising margin.
+fn numbered_lines(out: &mut [u8], at: usize, entries: [Outcome; 16], count: usize) -> usize
+    ensures { λ r. ⌜ output (out .exit) r ≡ printed (output (out .entry) at) (lines-in (take count entries) (arrangement (take count entries))) ⌝ }
+    ensures room { λ _. ⌜ length (lines-in (take count entries) (arrangement (take count entries))) ≤ LINES ⌝ }
+{
+    let order = outcomes::arrange(entries, count);
+    let mut next = at;
+    let mut n: usize = 0;
+    while (n < count) & (n < 16) {
+        let k = order[n];
+        let outcome = entries[k];
+        next = numbered_line(out, next, k, outcome);
+        n += 1;
+    }
+    next
+}
+
+// A single outcome's line has no number.
+fn entry_lines(out: &mut [u8], at: usize, entries: [Outcome; 16], count: usize) -> usize
+    ensures { λ r. ⌜ output (out .exit) r ≡ printed (output (out .entry) at) (entry-lines (take count entries)) ⌝ }
+    ensures room { λ _. ⌜ length (entry-lines (take count entries)) ≤ LINES ⌝ }
+{
+    if count == 1 {
+        let outcome = entries[0];
+        return line(out, at, outcome);
+    }
+    numbered_lines(out, at, entries, count)
+}
+
+// All that is printed for a text. With LINES places it is whole.
+pub fn lines(out: &mut [u8], at: usize, all: Outcomes) -> usize
+    ensures { λ r. ⌜ output (out .exit) r ≡ printed (output (out .entry) at) (lines-of all) ⌝ }
+    ensures room { λ _. ⌜ length (lines-of all) ≤ LINES ⌝ }
+{
+    let number = all.number;
+    if number != 0 {
+        return refusal_line(out, at, number);
+    }
+    let count = all.count;
+    let entries = all.entries;
+    entry_lines(out, at, entries, count)
 }

@@ -1,0 +1,2 @@
+-- Laws of the printed lines: no line is longer than `LINE` (`Room`).
+pub mod Room
