@@ -1,6 +1,7 @@
--- Laws of the answer: its figures (`Figures`), the order of refusals (`Runs`), the parts of a text (`Rows`, `Wholes`), the printed line (`Lines`), and what is promised (`Promises`).
+-- Laws of the answers: their figures (`Figures`), the order of refusals (`Runs`), the parts of a text (`Rows`, `Wholes`, `Parts`), what is promised (`Promises`), and the same in the paper's
+-- relations (`Relations`).
 pub mod Figures
-pub mod Lines
+pub mod Parts
 pub mod Promises
 pub mod Relations
 pub mod Rows

@@ -1,22 +1,25 @@
--- What the answer to a whole text promises, in the customer's words: the order of refusals over the whole run, demand 3 from text to verdict, and that filled rows reach nothing.
+-- What the answers to a whole text promise, in the customer's words: for every requirement the order of refusals over the whole run and demand 3 from text to verdict, what the
+-- requirement alone would get, and that filled rows reach nothing.
 -- Assumes nothing.
 use mathlib.Core.Path.{_≡_, refl, sym, ap, subst, _∙_}
-use mathlib.Core.Bool.{true, false}
-use mathlib.Core.Logic.{⊎-elim}
+use mathlib.Core.Bool.{true, false, not}
+use mathlib.Core.Logic.{_⊎_, inl, inr, ⊎-elim}
 use mathlib.Core.List.{List, [], _∷_, _++_}
-use Prim.Native.Nat.{ℕ, _≤_}
+use Prim.Native.Nat.{ℕ, zero, suc, _+_, _≤_, _<_}
 use native.Mathlib.Omega.{arith}
-use lib.Dec.{leb→le, le→leb, eqb→eq}
-use lib.ListN.{length}
+use lib.Dec.{T, leb→le, le→leb, eqb, eqb→eq}
+use lib.ListN.{length, getD}
 use borrow.Author.Tests.{eq-eqb, ne-eqb}
 use Rattle.numbers.proofs.Parts.{holds as yes}
+use Rattle.lists.specs.Fill.{fill}
+use Rattle.lists.proofs.Filled.{fill-in, fill-cong}
 use Rattle.recordings.specs.declared.Verdict.the-variants.{Holds, Fails}
 use Rattle.recordings.specs.Card.{Card, rows}
 use Rattle.recordings.specs.Shown.{Shown}
 use Rattle.recordings.specs.Verdict.{verdict}
 use Rattle.tables.specs.declared.Table.{Table}
 use Rattle.tables.specs.Tree.{root}
-use Rattle.refusals.specs.First.{Check, first, Exact, AllExact, Refused, Passed}
+use Rattle.refusals.specs.First.{Check, first, Exact, AllExact, Refused, Passed, unless-refused}
 use Rattle.rules.specs.Refusals.{table-checks, sample-checks}
 use Rattle.refusals.proofs.First.{first-passes, first-fails, passed, none-fails, refused, first-is, first-append, first-of-whole, exact-append, exact-parts, unless-none}
 use Rattle.sampling.specs.Sampling.{checks as sampling-checks}
@@ -25,50 +28,129 @@ use Rattle.verdicts.proofs.Promises.{exact-checks, verdict-is, holds as verdict
 use Rattle.requirements.specs.declared.Requirement.{Requirement}
 use Rattle.requirements.specs.Requirement.{requirement-of}
 use Rattle.requirements.proofs.Answers.{answer-sound, answer-complete}
+use Rattle.lines.specs.Lines.{joined}
 use Rattle.row_lines.specs.Reading.{limit, Listing}
 use Rattle.sheet_rows.specs.Answer.{filled-of}
 use Rattle.row_lines.specs.Same.{SameButFilled}
 use Rattle.row_lines.proofs.Exact.{rows-alike}
+use Rattle.heads.specs.declared.Head.{Head}
 use Rattle.sheets.specs.declared.Sheet.{Sheet}
 use Rattle.sheets.specs.Form.{blank}
+use Rattle.sheets.specs.Only.{only}
 use Rattle.sheets.specs.Sheets.{sheet-of}
-use Rattle.sheets.proofs.Exact.{sheet-sound, sheet-complete, sheet-or-blank, sheet-alike}
-use Rattle.sheets.proofs.Behind.{same-requirement, same-behind}
-use Rattle.answers.specs.declared.Outcome.{Outcome}
-use Rattle.answers.specs.Answers.{ROWS, CELLS, measured, sheet-check, requirement-check, rows-check, table-run, requirement-run, figures, refused-by, answer-for, listing, rows-part, requirement-part, requirement-in, listing-in, whole-run, answer-of-text}
-use Rattle.answers.specs.Printed.{line-of}
+use Rattle.sheets.proofs.Exact.{contents, written-read, written-or-blank, sheet-cases, sheet-sound, sheet-refused, sheet-crowded, alike-written, sheet-alike}
+use Rattle.sheets.proofs.Only.{only-written}
+use Rattle.outcomes.specs.declared.Outcome.{Outcome}
+use Rattle.outcomes.specs.declared.Outcomes.{Outcomes}
+use Rattle.outcome_lines.specs.Printed.{lines-of}
+use Rattle.answers.specs.Answers.{ROWS, CELLS, measured, sheet-check, crowd-check, requirement-check, rows-check, table-run, requirement-run, figures, refused-by, answer-for, head-in, listing-in, requirement-in, whole-run, answer-to, no-entries, entries, answers-of}
 use Rattle.answers.proofs.Figures.{only-number, answered-number}
-use Rattle.answers.proofs.Wholes.{sheet-refused, sheet-read}
+use Rattle.answers.proofs.Wholes.{answer-refused, answer-read, answers-refused, answers-read, placed}
+use Rattle.answers.proofs.Parts.{joined-rows, answer-written, answer-only}
+
+-- ---- every entry is the answer that its requirement gets
+
+pub answers-number : (s : List ℕ) → answers-of s .number ≡ sheet-of s .number
+unfolding answers-of
+answers-number s = go (sheet-of s .number)
+  where
+    go : (n : ℕ) → unless-refused {X = Outcomes} n (record { number = 0; count = sheet-of s .count; entries = entries s (sheet-of s) }) (record { number = n; count = 0; entries = no-entries }) .number ≡ n
+    go zero = refl
+    go (suc n) = refl
+
+-- where there is an answer the sheet was read
+pub count-read : (s : List ℕ) (k : ℕ) → k < answers-of s .count → sheet-of s .number ≡ 0
+unfolding answers-of
+count-read s k = go (sheet-of s .number)
+  where
+    go : (n : ℕ) → k < unless-refused {X = Outcomes} n (record { number = 0; count = sheet-of s .count; entries = entries s (sheet-of s) }) (record { number = n; count = 0; entries = no-entries }) .count → n ≡ 0
+    go zero l = refl
+    go (suc n) l = absurd (omega arith)
+
+pub answers-count : (s : List ℕ) → sheet-of s .number ≡ 0 → answers-of s .count ≡ sheet-of s .count
+answers-count s e = ap (λ (a : Outcomes). a .count) (sym (answers-read s e))
+
+pub entry-is : (s : List ℕ) (k : ℕ) → k < answers-of s .count → getD (answers-of s .entries) k (refused-by 0) ≡ answer-to s k
+entry-is s k l =
+    let e = count-read s k l in
+    let c : answers-of s .count ≡ sheet-of s .count = answers-count s e in
+    let few = placed s e .few in
+    let z : 0 + k ≡ k = omega arith in
+    ap (λ (a : Outcomes). getD (a .entries) k (refused-by 0)) (sym (answers-read s e))
+    ∙ (ap (λ (i : ℕ). getD (entries s (sheet-of s)) i (refused-by 0)) (sym z)
+    ∙ (fill-in 0 (sheet-of s .count) (λ i. answer-for (head-in s) (listing-in s) (requirement-in s i)) no-entries k (refused-by 0) (omega arith) (omega arith)
+    ∙ answer-read s k e))
 
 -- ---- the order of refusals
 
-for-number : (x : Sheet) (l : Listing) (r : List ℕ) → answer-for x l r .number ≡ first (requirement-run x l r)
+for-number : (h : Head) (l : Listing) (r : List ℕ) → answer-for h l r .number ≡ first (requirement-run h l r)
 unfolding answer-for
-for-number x l r = answered-number (first (requirement-run x l r)) (measured x l) (requirement-of r .table) (x .step) (x .drift) (filled-of l)
+for-number h l r = answered-number (first (requirement-run h l r)) (measured h l) (requirement-of r .table) (h .step) (h .drift) (filled-of l)
 
--- the blank sheet has number 1
-blank-number : {x : Sheet} → x ≡ blank → x .number ≡ 0 → ⊥
-blank-number e z = let f : _≡_ {A = ℕ} 1 0 = ap (λ (y : Sheet). y .number) (sym e) ∙ z in omega arith
+-- a blank sheet's number is no 0
+blank-number : {x : Sheet} (n : ℕ) → x ≡ blank n → 0 < n → x .number ≡ 0 → ⊥
+blank-number n e p z = let f : n ≡ 0 = ap (λ (y : Sheet). y .number) (sym e) ∙ z in omega arith
 
-abbrev run : List ℕ → List Check
-run s = requirement-run (sheet-of s) (listing-in s) (requirement-in s)
+-- a text is read, or gives no sheet
+pub sheet-either : (s : List ℕ) → (sheet-of s .number ≡ 0) ⊎ (sheet-of s .number ≡ 0 → ⊥)
+sheet-either s = ⊎-elim (λ f. inl (f .number)) (λ b. inr (⊎-elim (λ e. blank-number 1 e (omega arith)) (λ e. blank-number 12 e (omega arith)) b)) (sheet-cases s)
 
--- behind a sheet that is read, the requirement's list decides
-run-number : (s : List ℕ) → sheet-of s .number ≡ 0 → answer-of-text s .number ≡ first (run s)
-run-number s e = ap (λ (o : Outcome). o .number) (sym (sheet-read s e)) ∙ for-number (sheet-of s) (listing-in s) (requirement-in s)
+module _ (s : List ℕ) (k : ℕ) where
+  abbrev run : List Check
+  run = requirement-run (head-in s) (listing-in s) (requirement-in s k)
 
--- the number is the first of the list, over the whole run
-pub order : (s : List ℕ) → answer-of-text s .number ≡ first (whole-run s)
-order s = ⊎-elim
-    (λ e. run-number s e ∙ sym (first-passes (sheet-check s) (run s) (eq-eqb (sheet-of s .number) 0 e)))
-    (λ b. ap (λ (o : Outcome). o .number) (sym (sheet-refused s (blank-number b))) ∙ sym (first-fails (sheet-check s) (run s) (ne-eqb (sheet-of s .number) 0 (blank-number b))))
-    (sheet-or-blank s)
+  -- behind a sheet that is read, the requirement's list decides
+  run-number : sheet-of s .number ≡ 0 → answer-to s k .number ≡ first run
+  run-number e = ap (λ (o : Outcome). o .number) (sym (answer-read s k e)) ∙ for-number (head-in s) (listing-in s) (requirement-in s k)
+
+  blank-run : (n : ℕ) → sheet-of s .number ≡ n → 0 < n → answer-to s k .number ≡ n
+  blank-run n e p = ap (λ (o : Outcome). o .number) (sym (answer-refused s k (λ z. let w : n ≡ 0 = sym e ∙ z in omega arith))) ∙ e
+
+  passes-one : (n : ℕ) → sheet-of s .number ≡ n → (n ≡ 1 → ⊥) → sheet-check s .passes ≡ true
+  passes-one n e h = rw (ne-eqb (sheet-of s .number) 1 (λ z. h (sym e ∙ z))) refl
+
+  -- the number is the first of the list, over the whole run
+  pub order : answer-to s k .number ≡ first (whole-run s k)
+  order = ⊎-elim
+      (λ f. let e = f .number in
+      run-number e
+      ∙ sym (first-passes (sheet-check s) (crowd-check s ∷ run) (passes-one 0 e (λ z. omega arith)) ∙ first-passes (crowd-check s) run (rw (ne-eqb (sheet-of s .number) 12 (λ z. let w : _≡_ {A = ℕ} 0 12 = sym e ∙ z in omega arith)) refl)))
+      (λ b. ⊎-elim
+      (λ x. let e : sheet-of s .number ≡ 1 = ap (λ (y : Sheet). y .number) x in
+      blank-run 1 e (omega arith) ∙ sym (first-fails (sheet-check s) (crowd-check s ∷ run) (rw (eq-eqb (sheet-of s .number) 1 e) refl)))
+      (λ x. let e : sheet-of s .number ≡ 12 = ap (λ (y : Sheet). y .number) x in
+      blank-run 12 e (omega arith)
+      ∙ sym (first-passes (sheet-check s) (crowd-check s ∷ run) (passes-one 12 e (λ z. omega arith)) ∙ first-fails (crowd-check s) run (rw (eq-eqb (sheet-of s .number) 12 e) refl)))
+      b)
+      (sheet-cases s)
 
 -- each test is its sentence
+module _ (s : List ℕ) (m : ℕ) where
+  passes-other : (n : ℕ) → sheet-of s .number ≡ n → (n ≡ m → ⊥) → T (not (eqb (sheet-of s .number) m))
+  passes-other n e h = yes {b = not (eqb (sheet-of s .number) m)} (rw (ne-eqb (sheet-of s .number) m (λ z. h (sym e ∙ z))) refl)
+
+  passes-never : sheet-of s .number ≡ m → T (not (eqb (sheet-of s .number) m)) → ⊥
+  passes-never e h = rw (eq-eqb (sheet-of s .number) m e) at h
+
+  blank-is : sheet-of s ≡ blank m → sheet-of s .number ≡ m
+  blank-is e = ap (λ (y : Sheet). y .number) e
+
 sheet-check-exact : (s : List ℕ) → Exact (sheet-check s)
 sheet-check-exact s = record {
-  sound = λ h. (sheet-of s, sheet-sound s (eqb→eq (sheet-of s .number) 0 h));
-  complete = λ f. yes (eq-eqb (sheet-of s .number) 0 (ap (λ (x : Sheet). x .number) (sheet-complete s (f .0) (f .1)) ∙ f .1 .number));
+  sound = λ h. ⊎-elim (λ w. w) (λ e. absurd (passes-never s 1 (blank-is s 1 e) h)) (written-or-blank s);
+  complete = λ w. ⊎-elim
+      (λ f. passes-other s 1 0 (f .number) (λ z. omega arith))
+      (λ b. ⊎-elim (λ e. absurd (sheet-refused s .0 e w)) (λ e. passes-other s 1 12 (blank-is s 12 e) (λ z. omega arith)) b)
+      (sheet-cases s);
+}
+
+crowd-check-exact : (s : List ℕ) → Exact (crowd-check s)
+crowd-check-exact s = record {
+  sound = λ h c. passes-never s 12 (blank-is s 12 (sheet-crowded s .1 c)) h;
+  complete = λ w. ⊎-elim
+      (λ f. passes-other s 12 0 (f .number) (λ z. omega arith))
+      (λ b. ⊎-elim (λ e. passes-other s 12 1 (blank-is s 1 e) (λ z. omega arith)) (λ e. absurd (w (sheet-crowded s .0 e))) b)
+      (sheet-cases s);
 }
 
 requirement-check-exact : (r : List ℕ) → Exact (requirement-check r)
@@ -83,92 +165,123 @@ table-run-exact c t step drift =
     let p = exact-parts (table-checks c t) rest (exact-checks c t step drift CELLS) in
     exact-append (table-checks c t) (rows-check c ∷ rest) (p .0) (λ q. (record { sound = leb→le (rows c) ROWS; complete = le→leb (rows c) ROWS }, λ _. p .1 q))
 
-pub exact : (s : List ℕ) → AllExact (whole-run s)
-exact s = (
+pub exact : (s : List ℕ) (k : ℕ) → AllExact (whole-run s k)
+exact s k = (
   sheet-check-exact s,
-  λ _. (requirement-check-exact (requirement-in s), λ _. table-run-exact (measured (sheet-of s) (listing-in s)) (requirement-of (requirement-in s) .table) (sheet-of s .step) (sheet-of s .drift)),
+  λ _. (crowd-check-exact s, λ _. (requirement-check-exact (requirement-in s k), λ _. table-run-exact (measured (head-in s) (listing-in s)) (requirement-of (requirement-in s k) .table) (head-in s .step) (head-in s .drift))),
 )
 
--- a number m is answered exactly when its condition applies and no earlier one does
-pub number-refused : (s : List ℕ) → (answer-of-text s .number ≡ 0 → ⊥) → Refused (whole-run s) (answer-of-text s .number)
-number-refused s h = subst (Refused (whole-run s)) (sym (order s)) (refused (whole-run s) (exact s) (λ e. h (order s ∙ e)))
+module _ (s : List ℕ) (k : ℕ) where
+  -- a number m is answered exactly when its condition applies and no earlier one does
+  pub number-refused : (answer-to s k .number ≡ 0 → ⊥) → Refused (whole-run s k) (answer-to s k .number)
+  number-refused h = subst (Refused (whole-run s k)) (sym (order s k)) (refused (whole-run s k) (exact s k) (λ e. h (order s k ∙ e)))
 
-pub refused-number : (s : List ℕ) (m : ℕ) → Refused (whole-run s) m → answer-of-text s .number ≡ m
-refused-number s m r = order s ∙ first-is (whole-run s) (exact s) r
+  pub refused-number : (m : ℕ) → Refused (whole-run s k) m → answer-to s k .number ≡ m
+  refused-number m r = order s k ∙ first-is (whole-run s k) (exact s k) r
 
--- and 0 exactly when none applies
-pub number-none : (s : List ℕ) → answer-of-text s .number ≡ 0 → Passed (whole-run s)
-number-none s e = passed (whole-run s) tt (exact s) (sym (order s) ∙ e)
+  -- and 0 exactly when none applies
+  pub number-none : answer-to s k .number ≡ 0 → Passed (whole-run s k)
+  number-none e = passed (whole-run s k) tt (exact s k) (sym (order s k) ∙ e)
 
-pub none-number : (s : List ℕ) → Passed (whole-run s) → answer-of-text s .number ≡ 0
-none-number s p = order s ∙ none-fails (whole-run s) (exact s) p
+  pub none-number : Passed (whole-run s k) → answer-to s k .number ≡ 0
+  none-number p = order s k ∙ none-fails (whole-run s k) (exact s k) p
 
--- under a refusal nothing but its number is handed back, else the figures
-module _ (s : List ℕ) where
-  abbrev sheet : Sheet
-  sheet = sheet-of s
+  -- under a refusal nothing but its number is handed back, else the figures
+  abbrev head : Head
+  head = head-in s
 
   abbrev recording : Card
-  recording = measured (sheet-of s) (listing-in s)
+  recording = measured (head-in s) (listing-in s)
 
   abbrev table : Table
-  table = requirement-of (requirement-in s) .table
+  table = requirement-of (requirement-in s k) .table
 
-  pub refused-alone : (answer-of-text s .number ≡ 0 → ⊥) → answer-of-text s ≡ refused-by (answer-of-text s .number)
+  pub refused-alone : (answer-to s k .number ≡ 0 → ⊥) → answer-to s k ≡ refused-by (answer-to s k .number)
   unfolding answer-for
   refused-alone h = ⊎-elim
-      (λ e. sym (sheet-read s e) ∙ (sym (only-number (first (run s)) recording table (sheet .step) (sheet .drift) (filled-of (listing-in s)) (λ z. h (run-number s e ∙ z))) ∙ ap refused-by (sym (run-number s e))))
-      (λ b. let r = sheet-refused s (blank-number b) in sym r ∙ ap (λ (o : Outcome). refused-by (o .number)) r)
-      (sheet-or-blank s)
+      (λ e. sym (answer-read s k e) ∙ (sym (only-number (first (run s k)) recording table (head .step) (head .drift) (filled-of (listing-in s)) (λ z. h (run-number s k e ∙ z))) ∙ ap refused-by (sym (run-number s k e))))
+      (λ b. let r = answer-refused s k b in sym r ∙ ap (λ (o : Outcome). refused-by (o .number)) r)
+      (sheet-either s)
 
-  pub figures-are : answer-of-text s .number ≡ 0 → answer-of-text s ≡ figures recording table (sheet .step) (sheet .drift) (filled-of (listing-in s))
+  pub figures-are : answer-to s k .number ≡ 0 → answer-to s k ≡ figures recording table (head .step) (head .drift) (filled-of (listing-in s))
   unfolding answer-for
   figures-are h = ⊎-elim
-      (λ e. sym (sheet-read s e) ∙ unless-none _ _ (sym (run-number s e) ∙ h))
-      (λ b. absurd (let y : _≡_ {A = ℕ} 1 0 = ap (λ (o : Outcome). o .number) (sheet-refused s (blank-number b)) ∙ h in omega arith))
-      (sheet-or-blank s)
+      (λ e. sym (answer-read s k e) ∙ unless-none _ _ (sym (run-number s k e) ∙ h))
+      (λ b. absurd (b (ap (λ (o : Outcome). o .number) (answer-refused s k b) ∙ h)))
+      (sheet-either s)
 
   -- ---- demand 3, from text to verdict
 
   -- number 0 of the whole run is number 0 of the verdict
-  verdict-accepts : answer-of-text s .number ≡ 0 → verdict-judged recording table (sheet .step) (sheet .drift) CELLS .number ≡ 0
+  verdict-accepts : answer-to s k .number ≡ 0 → verdict-judged recording table (head .step) (head .drift) CELLS .number ≡ 0
   unfolding verdict-judged verdict-refusal
   verdict-accepts e =
-      let rest : List Check = sample-checks recording ++ (verdict-room recording table CELLS ∷ sampling-checks recording (sheet .step) (sheet .drift)) in
-      let a = first-of-whole (sheet-check s ∷ requirement-check (requirement-in s) ∷ []) (table-checks recording table ++ (rows-check recording ∷ rest)) tt (sym (order s) ∙ e) in
+      let rest : List Check = sample-checks recording ++ (verdict-room recording table CELLS ∷ sampling-checks recording (head .step) (head .drift)) in
+      let a = first-of-whole (sheet-check s ∷ crowd-check s ∷ requirement-check (requirement-in s k) ∷ []) (table-checks recording table ++ (rows-check recording ∷ rest)) tt (sym (order s k) ∙ e) in
       let b = first-of-whole (table-checks recording table) (rows-check recording ∷ rest) tt (a .1) in
       let c = first-of-whole (rows-check recording ∷ []) rest tt (b .1) in
       first-append (table-checks recording table) rest tt (b .0) ∙ c .1
 
-  verdict-of-answer : answer-of-text s .number ≡ 0 → answer-of-text s .verdict ≡ verdict-judged recording table (sheet .step) (sheet .drift) CELLS .verdict
-  verdict-of-answer e = ap (λ (o : Outcome). o .verdict) (figures-are e) ∙ sym (verdict-is recording table (sheet .step) (sheet .drift) CELLS (verdict-accepts e))
+  verdict-of-answer : answer-to s k .number ≡ 0 → answer-to s k .verdict ≡ verdict-judged recording table (head .step) (head .drift) CELLS .verdict
+  verdict-of-answer e = ap (λ (o : Outcome). o .verdict) (figures-are e) ∙ sym (verdict-is recording table (head .step) (head .drift) CELLS (verdict-accepts e))
 
-  pub holds : answer-of-text s .number ≡ 0 → answer-of-text s .verdict ≡ Holds → Shown recording (sheet .step) (sheet .drift) true (root table)
-  holds e v = verdict-holds recording table (sheet .step) (sheet .drift) CELLS (verdict-accepts e) (sym (verdict-of-answer e) ∙ v)
+  pub holds : answer-to s k .number ≡ 0 → answer-to s k .verdict ≡ Holds → Shown recording (head .step) (head .drift) true (root table)
+  holds e v = verdict-holds recording table (head .step) (head .drift) CELLS (verdict-accepts e) (sym (verdict-of-answer e) ∙ v)
 
-  pub fails : answer-of-text s .number ≡ 0 → answer-of-text s .verdict ≡ Fails → Shown recording (sheet .step) (sheet .drift) false (root table)
-  fails e v = verdict-fails recording table (sheet .step) (sheet .drift) CELLS (verdict-accepts e) (sym (verdict-of-answer e) ∙ v)
+  pub fails : answer-to s k .number ≡ 0 → answer-to s k .verdict ≡ Fails → Shown recording (head .step) (head .drift) false (root table)
+  fails e v = verdict-fails recording table (head .step) (head .drift) CELLS (verdict-accepts e) (sym (verdict-of-answer e) ∙ v)
+
+-- ---- each answer is what its requirement alone would get
+
+pub alone : (s : List ℕ) (k : ℕ) → k < answers-of s .count → answer-to s k ≡ answer-to (only k s) 0
+alone s k l =
+    let e = count-read s k l in
+    let f = sheet-sound s e in
+    answer-only (f .written) (f .few) k (omega (arith, answers-count s e, f .count))
+
+-- and the text that keeps it alone has this one answer
+pub alone-one : (s : List ℕ) (k : ℕ) → k < answers-of s .count → answers-of (only k s) .count ≡ 1
+alone-one s k l =
+    let e = count-read s k l in
+    let f = sheet-sound s e in
+    let w = only-written (f .written) k (omega (arith, answers-count s e, f .count)) in
+    let g : sheet-of (only k s) ≡ contents w = written-read w (omega arith) in
+    answers-count (only k s) (ap (λ (x : Sheet). x .number) g) ∙ ap (λ (x : Sheet). x .count) g
 
 -- ---- two runs: texts within the size limit that differ in well-written filled rows alone
 
 module _ (a b : List ℕ) (short-a : length a ≤ limit) (short-b : length b ≤ limit) (h : SameButFilled a b) where
-  abbrev answer-in : Sheet → List ℕ → Outcome
-  answer-in x s = answer-for x (listing x (rows-part s x)) (requirement-part s (x .from) (x .to))
+  sheets-same : sheet-of a ≡ sheet-of b
+  sheets-same = sheet-alike a b short-a short-b h
 
-  accepted-same : sheet-of a .number ≡ 0 → answer-of-text a ≡ answer-of-text b
-  accepted-same e =
-      let f : sheet-of a ≡ sheet-of b = sheet-alike a b short-a short-b h in
-      let g : answer-in (sheet-of a) a ≡ answer-in (sheet-of a) b = rw (rows-alike _ _ (same-behind a b h short-b e) (sheet-of a .channels), same-requirement a b h short-b e) refl in
-      sym (sheet-read a e) ∙ (g ∙ (ap (λ (x : Sheet). answer-in x b) f ∙ sheet-read b (ap (λ (x : Sheet). x .number) (sym f) ∙ e)))
+  entry-same : (e : sheet-of a .number ≡ 0) (k : ℕ) → k < sheet-of a .count → answer-to a k ≡ answer-to b k
+  entry-same e k l =
+      let f = sheet-sound a e in
+      let v = alike-written a b h short-b (f .written) in
+      let m : k < length (f .requirements) = omega (arith, f .count) in
+      let x : SameButFilled (joined (f .rows)) (joined (v .0)) = rw (joined-rows (f .written), joined-rows (v .2)) (v .1) in
+      answer-written (f .written) (f .few) k m
+      ∙ (ap (λ (l : Listing). answer-for (head-in a) l (getD (f .requirements) k [])) (rows-alike _ _ x (head-in a .channels))
+      ∙ sym (answer-written (v .2) (f .few) k m))
 
-  refused-same : sheet-of a ≡ blank → answer-of-text a ≡ answer-of-text b
-  refused-same e =
-      let f : sheet-of b ≡ blank = sym (sheet-alike a b short-a short-b h) ∙ e in
-      sym (sheet-refused a (blank-number e)) ∙ sheet-refused b (blank-number f)
+  read-same : sheet-of a .number ≡ 0 → answers-of a ≡ answers-of b
+  read-same e =
+      let z : sheet-of b .number ≡ 0 = ap (λ (x : Sheet). x .number) (sym sheets-same) ∙ e in
+      let c : entries a (sheet-of a) ≡ fill 0 (sheet-of a .count) (λ k. answer-for (head-in b) (listing-in b) (requirement-in b k)) no-entries =
+      fill-cong 0 (sheet-of a .count) _ _ no-entries (λ k l. answer-read a k e ∙ (entry-same e k l ∙ sym (answer-read b k z))) in
+      sym (answers-read a e)
+      ∙ (ap (λ (x : List Outcome). record { number = 0; count = sheet-of a .count; entries = x }) c
+      ∙ (ap (λ (n : ℕ). record { number = 0; count = n; entries = fill 0 n (λ k. answer-for (head-in b) (listing-in b) (requirement-in b k)) no-entries }) (ap (λ (x : Sheet). x .count) sheets-same)
+      ∙ answers-read b z))
 
-  -- get the same answer, and print the same bytes
-  pub same-answer : answer-of-text a ≡ answer-of-text b
-  same-answer = ⊎-elim accepted-same refused-same (sheet-or-blank a)
+  refused-same : (sheet-of a .number ≡ 0 → ⊥) → answers-of a ≡ answers-of b
+  refused-same n =
+      let f : sheet-of a .number ≡ sheet-of b .number = ap (λ (x : Sheet). x .number) sheets-same in
+      sym (answers-refused a n) ∙ (ap (λ (m : ℕ). record { number = m; count = 0; entries = no-entries }) f ∙ answers-refused b (λ z. n (f ∙ z)))
 
-  pub same-line : line-of (answer-of-text a) ≡ line-of (answer-of-text b)
-  same-line = ap line-of same-answer
+  -- get the same answers, and print the same bytes
+  pub same-answers : answers-of a ≡ answers-of b
+  same-answers = ⊎-elim read-same refused-same (sheet-either a)
+
+  pub same-lines : lines-of (answers-of a) ≡ lines-of (answers-of b)
+  same-lines = ap lines-of same-answers

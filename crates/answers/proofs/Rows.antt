@@ -26,8 +26,8 @@ use Rattle.sheet_rows.specs.declared.Answer.{Answer}
 use Rattle.sheet_rows.specs.Answer.{measured-of, filled-of, has-room, answer-of, times-of, values-of, in-front}
 use Rattle.sheet_rows.proofs.Storing.{length-times, length-values}
 use Rattle.sheet_rows.proofs.Numbers.{channels-are, room-for, for-room}
-use Rattle.sheets.specs.declared.Sheet.{Sheet}
-use Rattle.answers.specs.Answers.{ROWS, VALUES, CELLS, listing, measured, table-run, refused-by, answered as outcome-by, table-answer, Checked}
+use Rattle.heads.specs.declared.Head.{Head}
+use Rattle.answers.specs.Answers.{ROWS, VALUES, CELLS, measured, table-run, refused-by, answered as outcome-by, table-answer, Checked}
 use Rattle.answers.proofs.Figures.{only-number}
 use Rattle.answers.proofs.Runs.{run-fits, run-wide, run-many, none-refused}
 
@@ -73,85 +73,86 @@ few r ch h = room-for r ch ROWS VALUES h .times-hold
 
 -- ---- what the reader answers
 
-pub record Read (x : Sheet) (l : Listing) (a : Answer) : Type 0 where
+pub record Read (h : Head) (l : Listing) (a : Answer) : Type 0 where
   pub counted : a .rows ≡ measured-of l
   pub filled : a .filled ≡ filled-of l
   pub fits : measured-of l ≤ ROWS
-  pub narrow : x .channels ≤ 8
+  pub narrow : h .channels ≤ 8
 
-module _ (s : List ℕ) (x : Sheet) (p : Checked s (x .channels)) where
+module _ (s : List ℕ) (h : Head) (p : Checked s (h .channels)) where
   abbrev answer : Answer
-  answer = answer-of s (x .channels) ROWS VALUES
+  answer = answer-of s (h .channels) ROWS VALUES
 
   short : leb (length s) limit ≡ true
   short = le-leb (length s) limit (p .short)
 
-  four : channels-in-range (x .channels) ≡ false → answer .number ≡ 4
+  four : channels-in-range (h .channels) ≡ false → answer .number ≡ 4
   unfolding first
   four w = rw (short, w) refl
 
-  module _ (w : channels-in-range (x .channels) ≡ true) where
-    five : has-room (measured-of (listing x s)) (x .channels) ROWS VALUES ≡ false → answer .number ≡ 5
+  module _ (w : channels-in-range (h .channels) ≡ true) where
+    five : has-room (measured-of (rows-of (h .channels) s)) (h .channels) ROWS VALUES ≡ false → answer .number ≡ 5
     unfolding first
     five m = rw (short, w, p .whole w, m) refl
 
-    none : has-room (measured-of (listing x s)) (x .channels) ROWS VALUES ≡ true → answer ≡ record { number = 0; rows = measured-of (listing x s); filled = filled-of (listing x s) }
+    none : has-room (measured-of (rows-of (h .channels) s)) (h .channels) ROWS VALUES ≡ true → answer ≡ record { number = 0; rows = measured-of (rows-of (h .channels) s); filled = filled-of (rows-of (h .channels) s) }
     unfolding first
     none m = rw (short, w, p .whole w, m) refl
 
-    narrow : x .channels ≤ 8
-    narrow = channels-are (x .channels) w .1
+    narrow : h .channels ≤ 8
+    narrow = channels-are (h .channels) w .1
 
-  pub rows-refused : (answer .number ≡ 0 → ⊥) → (channels-obey (x .predicates) (x .channels) ≡ false) ⊎ (suc ROWS ≤ measured-of (listing x s))
-  rows-refused h = by-test (channels-in-range (x .channels))
-      (λ w. by-test (has-room (measured-of (listing x s)) (x .channels) ROWS VALUES)
-      (λ m. absurd (h (ap (λ (a : Answer). a .number) (none w m))))
-      (λ m. inr (many (measured-of (listing x s)) (x .channels) (narrow w) m)))
-      (λ w. inl (wide (x .channels) (x .predicates) w))
+  pub rows-refused : (answer .number ≡ 0 → ⊥) → (channels-obey (h .predicates) (h .channels) ≡ false) ⊎ (suc ROWS ≤ measured-of (rows-of (h .channels) s))
+  rows-refused q = by-test (channels-in-range (h .channels))
+      (λ w. by-test (has-room (measured-of (rows-of (h .channels) s)) (h .channels) ROWS VALUES)
+      (λ m. absurd (q (ap (λ (a : Answer). a .number) (none w m))))
+      (λ m. inr (many (measured-of (rows-of (h .channels) s)) (h .channels) (narrow w) m)))
+      (λ w. inl (wide (h .channels) (h .predicates) w))
 
-  pub rows-read : answer .number ≡ 0 → Read x (listing x s) answer
-  rows-read h = by-test (channels-in-range (x .channels))
-      (λ w. by-test (has-room (measured-of (listing x s)) (x .channels) ROWS VALUES)
+  pub rows-read : answer .number ≡ 0 → Read h (rows-of (h .channels) s) answer
+  rows-read q = by-test (channels-in-range (h .channels))
+      (λ w. by-test (has-room (measured-of (rows-of (h .channels) s)) (h .channels) ROWS VALUES)
       (λ m. record {
         counted = ap (λ (a : Answer). a .rows) (none w m);
         filled = ap (λ (a : Answer). a .filled) (none w m);
-        fits = few (measured-of (listing x s)) (x .channels) m;
+        fits = few (measured-of (rows-of (h .channels) s)) (h .channels) m;
         narrow = narrow w;
       })
-      (λ m. absurd (let e : _≡_ {A = ℕ} 5 0 = sym (five w m) ∙ h in omega arith)))
-      (λ w. absurd (let e : _≡_ {A = ℕ} 4 0 = sym (four w) ∙ h in omega arith))
+      (λ m. absurd (let e : _≡_ {A = ℕ} 5 0 = sym (five w m) ∙ q in omega arith)))
+      (λ w. absurd (let e : _≡_ {A = ℕ} 4 0 = sym (four w) ∙ q in omega arith))
 
   -- ---- what is judged: no rows where they are refused, else what stands in front of the slices
 
-  pub none-judged : (answer .number ≡ 0 → ⊥) → (t : Table) → refused-by (first (checks (card (x .predicates) (x .channels) [] []) t)) ≡ table-answer x (listing x s) t
-  none-judged h t =
-      let c : Card = measured x (listing x s) in
-      let e : first (checks (card (x .predicates) (x .channels) [] []) t) ≡ first (table-run c t (x .step) (x .drift)) =
-      ⊎-elim (λ w. run-wide c t (x .step) (x .drift) w) (λ m. run-many c t (x .step) (x .drift) (rw (times-long (listing x s)) m)) (rows-refused h) in
-      only-number _ c t (x .step) (x .drift) (filled-of (listing x s)) (none-refused c t (x .step) (x .drift))
-      ∙ ap (λ (n : ℕ). outcome-by n c t (x .step) (x .drift) (filled-of (listing x s))) e
+  pub none-judged : (answer .number ≡ 0 → ⊥) → (t : Table) → refused-by (first (checks (card (h .predicates) (h .channels) [] []) t)) ≡ table-answer h (rows-of (h .channels) s) t
+  none-judged q t =
+      let c : Card = measured h (rows-of (h .channels) s) in
+      let e : first (checks (card (h .predicates) (h .channels) [] []) t) ≡ first (table-run c t (h .step) (h .drift)) =
+      ⊎-elim (λ w. run-wide c t (h .step) (h .drift) w) (λ m. run-many c t (h .step) (h .drift) (rw (times-long (rows-of (h .channels) s)) m)) (rows-refused q) in
+      only-number _ c t (h .step) (h .drift) (filled-of (rows-of (h .channels) s)) (none-refused c t (h .step) (h .drift))
+      ∙ ap (λ (n : ℕ). outcome-by n c t (h .step) (h .drift) (filled-of (rows-of (h .channels) s))) e
 
   module _ (a : Answer) (e : a ≡ answer) (z : a .number ≡ 0) where
-    read : Read x (listing x s) a
-    read = subst (λ (b : Answer). Read x (listing x s) b) (sym e) (rows-read (ap (λ (b : Answer). b .number) (sym e) ∙ z))
+    read : Read h (rows-of (h .channels) s) a
+    read = subst (λ (b : Answer). Read h (rows-of (h .channels) s) b) (sym e) (rows-read (ap (λ (b : Answer). b .number) (sym e) ∙ z))
 
     pub rows-few : a .rows ≤ ROWS
     rows-few = omega (arith, read .counted, read .fits)
 
-    pub values-few : a .rows * x .channels ≤ VALUES
-    values-few = product (a .rows) (x .channels) rows-few (read .narrow)
+    pub values-few : a .rows * h .channels ≤ VALUES
+    values-few = product (a .rows) (h .channels) rows-few (read .narrow)
 
-    module _ (times times₀ : List ℕ) (values values₀ : List ℤ) (f : times ≡ unless-refused (a .number) (in-front (times-of (listing x s)) times₀) times₀) (g : values ≡ unless-refused (a .number) (in-front (values-of (listing x s)) values₀) values₀) where
-      times-taken : take (a .rows) times ≡ times-of (listing x s)
-      times-taken = rw (f, z) (front-taken (times-of (listing x s)) times₀ (a .rows) (read .counted ∙ sym (times-long (listing x s))))
+    -- what was stored stands in front
+    pub times-taken : (times times₀ : List ℕ) → times ≡ unless-refused (a .number) (in-front (times-of (rows-of (h .channels) s)) times₀) times₀ → take (a .rows) times ≡ times-of (rows-of (h .channels) s)
+    times-taken times times₀ f = rw (f, z) (front-taken (times-of (rows-of (h .channels) s)) times₀ (a .rows) (read .counted ∙ sym (times-long (rows-of (h .channels) s))))
 
-      values-taken : take (a .rows * x .channels) values ≡ values-of (listing x s)
-      values-taken = rw (g, z) (front-taken (values-of (listing x s)) values₀ (a .rows * x .channels) (ap (λ (n : ℕ). n * x .channels) (read .counted) ∙ sym (values-long (x .channels) s)))
+    pub values-taken : (values values₀ : List ℤ) → values ≡ unless-refused (a .number) (in-front (values-of (rows-of (h .channels) s)) values₀) values₀
+        → take (a .rows * h .channels) values ≡ values-of (rows-of (h .channels) s)
+    values-taken values values₀ g = rw (g, z) (front-taken (values-of (rows-of (h .channels) s)) values₀ (a .rows * h .channels) (ap (λ (n : ℕ). n * h .channels) (read .counted) ∙ sym (values-long (h .channels) s)))
 
-      pub rows-judged : (t : Table)
-          → outcome-by (verdict-refusal (card (x .predicates) (x .channels) (take (a .rows) times) (take (a .rows * x .channels) values)) t (x .step) (x .drift) CELLS) (card (x .predicates) (x .channels) (take (a .rows) times) (take (a .rows * x .channels) values)) t (x .step) (x .drift) (a .filled)
-          ≡ table-answer x (listing x s) t
-      rows-judged t =
-          let c : Card = measured x (listing x s) in
-          let n : rows c ≤ ROWS = rw (times-long (listing x s)) (read .fits) in
-          rw (times-taken, values-taken, read .filled, run-fits c t (x .step) (x .drift) n) refl
+    pub rows-judged : (times : List ℕ) (values : List ℤ) → take (a .rows) times ≡ times-of (rows-of (h .channels) s) → take (a .rows * h .channels) values ≡ values-of (rows-of (h .channels) s) → (t : Table)
+        → outcome-by (verdict-refusal (card (h .predicates) (h .channels) (take (a .rows) times) (take (a .rows * h .channels) values)) t (h .step) (h .drift) CELLS) (card (h .predicates) (h .channels) (take (a .rows) times) (take (a .rows * h .channels) values)) t (h .step) (h .drift) (a .filled)
+        ≡ table-answer h (rows-of (h .channels) s) t
+    rows-judged times values f g t =
+        let c : Card = measured h (rows-of (h .channels) s) in
+        let n : rows c ≤ ROWS = rw (times-long (rows-of (h .channels) s)) (read .fits) in
+        rw (f, g, read .filled, run-fits c t (h .step) (h .drift) n) refl

@@ -1,71 +1,84 @@
--- The parts of a text in their order: the sheet, its requirement, its rows. What the sheet reader accepts has its places inside the text and its rows checked.
+-- The parts of a text in turn: the sheet, then its requirements. A sheet that its reader accepts has its places inside the text and its rows checked.
 -- Assumes nothing.
-use mathlib.Core.Path.{_≡_, refl, sym, ap}
-use mathlib.Core.List.{List, _++_}
-use Prim.Native.Nat.{ℕ, suc, _+_, _-_}
+use mathlib.Core.Path.{_≡_, refl, sym, ap, _∙_}
+use mathlib.Core.List.{List}
+use Prim.Native.Nat.{ℕ, _-_, _<_}
 use native.Mathlib.Omega.{arith}
-use lib.ListN.{length, drop, length-drop}
+use lib.ListN.{length, getD, drop, length-drop}
 use borrow.Author.Tests.{eq-eqb, ne-eqb}
+use Rattle.lists.proofs.Filled.{fill-in}
 use Rattle.tables.specs.declared.Table.{Table}
 use Rattle.refusals.specs.First.{first}
 use Rattle.refusals.proofs.First.{first-passes, unless-none, unless-some}
 use Rattle.requirements.specs.Requirement.{requirement-of}
-use Rattle.text.specs.Bytes.{bytes}
-use Rattle.text.proofs.Places.{length-behind}
 use Rattle.row_lines.specs.Reading.{Listing}
 use Rattle.row_lines.proofs.Exact.{rows-exact}
+use Rattle.heads.specs.declared.Head.{Head}
+use Rattle.requirement_lines.specs.Form.{places-from}
+use Rattle.requirement_lines.proofs.Sixteen.{sixteen-long}
+use Rattle.lines.specs.Lines.{size}
 use Rattle.sheets.specs.declared.Sheet.{Sheet}
 use Rattle.sheets.specs.Form.{Form}
 use Rattle.sheets.specs.Sheets.{sheet-of}
 use Rattle.sheets.proofs.Exact.{sheet-sound}
-use Rattle.sheets.proofs.Behind.{behind, rows-behind}
+use Rattle.sheets.proofs.Behind.{rows-behind, rows-inside, requirement-holds}
 use Rattle.sheet_rows.specs.Answer.{filled-of}
-use Rattle.answers.specs.Answers.{rows-part, measured, requirement-check, table-run, answered, refused-by, table-answer, answer-for, requirement-in, listing-in, answer-of-text, Checked, Placed}
+use Rattle.outcomes.specs.declared.Outcome.{Outcome}
+use Rattle.outcomes.specs.declared.Outcomes.{Outcomes}
+use Rattle.answers.specs.Answers.{rows-part, measured, requirement-check, table-run, answered, refused-by, table-answer, answer-for, head-in, listing-in, requirement-in, requirement-part, listing, answer-to, no-entries, entries, answers-of, Checked, Placed}
 
 -- ---- the requirement
 
-module _ (x : Sheet) (l : Listing) (r : List ℕ) where
-  pub requirement-refused : (requirement-of r .refusal ≡ 0 → ⊥) → refused-by 2 ≡ answer-for x l r
+module _ (h : Head) (l : Listing) (r : List ℕ) where
+  pub requirement-refused : (requirement-of r .refusal ≡ 0 → ⊥) → refused-by 2 ≡ answer-for h l r
   unfolding answer-for first
-  requirement-refused h = rw (ne-eqb (requirement-of r .refusal) 0 h) refl
+  requirement-refused n = rw (ne-eqb (requirement-of r .refusal) 0 n) refl
 
-  pub requirement-read : requirement-of r .refusal ≡ 0 → table-answer x l (requirement-of r .table) ≡ answer-for x l r
+  pub requirement-read : requirement-of r .refusal ≡ 0 → table-answer h l (requirement-of r .table) ≡ answer-for h l r
   unfolding answer-for
-  requirement-read h =
+  requirement-read n =
       let t : Table = requirement-of r .table in
-      ap (λ (n : ℕ). answered n (measured x l) t (x .step) (x .drift) (filled-of l))
-      (sym (first-passes (requirement-check r) (table-run (measured x l) t (x .step) (x .drift)) (eq-eqb (requirement-of r .refusal) 0 h)))
+      ap (λ (m : ℕ). answered m (measured h l) t (h .step) (h .drift) (filled-of l))
+      (sym (first-passes (requirement-check r) (table-run (measured h l) t (h .step) (h .drift)) (eq-eqb (requirement-of r .refusal) 0 n)))
 
 -- ---- the sheet
 
-pub sheet-refused : (s : List ℕ) → (sheet-of s .number ≡ 0 → ⊥) → refused-by 1 ≡ answer-of-text s
-unfolding answer-of-text
-sheet-refused s h = sym (unless-some _ _ _ h)
+pub answer-refused : (s : List ℕ) (k : ℕ) → (sheet-of s .number ≡ 0 → ⊥) → refused-by (sheet-of s .number) ≡ answer-to s k
+unfolding answer-to
+answer-refused s k h = sym (unless-some _ _ _ h)
 
-pub sheet-read : (s : List ℕ) → sheet-of s .number ≡ 0 → answer-for (sheet-of s) (listing-in s) (requirement-in s) ≡ answer-of-text s
-unfolding answer-of-text
-sheet-read s h = sym (unless-none _ _ h)
+pub answer-read : (s : List ℕ) (k : ℕ) → sheet-of s .number ≡ 0 → answer-for (head-in s) (listing-in s) (requirement-in s k) ≡ answer-to s k
+unfolding answer-to
+answer-read s k h = sym (unless-none _ _ h)
+
+module _ (s : List ℕ) where
+  pub answers-refused : (sheet-of s .number ≡ 0 → ⊥) → record { number = sheet-of s .number; count = 0; entries = no-entries } ≡ answers-of s
+  unfolding answers-of
+  answers-refused h = sym (unless-some _ _ _ h)
+
+  pub answers-read : sheet-of s .number ≡ 0 → record { number = 0; count = sheet-of s .count; entries = entries s (sheet-of s) } ≡ answers-of s
+  unfolding answers-of
+  answers-read h = sym (unless-none _ _ h)
 
 -- ---- its places and rows
 
-checked : (s : List ℕ) (x : Sheet) → Form s x → Checked (rows-part s x) (x .channels)
+checked : (s : List ℕ) (x : Sheet) → Form s x → Checked (rows-part s x) (x .head .channels)
 checked s x f = record {
-  short = let e : length (drop (x .rows) s) ≡ length s - x .rows = length-drop (x .rows) s in omega (arith, f .short);
+  short = let e : length (drop (x .rows) s) ≡ length s - x .rows = length-drop (x .rows) s in omega (arith, f .written .short);
   whole = λ w.
-      let r = f .listed w in
-      rw (rows-exact (x .channels) (rows-part s x) (r .0) (r .1) .1 (rw (rows-behind s x f) (r .2))) refl;
+      let r = f .written .listed w in
+      rw (rows-exact (x .head .channels) (rows-part s x) (r .0) (r .1) .1 (rw (rows-behind s x f) (r .2))) refl;
 }
 
-placed-by : (s : List ℕ) (x : Sheet) → Form s x → Placed s x (x .from) (x .to)
-placed-by s x f =
-    let b = behind s x f in
-    let e : length s - x .from ≡ length (f .requirement) + suc (length (b .rest)) = length-behind s (x .from) (f .requirement) (bytes "\n" ++ b .rest) (b .begins) in
-    record {
-      ordered = omega (arith, f .to);
-      inside = omega (arith, f .to);
-      behind = omega (arith, f .to, f .behind);
-      checked = checked s x f;
-    }
+placed-by : (s : List ℕ) (x : Sheet) → Form s x → Placed s x
+placed-by s x f = record {
+  few = omega (arith, f .count, f .few);
+  long = ap length (f .places) ∙ sixteen-long (places-from (size (f .written .front)) (f .requirements));
+  ordered = λ k l. requirement-holds s x f k (record { from = 0; to = 0 }) l .ordered;
+  inside = λ k l. requirement-holds s x f k (record { from = 0; to = 0 }) l .inside;
+  behind = rows-inside s x f;
+  checked = checked s x f;
+}
 
-pub placed : (s : List ℕ) → sheet-of s .number ≡ 0 → Placed s (sheet-of s) (sheet-of s .from) (sheet-of s .to)
+pub placed : (s : List ℕ) → sheet-of s .number ≡ 0 → Placed s (sheet-of s)
 placed s h = placed-by s (sheet-of s) (sheet-sound s h)

@@ -1,12 +1,13 @@
--- The answer to a whole text: the number of the first refusal that applies to the sheet, its requirement and its measured rows, or else the figures.
+-- The answers to a whole text: for each of its requirements the number of the first refusal that applies to the sheet, the requirement and the measured rows, or else the figures.
 -- Assumes nothing.
 use mathlib.Core.List.{List, _∷_, _++_}
 use mathlib.Core.Path.{_≡_}
-use mathlib.Core.Bool.{true, false}
-use Prim.Native.Nat.{ℕ, _-_, _≤_}
+use mathlib.Core.Bool.{true, false, not}
+use Prim.Native.Nat.{ℕ, _-_, _*_, _≤_, _<_}
 use lib.Dec.{leb, eqb}
-use lib.ListN.{length, take, drop}
-use lib.IntN.{pos}
+use lib.ListN.{length, getD, take, drop, replicate}
+use lib.IntN.{ℤ, pos}
+use Rattle.lists.specs.Fill.{fill}
 use Rattle.recordings.specs.declared.Verdict.the-variants.{NotShown}
 use Rattle.recordings.specs.Card.{Card, rows, card}
 use Rattle.recordings.specs.Margin.{margin as margin-at}
@@ -21,11 +22,15 @@ use Rattle.grammar.specs.Tree.{Tree}
 use Rattle.grammar.specs.Grammar.{Requires}
 use Rattle.requirements.specs.Requirement.{requirement-of}
 use Rattle.row_lines.specs.Reading.{limit, channels-in-range, Listing, is-broken, rows-of}
-use Rattle.sheet_rows.specs.Answer.{times-of, values-of, filled-of}
+use Rattle.sheet_rows.specs.declared.Answer.{Answer as RowsAnswer}
+use Rattle.sheet_rows.specs.Answer.{answer-of, times-of, values-of, filled-of}
+use Rattle.heads.specs.declared.Head.{Head}
+use Rattle.requirement_lines.specs.declared.Place.{Place}
 use Rattle.sheets.specs.declared.Sheet.{Sheet}
-use Rattle.sheets.specs.Form.{Form}
+use Rattle.sheets.specs.Form.{Written, Crowded}
 use Rattle.sheets.specs.Sheets.{sheet-of}
-use Rattle.answers.specs.declared.Outcome.{Outcome}
+use Rattle.outcomes.specs.declared.Outcome.{Outcome}
+use Rattle.outcomes.specs.declared.Outcomes.{Outcomes}
 
 -- room for 2,048 measured rows of up to eight channels, and for 8,192 cells
 abbrev pub ROWS : ℕ
@@ -37,23 +42,35 @@ VALUES = 16_384
 abbrev pub CELLS : ℕ
 CELLS = 8_192
 
--- the rows stand behind the head, a requirement's bytes between two places of it
+-- ---- the parts of a text: requirement k stands at place k, and the rows behind the requirements
+abbrev pub place-of : Sheet → ℕ → Place
+place-of x k = getD (x .requirements) k (record { from = 0; to = 0 })
+
+abbrev pub requirement-part : List ℕ → Sheet → ℕ → List ℕ
+requirement-part s x k = take (place-of x k .to - place-of x k .from) (drop (place-of x k .from) s)
+
 abbrev pub rows-part : List ℕ → Sheet → List ℕ
 rows-part s x = drop (x .rows) s
 
-abbrev pub requirement-part : List ℕ → ℕ → ℕ → List ℕ
-requirement-part s from to = take (to - from) (drop from s)
-
 -- what the rows say, and the recording of the measured ones
-abbrev pub listing : Sheet → List ℕ → Listing
-listing x rows = rows-of (x .channels) rows
+abbrev pub listing : List ℕ → Sheet → Listing
+listing s x = rows-of (x .head .channels) (rows-part s x)
 
-abbrev pub measured : Sheet → Listing → Card
-measured x l = card (x .predicates) (x .channels) (times-of l) (values-of l)
+abbrev pub measured : Head → Listing → Card
+measured h l = card (h .predicates) (h .channels) (times-of l) (values-of l)
 
+-- ---- the refusals, in the order in which they count
 -- 1: a line breaks the text form or is missing, or the text is too long
 abbrev pub sheet-check : List ℕ → Check
-sheet-check s = record { number = 1; sentence = (x : Sheet) × Form s x; passes = eqb (sheet-of s .number) 0 }
+sheet-check s = record {
+  number = 1;
+  sentence = (h : Head) × (rs : List (List ℕ)) × (ls : List (List ℕ)) × Written s h rs ls;
+  passes = not (eqb (sheet-of s .number) 1);
+}
+
+-- 12: a seventeenth requirement
+abbrev pub crowd-check : List ℕ → Check
+crowd-check s = record { number = 12; sentence = Crowded s → ⊥; passes = not (eqb (sheet-of s .number) 12) }
 
 -- 2: requirement text outside the grammar or its limits
 abbrev pub requirement-check : List ℕ → Check
@@ -63,13 +80,13 @@ requirement-check r = record { number = 2; sentence = (a : Tree) × Requires r a
 abbrev pub rows-check : Card → Check
 rows-check c = record { number = 5; sentence = rows c ≤ ROWS; passes = leb (rows c) ROWS }
 
--- refusals 3 to 11 of a table, in the order in which they count
+-- refusals 3 to 11 of a table
 abbrev pub table-run : Card → Table → ℕ → ℕ → List Check
 table-run c t step drift = table-checks c t ++ (rows-check c ∷ (sample-checks c ++ (verdict-room c t CELLS ∷ sampling-checks c step drift)))
 
 -- refusals 2 to 11 of a requirement's bytes
-abbrev pub requirement-run : Sheet → Listing → List ℕ → List Check
-requirement-run x l r = requirement-check r ∷ table-run (measured x l) (requirement-of r .table) (x .step) (x .drift)
+abbrev pub requirement-run : Head → Listing → List ℕ → List Check
+requirement-run h l r = requirement-check r ∷ table-run (measured h l) (requirement-of r .table) (h .step) (h .drift)
 
 -- a refusal's number, and nothing else
 abbrev pub refused-by : ℕ → Outcome
@@ -91,33 +108,63 @@ abbrev pub answered : ℕ → Card → Table → ℕ → ℕ → ℕ → Outcome
 answered n c t step drift filled = unless-refused n (figures c t step drift filled) (refused-by n)
 
 -- the answer for a table of a sheet, and for a requirement's bytes: functions of the head, the measured rows and the count of filled ones
-abbrev pub table-answer : Sheet → Listing → Table → Outcome
-table-answer x l t = answered (first (table-run (measured x l) t (x .step) (x .drift))) (measured x l) t (x .step) (x .drift) (filled-of l)
+abbrev pub table-answer : Head → Listing → Table → Outcome
+table-answer h l t = answered (first (table-run (measured h l) t (h .step) (h .drift))) (measured h l) t (h .step) (h .drift) (filled-of l)
 
-unfoldable pub answer-for : Sheet → Listing → List ℕ → Outcome
-answer-for x l r = answered (first (requirement-run x l r)) (measured x l) (requirement-of r .table) (x .step) (x .drift) (filled-of l)
+unfoldable pub answer-for : Head → Listing → List ℕ → Outcome
+answer-for h l r = answered (first (requirement-run h l r)) (measured h l) (requirement-of r .table) (h .step) (h .drift) (filled-of l)
 
--- the requirement and the rows of a text, and its refusals 1 to 11
-abbrev pub requirement-in : List ℕ → List ℕ
-requirement-in s = requirement-part s (sheet-of s .from) (sheet-of s .to)
+-- ---- the answers to a text
+abbrev pub head-in : List ℕ → Head
+head-in s = sheet-of s .head
 
 abbrev pub listing-in : List ℕ → Listing
-listing-in s = listing (sheet-of s) (rows-part s (sheet-of s))
+listing-in s = listing s (sheet-of s)
 
-abbrev pub whole-run : List ℕ → List Check
-whole-run s = sheet-check s ∷ requirement-run (sheet-of s) (listing-in s) (requirement-in s)
+abbrev pub requirement-in : List ℕ → ℕ → List ℕ
+requirement-in s k = requirement-part s (sheet-of s) k
 
--- the answer to a text
-unfoldable pub answer-of-text : List ℕ → Outcome
-answer-of-text s = unless-refused (sheet-of s .number) (answer-for (sheet-of s) (listing-in s) (requirement-in s)) (refused-by 1)
+-- refusals 1, 12 and 2 to 11 of a text's requirement k
+abbrev pub whole-run : List ℕ → ℕ → List Check
+whole-run s k = sheet-check s ∷ crowd-check s ∷ requirement-run (head-in s) (listing-in s) (requirement-in s k)
 
--- what the sheet reader leaves: lines behind the head that were checked, and two places of its text
+-- the answer that requirement k of a text gets
+unfoldable pub answer-to : List ℕ → ℕ → Outcome
+answer-to s k = unless-refused (sheet-of s .number) (answer-for (head-in s) (listing-in s) (requirement-in s k)) (refused-by (sheet-of s .number))
+
+-- sixteen places of no answer, and the answers of a sheet's requirements in front of them
+abbrev pub no-entries : List Outcome
+no-entries = replicate 16 (refused-by 0)
+
+abbrev pub entries : List ℕ → Sheet → List Outcome
+entries s x = fill 0 (x .count) (λ k. answer-for (x .head) (listing s x) (requirement-part s x k)) no-entries
+
+-- all answers to a text in sheet order; 1 and 12 are answered once for the whole text
+unfoldable pub answers-of : List ℕ → Outcomes
+answers-of s =
+    unless-refused (sheet-of s .number)
+    (record { number = 0; count = sheet-of s .count; entries = entries s (sheet-of s) })
+    (record { number = sheet-of s .number; count = 0; entries = no-entries })
+
+-- ---- what the readers leave
+-- lines behind the requirements that were checked
 pub record Checked (rows : List ℕ) (channels : ℕ) : Type 0 where
   pub short : length rows ≤ limit
   pub whole : channels-in-range channels ≡ true → is-broken (rows-of channels rows) ≡ false
 
-pub record Placed (s : List ℕ) (x : Sheet) (from to : ℕ) : Type 0 where
-  pub ordered : from ≤ to
-  pub inside : to ≤ length s
+-- the sheet's places are inside its text
+pub record Placed (s : List ℕ) (x : Sheet) : Type 0 where
+  pub few : x .count ≤ 16
+  pub long : length (x .requirements) ≡ 16
+  pub ordered : (k : ℕ) → k < x .count → place-of x k .from ≤ place-of x k .to
+  pub inside : (k : ℕ) → k < x .count → place-of x k .to ≤ length s
   pub behind : x .rows ≤ length s
-  pub checked : Checked (rows-part s x) (x .channels)
+  pub checked : Checked (rows-part s x) (x .head .channels)
+
+-- the rows stand in front of two slices, unless they were refused
+pub record Stored (s : List ℕ) (x : Sheet) (a : RowsAnswer) (times : List ℕ) (values : List ℤ) : Type 0 where
+  pub answer : a ≡ answer-of (rows-part s x) (x .head .channels) ROWS VALUES
+  pub times-long : length times ≡ ROWS
+  pub values-long : length values ≡ VALUES
+  pub times-read : a .number ≡ 0 → take (a .rows) times ≡ times-of (listing s x)
+  pub values-read : a .number ≡ 0 → take (a .rows * x .head .channels) values ≡ values-of (listing s x)

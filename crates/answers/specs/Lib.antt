@@ -1,3 +1,2 @@
--- The answer to a whole text, and its printed line.
+-- The answers to a whole text.
 pub mod Answers
-pub mod Printed

@@ -1,26 +1,19 @@
-// The answer to a whole text, and the line that is printed for it. Times, values and cells are arrays of its own, so that nothing lent changes.
-pub mod printed;
-
+// The answers to a whole text, one for each requirement, and the lines that are printed for it. Times, values and cells are arrays of its own, so that nothing lent changes.
 ghost use mathlib.Core.Path.{_≡_};
+ghost use Prim.Native.Nat.{_≤_, _<_};
+ghost use lib.ListN.{length};
 ghost use Rattle.margins.specs.Answers.{margin-outcome};
 ghost use Rattle.verdicts.specs.Answer.{verdict-refusal};
-ghost use Rattle.answers.specs.Answers.{CELLS, listing, rows-part, requirement-part, refused-by, answered, table-answer, answer-for, answer-of-text, Checked, Placed};
+ghost use Rattle.answers.specs.Answers.{CELLS, listing, requirement-part, refused-by, answered, answer-for, no-entries, entries, answers-of, Placed, Stored};
+ghost use Rattle.printing.specs.Output.{output, printed};
+ghost use Rattle.outcome_lines.specs.Printed.{LINES, lines-of};
 ghost use Rattle.recordings.specs.Card.{lent};
+use outcomes::Outcome;
+use outcomes::Outcomes;
 use recordings::Predicate;
 use recordings::Verdict;
 use sheets::Sheet;
 use tables::Table;
-
-// Document 01's number, 0 where nothing is refused, and the figures of the printed line.
-pub struct Outcome {
-    pub number: u64,
-    pub rows: usize,
-    pub filled: usize,
-    pub margin: i64,
-    pub hold: i64,
-    pub fail: i64,
-    pub verdict: Verdict,
-}
 
 fn refused(number: u64) -> Outcome
     ensures { λ r. ⌜ r ≡ refused-by number ⌝ }
@@ -88,56 +81,98 @@ fn judge(
     }
 }
 
-// The answer for a table over the rows behind a sheet's head. Rows that are refused are judged as none, so that 3 and 4 still come before 5.
-fn judge_rows(rows: &[u8], sheet: Sheet, table: Table) -> Outcome
-    requires { ⌜ Checked (now rows) (sheet .channels) ⌝ }
-    ensures { λ r. ⌜ r ≡ table-answer sheet (listing sheet (now (rows .entry))) table ⌝ }
+// The answer for requirement k of a sheet over the rows that were read. Rows that are refused are judged as none, so that 3 and 4 still come before 5.
+fn answer_for(
+    text: &[u8],
+    sheet: Sheet,
+    k: usize,
+    read: sheet_rows::Answer,
+    times: &[u64],
+    values: &[i64],
+) -> Outcome
+    requires { ⌜ (k < sheet .count) × Placed (now text) sheet × Stored (now text) sheet read (now times) (now values) ⌝ }
+    ensures { λ r. ⌜ r ≡ answer-for (sheet .head) (listing (now (text .entry)) sheet) (requirement-part (now (text .entry)) sheet k) ⌝ }
 {
-    let mut times = [0u64; 2048];
-    let mut values = [0i64; 16384];
-    let channels = sheet.channels;
-    let predicates = sheet.predicates;
-    let step = sheet.step;
-    let drift = sheet.drift;
-    let read = sheet_rows::read_rows(rows, channels, &mut times, &mut values);
-    if read.number != 0 {
-        let early = rules::refusal(table, predicates, channels, &times[..0], &values[..0]);
-        return refused(early);
-    }
-    let count = read.rows;
-    let wide = count * channels;
-    judge(
-        table,
-        predicates,
-        channels,
-        &times[..count],
-        &values[..wide],
-        step,
-        drift,
-        read.filled,
-    )
-}
-
-// The answer for one requirement of a sheet: the bytes from `from` up to `to` of its text.
-fn answer_for(text: &[u8], sheet: Sheet, from: usize, to: usize) -> Outcome
-    requires { ⌜ Placed (now text) sheet from to ⌝ }
-    ensures { λ r. ⌜ r ≡ answer-for sheet (listing sheet (rows-part (now (text .entry)) sheet)) (requirement-part (now (text .entry)) from to) ⌝ }
-{
+    let place = sheet.requirements[k];
+    let from = place.from;
+    let to = place.to;
     let requirement = requirements::read_requirement(&text[from..to]);
     if requirement.refusal != 0 {
         return refused(2);
     }
-    let behind = sheet.rows;
-    judge_rows(&text[behind..], sheet, requirement.table)
+    let table = requirement.table;
+    let head = sheet.head;
+    let predicates = head.predicates;
+    let channels = head.channels;
+    if read.number != 0 {
+        let early = rules::refusal(table, predicates, channels, &times[..0], &values[..0]);
+        return refused(early);
+    }
+    let rows = read.rows;
+    let wide = rows * channels;
+    judge(
+        table,
+        predicates,
+        channels,
+        &times[..rows],
+        &values[..wide],
+        head.step,
+        head.drift,
+        read.filled,
+    )
 }
 
-// The answer to a whole text.
-pub fn answer(text: &[u8]) -> Outcome
-    ensures { λ r. ⌜ r ≡ answer-of-text (now (text .entry)) ⌝ }
+// The answers for all requirements of a sheet, whose rows are read once.
+fn answer_all(text: &[u8], sheet: Sheet) -> [Outcome; 16]
+    requires { ⌜ Placed (now text) sheet ⌝ }
+    ensures { λ r. ⌜ r ≡ entries (now (text .entry)) sheet ⌝ }
+{
+    let mut times = [0u64; 2048];
+    let mut values = [0i64; 16384];
+    let rows = sheet.rows;
+    let channels = sheet.head.channels;
+    let read = sheet_rows::read_rows(&text[rows..], channels, &mut times, &mut values);
+    let none = refused(0);
+    let mut all = [none; 16];
+    let mut k: usize = 0;
+    while k < sheet.count {
+        all[k] = answer_for(text, sheet, k, read, &times, &values);
+        k += 1;
+    }
+    all
+}
+
+fn no_answers(number: u64) -> Outcomes
+    ensures { λ r. ⌜ r ≡ record { number = number; count = 0; entries = no-entries } ⌝ }
+{
+    let none = refused(0);
+    Outcomes {
+        number: number,
+        count: 0,
+        entries: [none; 16],
+    }
+}
+
+// The answers to a whole text.
+pub fn answers(text: &[u8]) -> Outcomes
+    ensures { λ r. ⌜ r ≡ answers-of (now (text .entry)) ⌝ }
 {
     let sheet = sheets::read_sheet(text);
     if sheet.number != 0 {
-        return refused(1);
+        return no_answers(sheet.number);
     }
-    answer_for(text, sheet, sheet.from, sheet.to)
+    let all = answer_all(text, sheet);
+    Outcomes {
+        number: 0,
+        count: sheet.count,
+        entries: all,
+    }
+}
+
+// The lines that are printed for a whole text, at the front of a slice; with LINES places they are whole.
+pub fn answer_lines(text: &[u8], out: &mut [u8]) -> usize
+    ensures { λ r. ⌜ output (out .exit) r ≡ printed (output (out .entry) 0) (lines-of (answers-of (now (text .entry)))) ⌝ }
+    ensures room { λ _. ⌜ length (lines-of (answers-of (now (text .entry)))) ≤ LINES ⌝ }
+{
+    outcome_lines::lines(out, 0, answers(text))
 }

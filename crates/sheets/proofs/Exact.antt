@@ -148,7 +148,7 @@ module _ {s : List ℕ} {h : Head} {rs rows : List (List ℕ)} (w : Written s h 
       let c : length (places-from at rs) ≡ length rs = places-length at rs in
       sym (read-as (blank 12) (behind-crowded s h (stored (found (places-from at rs) next)) lines-stand (omega arith)))
 
-  pub written-form : length rs ≤ MOST-REQUIREMENTS → Form s contents
+  abbrev pub written-form : length rs ≤ MOST-REQUIREMENTS → Form s contents
   written-form few = record { requirements = rs; rows = rows; written = w; few = few; count = refl; places = refl; behind = refl; number = refl }
 
   -- up to sixteen requirements, or more
