@@ -1,2 +1,4 @@
--- Laws of the printed lines: no line is longer than `LINE` (`Room`).
+-- Laws of the printed lines: none is longer than `LINE` (`Room`), those of several requirements (`Several`), and examples that compute (`Examples`).
 pub mod Room
+pub mod Several
+pub mod Examples

@@ -1,10 +1,11 @@
--- A line of 64-bit numbers has at most `LINE` bytes: each key its own, each number twenty digits and a sign.
+-- A line of 64-bit numbers has at most `LINE` bytes: each key its own, each number twenty digits and a sign. A number of two digits in front makes it at most `NUMBERED`.
 -- Assumes nothing.
-use mathlib.Core.Path.{_≡_, refl, subst}
-use mathlib.Core.List.{List, _++_}
-use Prim.Native.Nat.{ℕ, zero, suc, _+_, _≤_}
+use mathlib.Core.Path.{_≡_, refl, ap, subst}
+use mathlib.Core.List.{List, [], _∷_, _++_}
+use Prim.Native.Nat.{ℕ, zero, suc, _+_, _/_, _≤_, _<_}
 use Prim.Native.String.{String}
 use native.Mathlib.Omega.{arith}
+use native.Mathlib.Decide.{decLt}
 use lib.ListN.{length, length-append}
 use lib.IntN.{ℤ}
 use mir.Syntax.{w64}
@@ -12,10 +13,11 @@ use mir.Val.{SFits, Fits}
 use Rattle.recordings.specs.declared.Verdict.{Verdict}
 use Rattle.recordings.specs.declared.Verdict.the-variants.{Holds, Fails, NotShown}
 use Rattle.text.specs.Bytes.{bytes}
-use Rattle.printing.specs.Decimal.{decimal, decimal-signed}
+use Rattle.printing.specs.Decimal.{digit-of, decimal, decimal-signed}
+use Rattle.printing.proofs.Decimal.{decimal-one, decimal-more}
 use Rattle.printing.proofs.Lengths.{decimal-few, signed-few}
 use Rattle.outcomes.specs.declared.Outcome.{Outcome}
-use Rattle.outcome_lines.specs.Printed.{LINE, word-of, field, figures-line, refusal-line, line-by, line-of}
+use Rattle.outcome_lines.specs.Printed.{LINE, NUMBERED, word-of, field, figures-line, refusal-line, line-by, line-of, numbered-line}
 
 -- at most n bytes
 record Few (bs : List ℕ) (n : ℕ) : Type 0 where
@@ -51,7 +53,22 @@ module _ (rows filled : ℕ) (margin hold fail : ℤ) (verdict : Verdict) where
 pub refusal-few : (n : ℕ) → Fits w64 n → length (refusal-line n) ≤ LINE
 refusal-few n f = let s = joined (said "refused=" (digits n f)) (says (bytes "\n")) in omega (arith, s .few)
 
--- ---- by the answer's number
+-- a number below sixteen in front
+two : (k : ℕ) → k < 16 → Few (decimal k) 2
+two k h = record {
+  few = elim (decLt k 10) [
+    | yes s ↦ omega (arith, ap length (decimal-one k s))
+    | no s ↦ omega (arith, ap length (decimal-more k (omega arith)), length-append (decimal (k / 10)) (digit-of k ∷ []), ap length (decimal-one (k / 10) (omega arith)))
+  ];
+}
+
+pub numbered-few : (k : ℕ) (x : Outcome) → k < 16 → length (line-of x) ≤ LINE → length (numbered-line k x) ≤ NUMBERED
+numbered-few k x h l =
+    let n : Few (line-of x) LINE = record { few = l } in
+    let s = joined (joined (said "req=" (two k h)) (says (bytes " "))) n in
+    omega (arith, s .few)
+
+-- ---- by the outcome's number
 
 pub line-refused : (o : Outcome) → (o .number ≡ 0 → ⊥) → refusal-line (o .number) ≡ line-of o
 unfolding line-of

@@ -105,7 +105,7 @@ fn numbered_line(out: &mut [u8], at: usize, k: usize, outcome: Outcome) -> usize
     line(out, at, outcome)
 }
 
-// The numbered lines of the first `count` outcomes, by rising margin.
+// The numbered lines of the first `count` outcomes, in the order in which they come.
 fn numbered_lines(out: &mut [u8], at: usize, entries: [Outcome; 16], count: usize) -> usize
     ensures { λ r. ⌜ output (out .exit) r ≡ printed (output (out .entry) at) (lines-in (take count entries) (arrangement (take count entries))) ⌝ }
     ensures room { λ _. ⌜ length (lines-in (take count entries) (arrangement (take count entries))) ≤ LINES ⌝ }
@@ -122,16 +122,16 @@ fn numbered_lines(out: &mut [u8], at: usize, entries: [Outcome; 16], count: usiz
     next
 }
 
-// A single outcome's line has no number.
+// Lines have their requirements' numbers, except a single one.
 fn entry_lines(out: &mut [u8], at: usize, entries: [Outcome; 16], count: usize) -> usize
     ensures { λ r. ⌜ output (out .exit) r ≡ printed (output (out .entry) at) (entry-lines (take count entries)) ⌝ }
     ensures room { λ _. ⌜ length (entry-lines (take count entries)) ≤ LINES ⌝ }
 {
-    if count == 1 {
-        let outcome = entries[0];
-        return line(out, at, outcome);
+    if count != 1 {
+        return numbered_lines(out, at, entries, count);
     }
-    numbered_lines(out, at, entries, count)
+    let outcome = entries[0];
+    line(out, at, outcome)
 }
 
 // All that is printed for a text. With LINES places it is whole.

@@ -1,4 +1,4 @@
--- By the answer's number.
+-- By the outcome's number.
 -- Assumes nothing.
 use mathlib.Core.Path.{_≡_}
 use Rattle.numbers.proofs.Bits.{back}
