@@ -51,7 +51,7 @@ extern "C" {
 /* Refusals, in the order in which they count: this list's, not that of the numbers. */
 enum {
     VARMITYEP_ACCEPTED = 0,
-    VARMITYEP_TEXT = 1,          /* a line breaks the text form or is missing, or over 65536 bytes */
+    VARMITYEP_TEXT = 1,          /* a line breaks the form or is missing, or over 65,536 bytes */
     VARMITYEP_REQUIREMENTS = 12, /* a seventeenth `req=` line */
     VARMITYEP_REQUIREMENT = 2,   /* requirement text outside the grammar or its limits */
     VARMITYEP_TABLE = 3,         /* a table rule broken, or a predicate named unset or above 15 */
