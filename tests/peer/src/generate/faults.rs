@@ -77,7 +77,7 @@ fn put(rng: &mut Prng, draft: &mut Draft, number: u64) -> Vec<usize> {
 
 /// Seventeen lines and more: the sheet's own, and any further ones, bad ones among them.
 fn too_many_requirements(rng: &mut Prng, draft: &mut Draft) {
-    let count = MOST_REQUIREMENTS + 1 + rng.pick(&[0, 0, 0, 1, 2, 40]);
+    let count = MOST_REQUIREMENTS + 1 + rng.pick(&[0, 0, 0, 1, 2, 9]);
     while draft.requirements.len() < count {
         let further = match rng.below(4) {
             0 => bad_requirement(rng),
