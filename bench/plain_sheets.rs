@@ -10,6 +10,8 @@ const FURTHEST: u64 = 1_000_000_000;
 /// What an answer has room for.
 const ROWS: usize = 2_048;
 const CELLS: usize = 8_192;
+/// `req=` lines of a sheet.
+const REQUIREMENTS: usize = 16;
 /// `t=0 src=m v0=0` and its line feed.
 const SHORTEST_ROW: usize = 15;
 
@@ -139,25 +141,50 @@ pub struct Sheet<'a> {
     pub step: u64,
     pub drift: u64,
     pub predicates: [Predicate; 16],
-    pub requirement: &'a [u8],
+    requirements: [&'a [u8]; REQUIREMENTS],
+    count: usize,
     pub rows: &'a [u8],
 }
 
-pub fn sheet(text: &[u8]) -> Option<Sheet<'_>> {
-    if text.len() > LONGEST_TEXT {
-        return None;
+impl<'a> Sheet<'a> {
+    pub fn requirements(&self) -> &[&'a [u8]] {
+        &self.requirements[..self.count]
     }
+}
+
+/// The texts of the `req=` lines and their count; those beyond the sixteenth are counted alone.
+fn requirements(mut text: &[u8]) -> Read<'_, ([&[u8]; REQUIREMENTS], usize)> {
+    let (mut requirements, mut count) = ([&text[..0]; REQUIREMENTS], 0);
+    while let Some(rest) = text.strip_prefix(b"req=") {
+        let (requirement, rest) = rest.split_at(rest.iter().position(|&b| b == b'\n')?);
+        if let Some(place) = requirements.get_mut(count) {
+            *place = requirement;
+        }
+        count += 1;
+        text = &rest[1..];
+    }
+    (count > 0).then_some(((requirements, count), text))
+}
+
+fn head(text: &[u8]) -> Option<Sheet<'_>> {
     let (channels, rest) = line(text, b"chan=")?;
     let (predicates, rest) = predicates(rest)?;
     let (step, rest) = line(rest, b"step=")?;
     let (drift, rest) = line(rest, b"drift=")?;
-    let rest = rest.strip_prefix(b"req=")?;
-    let (requirement, rows) = rest.split_at(rest.iter().position(|&b| b == b'\n')?);
-    let (channels, rows) = (channels as usize, &rows[1..]);
-    if (1..=8).contains(&channels) {
-        counted(rows, channels)?;
+    let ((requirements, count), rows) = requirements(rest)?;
+    Some(Sheet { channels: channels as usize, step, drift, predicates, requirements, count, rows })
+}
+
+/// A sheet, or the number of what refuses it: 1 or 12.
+pub fn sheet(text: &[u8]) -> Result<Sheet<'_>, u64> {
+    if text.len() > LONGEST_TEXT {
+        return Err(1);
     }
-    Some(Sheet { channels, step, drift, predicates, requirement, rows })
+    let sheet = head(text).ok_or(1u64)?;
+    if (1..=8).contains(&sheet.channels) {
+        counted(sheet.rows, sheet.channels).ok_or(1u64)?;
+    }
+    if sheet.count > REQUIREMENTS { Err(12) } else { Ok(sheet) }
 }
 
 /// Nodes while they are read: left, right, parent.
@@ -273,29 +300,67 @@ fn refusal(nodes: &[Node], card: &Card, step: u64, drift: u64) -> u64 {
     tests.iter().find(|(_, holds)| !holds).map_or(11, |&(number, _)| number)
 }
 
-/// The printed figures of a sheet, or the number of what refuses it.
-fn figures(text: &[u8], line: &mut Vec<u8>) -> Result<(), u64> {
-    let sheet = sheet(text).ok_or(1u64)?;
-    let nodes = requirement(sheet.requirement).ok_or(2u64)?;
+/// What is printed of a requirement that is not refused.
+#[derive(Clone, Copy)]
+struct Figures {
+    margin: i64,
+    hold: i64,
+    fail: i64,
+}
+
+/// The figures of a requirement, or the number of what refuses it.
+fn figures(text: &[u8], sheet: &Sheet, card: &Card, work: &mut Vec<i64>) -> Result<Figures, u64> {
+    let nodes = requirement(text).ok_or(2u64)?;
+    let cells = CELLS.min(2 * nodes.len() * card.times.len());
+    if work.len() < cells {
+        work.resize(cells, 0);
+    }
+    let judged = plain::verdict(&nodes, card, sheet.step, sheet.drift, work);
+    let Some((hold, fail)) = judged else { return Err(refusal(&nodes, card, sheet.step, sheet.drift)) };
+    let margin = plain::margin(&nodes, card, work).ok_or(8u64)?;
+    Ok(Figures { margin, hold, fail })
+}
+
+fn print(lines: &mut Vec<u8>, found: Result<Figures, u64>, (measured, filled): (usize, usize), drift: i64) {
+    match found {
+        Err(number) => writeln!(lines, "refused={number}"),
+        Ok(Figures { margin, hold, fail }) => {
+            let verdict = if hold > drift { "holds" } else if fail > drift { "fails" } else { "unshown" };
+            writeln!(lines, "rows={measured} filled={filled} margin={margin} hold={hold} fail={fail} verdict={verdict}")
+        }
+    }
+    .expect("a Vec takes every byte");
+}
+
+/// The lines of a sheet's requirements. The rows are read once for all of them.
+fn answer_each(sheet: &Sheet, lines: &mut Vec<u8>) {
     let room = ROWS.min(sheet.rows.len() / SHORTEST_ROW);
     let width = if sheet.channels <= 8 { sheet.channels } else { 0 };
     let (mut times, mut values) = (vec![0; room], vec![0; room * width]);
     // rows that are unread or too many leave a recording without a sample
-    let (measured, filled) = rows(sheet.rows, sheet.channels, &mut times, &mut values).unwrap_or_default();
-    let card = Card { predicates: &sheet.predicates, channels: sheet.channels, times: &times[..measured], values: &values[..measured * width] };
-    let mut work = vec![0; CELLS.min(2 * nodes.len() * measured)];
-    let judged = plain::verdict(&nodes, &card, sheet.step, sheet.drift, &mut work);
-    let Some((hold, fail)) = judged else { return Err(refusal(&nodes, &card, sheet.step, sheet.drift)) };
-    let margin = plain::margin(&nodes, &card, &mut work).ok_or(8u64)?;
-    let drift = sheet.drift as i64;
-    let verdict = if hold > drift { "holds" } else if fail > drift { "fails" } else { "unshown" };
-    writeln!(line, "rows={measured} filled={filled} margin={margin} hold={hold} fail={fail} verdict={verdict}").map_err(|_| 1u64)
+    let counts = rows(sheet.rows, sheet.channels, &mut times, &mut values).unwrap_or_default();
+    let card = Card { predicates: &sheet.predicates, channels: sheet.channels, times: &times[..counts.0], values: &values[..counts.0 * width] };
+    let mut work = Vec::new();
+    let mut found = [(0, Err(0)); REQUIREMENTS];
+    let found = &mut found[..sheet.count];
+    for (k, text) in sheet.requirements().iter().enumerate() {
+        found[k] = (k, figures(text, sheet, &card, &mut work));
+    }
+    // by rising margin, then the refused ones; equal ones keep the sheet's order
+    found.sort_by_key(|(_, found)| found.map_or((true, 0), |f| (false, f.margin)));
+    for &(k, one) in found.iter() {
+        if sheet.count > 1 {
+            write!(lines, "req={k} ").expect("a Vec takes every byte");
+        }
+        print(lines, one, counts, sheet.drift as i64);
+    }
 }
 
-/// The line that is printed for a sheet.
-pub fn answer(text: &[u8], line: &mut Vec<u8>) {
-    line.clear();
-    if let Err(number) = figures(text, line) {
-        writeln!(line, "refused={number}").expect("a Vec takes every byte");
+/// The lines that are printed for a sheet.
+pub fn answer(text: &[u8], lines: &mut Vec<u8>) {
+    lines.clear();
+    match sheet(text) {
+        Ok(sheet) => answer_each(&sheet, lines),
+        Err(number) => print(lines, Err(number), (0, 0), 0),
     }
 }

@@ -13,19 +13,25 @@ use flat::{flat_nodes, flat_predicates};
 use std::hint::black_box;
 use timing::{seconds, Random};
 
-/// Sheets, and the number that refuses each, 0 for none.
-const EXAMPLES: [(&str, &[u8], u64); 5] = [
-    ("booster-turn-up", include_bytes!("../examples/booster-turn-up.sheet"), 0),
-    ("line-amplifier-gain-sag", include_bytes!("../examples/line-amplifier-gain-sag.sheet"), 0),
-    ("preamplifier-pump-ceiling", include_bytes!("../examples/preamplifier-pump-ceiling.sheet"), 0),
-    ("collector-restart", include_bytes!("../examples/collector-restart.sheet"), 10),
-    ("two-stage-turn-up", include_bytes!("../examples/two-stage-turn-up.sheet"), 0),
+/// Sheets, and what the answer to each begins with.
+const EXAMPLES: [(&str, &[u8], &str); 6] = [
+    ("booster-turn-up", include_bytes!("../examples/booster-turn-up.sheet"), "rows="),
+    ("line-amplifier-gain-sag", include_bytes!("../examples/line-amplifier-gain-sag.sheet"), "rows="),
+    ("preamplifier-pump-ceiling", include_bytes!("../examples/preamplifier-pump-ceiling.sheet"), "rows="),
+    ("collector-restart", include_bytes!("../examples/collector-restart.sheet"), "refused=10\n"),
+    ("two-stage-turn-up", include_bytes!("../examples/two-stage-turn-up.sheet"), "rows="),
+    ("line-card-acceptance", include_bytes!("../examples/line-card-acceptance.sheet"), "req=3 rows="),
 ];
 
-/// What is timed of a text.
+/// Requirements of one and two nodes, as many as 8,192 cells take over 2,048 rows. Their windows are short, so that reading the rows counts.
+const SIXTEEN: [&str; 16] = [
+    "p0", "T", "G[0,5]p0", "F[0,5]p1", "!p0", "G[1,8]p2", "F[3,10]p3", "!p4", "p5", "G[0,0]p6", "F[2,6]p7", "!T", "p8", "G[4,9]p9", "F[1,4]p0", "!p1",
+];
+
+/// What is timed of a text: of an answer, what it begins with.
 #[derive(Clone, Copy)]
 enum What {
-    Answer,
+    Answer(&'static str),
     Sheet,
     Requirement,
     Rows(usize),
@@ -35,15 +41,14 @@ struct Case {
     what: What,
     name: String,
     text: Vec<u8>,
-    /// The number that refuses it, 0 for none.
-    refusal: u64,
     best: (f64, f64),
 }
 
 /// Room for everything that the library hands back, used again in each call.
 struct Room {
-    line: [u8; 160],
-    numbers: [u64; 6],
+    lines: [u8; 2_688],
+    numbers: [u64; 5],
+    places: [u64; 32],
     ranges: [u64; 32],
     ends: [i64; 32],
     nodes: [u64; 320],
@@ -55,15 +60,28 @@ struct Room {
 
 impl Room {
     fn new() -> Room {
-        let (line, numbers, ranges, ends, nodes, count, counts) = ([0; 160], [0; 6], [0; 32], [0; 32], [0; 320], [0], [0; 2]);
-        Room { line, numbers, ranges, ends, nodes, count, times: vec![0; 4_096], values: vec![0; 8 * 4_096], counts }
+        Room {
+            lines: [0; 2_688],
+            numbers: [0; 5],
+            places: [0; 32],
+            ranges: [0; 32],
+            ends: [0; 32],
+            nodes: [0; 320],
+            count: [0],
+            times: vec![0; 4_096],
+            values: vec![0; 8 * 4_096],
+            counts: [0; 2],
+        }
     }
 }
 
 fn proved(what: What, text: &[u8], room: &mut Room) -> u64 {
     match what {
-        What::Answer => names::answer(text, &mut room.line) as u64,
-        What::Sheet => names::sheet(text, &mut room.numbers, &mut room.ranges, &mut room.ends),
+        What::Answer(_) => names::answer(text, &mut room.lines) as u64,
+        What::Sheet => {
+            let Room { numbers, places, ranges, ends, .. } = room;
+            names::sheet(text, names::Sheet { numbers, places, ranges, ends })
+        }
         What::Requirement => names::requirement(text, &mut room.nodes, &mut room.count),
         What::Rows(channels) => names::rows(text, channels as u64, &mut room.times, &mut room.values, &mut room.counts),
     }
@@ -71,40 +89,51 @@ fn proved(what: What, text: &[u8], room: &mut Room) -> u64 {
 
 /// Room for what plain Rust hands back.
 struct PlainRoom {
-    line: Vec<u8>,
+    lines: Vec<u8>,
     times: Vec<u64>,
     values: Vec<i64>,
 }
 
 fn plain(what: What, text: &[u8], room: &mut PlainRoom) {
     match what {
-        What::Answer => plain_sheets::answer(text, &mut room.line),
+        What::Answer(_) => plain_sheets::answer(text, &mut room.lines),
         What::Sheet => drop(black_box(plain_sheets::sheet(text))),
         What::Requirement => drop(black_box(plain_sheets::requirement(text))),
         What::Rows(channels) => drop(black_box(plain_sheets::rows(text, channels, &mut room.times, &mut room.values))),
     }
 }
 
-/// Whether both hand back the same.
-fn agree(what: What, text: &[u8], refusal: u64, ours: &mut Room, theirs: &mut PlainRoom) -> bool {
+/// The requirements' places in the text, as the library gives them.
+fn places(text: &[u8], sheet: &plain_sheets::Sheet) -> [u64; 32] {
+    let mut places = [0; 32];
+    let mut to = text.len() - sheet.rows.len();
+    // from the last line to the first: a line feed, the requirement, `req=`
+    for (k, requirement) in sheet.requirements().iter().enumerate().rev() {
+        (places[2 * k], places[2 * k + 1]) = ((to - 1 - requirement.len()) as u64, to as u64 - 1);
+        to -= requirement.len() + 5;
+    }
+    places
+}
+
+/// Whether both hand back the same. The readers' texts are accepted ones.
+fn agree(what: What, text: &[u8], ours: &mut Room, theirs: &mut PlainRoom) -> bool {
     let number = proved(what, text, ours);
     match what {
-        What::Answer => {
-            plain_sheets::answer(text, &mut theirs.line);
-            let wanted = if refusal == 0 { "rows=".to_string() } else { format!("refused={refusal}\n") };
-            ours.line[..number as usize] == theirs.line[..] && theirs.line.starts_with(wanted.as_bytes())
+        What::Answer(begins) => {
+            plain_sheets::answer(text, &mut theirs.lines);
+            ours.lines[..number as usize] == theirs.lines[..] && theirs.lines.starts_with(begins.as_bytes())
         }
-        What::Sheet => plain_sheets::sheet(text).is_some_and(|sheet| {
-            let rows = text.len() - sheet.rows.len();
-            let places = [rows - 1 - sheet.requirement.len(), rows - 1, rows].map(|place| place as u64);
-            let head = [sheet.channels as u64, sheet.step, sheet.drift];
-            number == refusal && ours.numbers[..3] == head && ours.numbers[3..] == places && (ours.ranges, ours.ends) == flat_predicates(&sheet.predicates)
+        What::Sheet => plain_sheets::sheet(text).is_ok_and(|sheet| {
+            let (rows, count) = (text.len() - sheet.rows.len(), sheet.requirements().len());
+            let numbers = [sheet.channels as u64, sheet.step, sheet.drift, rows as u64, count as u64];
+            number == 0 && ours.numbers == numbers && ours.places == places(text, &sheet) && (ours.ranges, ours.ends) == flat_predicates(&sheet.predicates)
         }),
-        What::Requirement => plain_sheets::requirement(text)
-            .is_some_and(|nodes| number == refusal && ours.count == [nodes.len() as u64] && ours.nodes == flat_nodes(&nodes)),
+        What::Requirement => {
+            plain_sheets::requirement(text).is_some_and(|nodes| number == 0 && ours.count == [nodes.len() as u64] && ours.nodes == flat_nodes(&nodes))
+        }
         What::Rows(channels) => {
             let counts = plain_sheets::rows(text, channels, &mut theirs.times, &mut theirs.values);
-            let same = counts.is_ok_and(|(measured, filled)| number == refusal && ours.counts == [measured as u64, filled as u64]);
+            let same = counts.is_ok_and(|(measured, filled)| number == 0 && ours.counts == [measured as u64, filled as u64]);
             same && ours.times == theirs.times && ours.values == theirs.values
         }
     }
@@ -114,7 +143,7 @@ impl Case {
     fn time(&mut self, ours: &mut Room, theirs: &mut PlainRoom) {
         let (what, text) = (self.what, &self.text);
         for _ in 0..9 {
-            assert!(agree(what, text, self.refusal, ours, theirs), "results differ: {}", self.name);
+            assert!(agree(what, text, ours, theirs), "results differ: {}", self.name);
             self.best.0 = self.best.0.min(seconds(|| {
                 black_box(proved(what, black_box(text), ours));
             }));
@@ -129,11 +158,11 @@ impl Case {
     fn print(&self) {
         let bytes = self.text.len();
         let (per, unit) = match self.what {
-            What::Answer => (1.0, "sheets/s"),
+            What::Answer(_) => (1.0, "sheets/s"),
             _ => (bytes as f64 / 1e6, "MB/s"),
         };
         let word = match self.what {
-            What::Answer => "answer",
+            What::Answer(_) => "answer",
             What::Sheet => "sheet",
             What::Requirement => "requirement",
             What::Rows(_) => "rows",
@@ -181,34 +210,75 @@ fn cases() -> Vec<Case> {
     let rows = [("2,048 rows, 1 channel", random_rows(random, 2_048, 1), 1), ("500 rows, 8 channels", random_rows(random, 500, 8), 8)];
     let broken = format!("{}{}t=9 src=m v0=-0\n", head(1, "G[0,600]p0"), random_rows(random, 1_000, 1));
     let mut cases = Vec::new();
-    let mut case = |what, name: &str, text: &[u8], refusal| cases.push(Case { what, name: name.to_string(), text: text.to_vec(), refusal, best: (f64::MAX, f64::MAX) });
-    for (name, text, refusal) in EXAMPLES {
-        case(What::Answer, name, text, refusal);
+    let mut case = |what, name: &str, text: &[u8]| cases.push(Case { what, name: name.to_string(), text: text.to_vec(), best: (f64::MAX, f64::MAX) });
+    for (name, text, begins) in EXAMPLES {
+        case(What::Answer(begins), name, text);
     }
     for (name, text, channels) in &rows {
         let sheet = head(*channels, "G[0,600]p0") + text;
-        case(What::Answer, name, sheet.as_bytes(), 0);
-        case(What::Sheet, name, sheet.as_bytes(), 0);
-        case(What::Rows(*channels), name, text.as_bytes(), 0);
+        case(What::Answer("rows="), name, sheet.as_bytes());
+        case(What::Sheet, name, sheet.as_bytes());
+        case(What::Rows(*channels), name, text.as_bytes());
     }
-    case(What::Answer, "63 nodes, 64 rows", (head(1, &broad()) + &random_rows(random, 64, 1)).as_bytes(), 0);
-    case(What::Answer, "refused in the last row", broken.as_bytes(), 1);
-    case(What::Requirement, "63 nodes", broad().as_bytes(), 0);
-    case(What::Requirement, "32 enclosings", deep().as_bytes(), 0);
-    case(What::Requirement, "two nodes", b"G[0,600]p0", 0);
+    case(What::Answer("rows="), "63 nodes, 64 rows", (head(1, &broad()) + &random_rows(random, 64, 1)).as_bytes());
+    case(What::Answer("refused=1\n"), "refused in the last row", broken.as_bytes());
+    case(What::Requirement, "63 nodes", broad().as_bytes());
+    case(What::Requirement, "32 enclosings", deep().as_bytes());
+    case(What::Requirement, "two nodes", b"G[0,600]p0");
     cases
+}
+
+/// Sixteen requirements over 2,048 rows in one sheet, and the sixteen sheets of one requirement each.
+struct Sixteen {
+    together: Case,
+    apart: Vec<String>,
+    /// Best times of the library and of plain Rust over all sixteen sheets.
+    best: (f64, f64),
+}
+
+impl Sixteen {
+    fn new() -> Sixteen {
+        let rows = random_rows(&mut Random(54321), 2_048, 1);
+        let text = (head(1, &SIXTEEN.join("\nreq=")) + &rows).into_bytes();
+        let together = Case { what: What::Answer("req="), name: "16 requirements, 2,048 rows".to_string(), text, best: (f64::MAX, f64::MAX) };
+        let apart = SIXTEEN.iter().map(|requirement| head(1, requirement) + &rows).collect();
+        Sixteen { together, apart, best: (f64::MAX, f64::MAX) }
+    }
+
+    fn time(&mut self, ours: &mut Room, theirs: &mut PlainRoom) {
+        self.together.time(ours, theirs);
+        let what = What::Answer("rows=");
+        assert!(self.apart.iter().all(|text| agree(what, text.as_bytes(), ours, theirs)), "results differ: a sheet of one requirement");
+        for _ in 0..9 {
+            let texts = || self.apart.iter().map(|text| black_box(text.as_bytes()));
+            self.best.0 = self.best.0.min(seconds(|| {
+                black_box(texts().map(|text| proved(what, text, ours)).sum::<u64>());
+            }));
+            self.best.1 = self.best.1.min(seconds(|| texts().for_each(|text| plain(what, text, theirs))));
+        }
+    }
+
+    fn print(&self) {
+        self.together.print();
+        let (ours, theirs) = (self.together.best.0 / self.best.0, self.together.best.1 / self.best.1);
+        println!("16 requirements in one sheet take {ours:.2} times as long as 16 sheets of one; in plain Rust {theirs:.2} times");
+    }
 }
 
 fn main() {
     let mut cases = cases();
+    let mut sixteen = Sixteen::new();
     let mut ours = Room::new();
-    let mut theirs = PlainRoom { line: Vec::new(), times: vec![0; 4_096], values: vec![0; 8 * 4_096] };
+    let mut theirs = PlainRoom { lines: Vec::new(), times: vec![0; 4_096], values: vec![0; 8 * 4_096] };
     // rounds over all cases, so that a slow spell of the machine does not fall on one of them alone
     for _ in 0..5 {
         for case in &mut cases {
             case.time(&mut ours, &mut theirs);
         }
+        sixteen.time(&mut ours, &mut theirs);
     }
     cases.iter().for_each(Case::print);
     println!("largest ratio to plain Rust: {:.2}", cases.iter().map(Case::ratio).fold(0.0, f64::max));
+    sixteen.print();
+    println!("ratio of 16 requirements to plain Rust: {:.2} (at most 1.1 wanted)", sixteen.together.ratio());
 }

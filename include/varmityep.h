@@ -10,8 +10,8 @@
  * independent, and equal inputs give equal answers.
  *
  * A refusal is its number below, 0 for none. Of several that apply, the first in that list is
- * returned. Under a refusal nothing is written: every slice keeps its contents. (varmityep_answer
- * alone returns no number: its line says it.)
+ * returned, whatever the size of its number. Under a refusal nothing is written: every slice keeps
+ * its contents. (varmityep_answer alone returns no number: its lines say it.)
  */
 #ifndef VARMITYEP_H
 #define VARMITYEP_H
@@ -27,15 +27,17 @@ extern "C" {
 #define VARMITYEP_NODES 320  /* nodes: kind, left, right, lo, hi of each of 64 */
 #define VARMITYEP_RANGES 32  /* ranges: range and channel of each of 16 predicates */
 #define VARMITYEP_ENDS 32    /* ends: lo and hi of each of 16 predicates */
-#define VARMITYEP_NUMBERS 6  /* numbers of a sheet, see VARMITYEP_SHEET_.. */
+#define VARMITYEP_NUMBERS 5  /* numbers of a sheet, see VARMITYEP_SHEET_.. */
+#define VARMITYEP_PLACES 32  /* places: from and to of each of 16 requirements */
 #define VARMITYEP_COUNTS 2   /* counts of rows: measured, filled */
 #define VARMITYEP_RESULT 3   /* result of a verdict: verdict, hold, fail */
-#define VARMITYEP_LINE 160   /* line: no printed line is longer */
+#define VARMITYEP_LINES 2688 /* lines, in bytes: no answer is longer */
 
 /* Limits of what is accepted. */
 #define VARMITYEP_MOST_BYTES 65536
 #define VARMITYEP_MOST_ROWS 4096
 #define VARMITYEP_MOST_CHANNELS 8
+#define VARMITYEP_MOST_REQUIREMENTS 16 /* of a sheet */
 #define VARMITYEP_MOST_NODES 64
 #define VARMITYEP_PREDICATES 16
 #define VARMITYEP_NODE_NUMBERS 5
@@ -46,20 +48,21 @@ extern "C" {
 #define VARMITYEP_ANSWER_ROWS 2048
 #define VARMITYEP_ANSWER_CELLS 8192
 
-/* Refusals, in the order in which they count. */
+/* Refusals, in the order in which they count: this list's, not that of the numbers. */
 enum {
     VARMITYEP_ACCEPTED = 0,
-    VARMITYEP_TEXT = 1,        /* a line breaks the text form or is missing, or over 65,536 bytes */
-    VARMITYEP_REQUIREMENT = 2, /* requirement text outside the grammar or its limits */
-    VARMITYEP_TABLE = 3,       /* a table rule broken, or a predicate named unset or above 15 */
-    VARMITYEP_PREDICATE = 4,   /* channels not 1 to 8, or a set predicate's channel or ends */
-    VARMITYEP_SAMPLES = 5,     /* no sample, over 4,096, or values not rows x channels long */
-    VARMITYEP_TIMES = 6,       /* times not rising, or one above 2,000,000,000 */
-    VARMITYEP_VALUES = 7,      /* a value beyond 1,000,000,000, either sign */
-    VARMITYEP_WORK = 8,        /* work too short */
-    VARMITYEP_STEP_DRIFT = 9,  /* step not 1 to 1,000,000,000, or drift above 1,000,000,000 */
-    VARMITYEP_GAP = 10,        /* two neighbouring times differ by more than the step */
-    VARMITYEP_JUMP = 11        /* neighbouring values of a channel differ by more than 2 x drift */
+    VARMITYEP_TEXT = 1,          /* a line breaks the form or is missing, or over 65,536 bytes */
+    VARMITYEP_REQUIREMENTS = 12, /* a seventeenth `req=` line */
+    VARMITYEP_REQUIREMENT = 2,   /* requirement text outside the grammar or its limits */
+    VARMITYEP_TABLE = 3,         /* a table rule broken, or a predicate named unset or above 15 */
+    VARMITYEP_PREDICATE = 4,     /* channels not 1 to 8, or a set predicate's channel or ends */
+    VARMITYEP_SAMPLES = 5,       /* no sample, over 4,096, or values not rows x channels long */
+    VARMITYEP_TIMES = 6,         /* times not rising, or one above 2,000,000,000 */
+    VARMITYEP_VALUES = 7,        /* a value beyond 1,000,000,000, either sign */
+    VARMITYEP_WORK = 8,          /* work too short */
+    VARMITYEP_STEP_DRIFT = 9,    /* step not 1 to 1,000,000,000, or drift above 1,000,000,000 */
+    VARMITYEP_GAP = 10,          /* two neighbouring times differ by more than the step */
+    VARMITYEP_JUMP = 11          /* two neighbouring values of a channel differ by over 2 x drift */
 };
 
 /* Ranges of a predicate, at ranges[2p]; its channel is at ranges[2p + 1]. */
@@ -74,31 +77,35 @@ enum {
 /* Verdicts, at result[0]. */
 enum { VARMITYEP_NOT_SHOWN = 0, VARMITYEP_HOLDS = 1, VARMITYEP_FAILS = 2 };
 
-/* Places of a sheet's numbers. The last three are places in its text. */
+/* Places of a sheet's numbers. */
 enum {
     VARMITYEP_SHEET_CHANNELS = 0,
     VARMITYEP_SHEET_STEP = 1,
     VARMITYEP_SHEET_DRIFT = 2,
-    VARMITYEP_SHEET_REQ_FROM = 3, /* the requirement's first byte */
-    VARMITYEP_SHEET_REQ_TO = 4,   /* the place behind its last byte */
-    VARMITYEP_SHEET_ROWS = 5      /* the rows' first byte */
+    VARMITYEP_SHEET_ROWS = 3,        /* the place in the text of the rows' first byte */
+    VARMITYEP_SHEET_REQUIREMENTS = 4 /* the count of requirements, 1 to 16 */
 };
 
 /*
- * The line that the program prints for a sheet's text, its line feed included; a refusal is a line
- * too. It stands in line from its first byte on, without a closing 0; bytes behind it keep their
- * contents. Returns its length. Give VARMITYEP_LINE bytes. Its own arrays are on the stack: leave
- * it 512 KiB (a run was measured to need less than 260).
+ * The lines that the program prints for a sheet's text, their line feeds included. There is one for
+ * each requirement, a refusal too; where there are several, `req=` and the requirement's number,
+ * counted from 0, stand before each, they come by rising margin, equal margins in sheet order, and
+ * the refused ones follow. A sheet refused by 1 or 12 gives one line. The lines stand in lines from
+ * its first byte on, without a closing 0; bytes behind them keep their contents. Returns their
+ * length together. Give VARMITYEP_LINES bytes. Its own arrays are on the stack: leave it 512 KiB.
  */
-size_t varmityep_answer(const uint8_t *text, size_t text_len, uint8_t *line, size_t line_len);
+size_t varmityep_answer(const uint8_t *text, size_t text_len, uint8_t *lines, size_t lines_len);
 
 /*
- * Reads a sheet: refusal 0 or 1. The whole text is judged, its rows too where channels is 1 to 8.
- * Writes numbers (VARMITYEP_NUMBERS), ranges (VARMITYEP_RANGES) and ends (VARMITYEP_ENDS); an end
- * that a range does not have is 0, and so is an unset predicate's channel.
+ * Reads a sheet: refusal 0, 1 or 12. The whole text is judged, its rows too where channels is 1 to
+ * 8. Writes numbers (VARMITYEP_NUMBERS), places (VARMITYEP_PLACES), ranges (VARMITYEP_RANGES) and
+ * ends (VARMITYEP_ENDS). Requirement k is the part of the text from places[2k] up to but not
+ * including places[2k + 1]; places beyond the count are 0. An end that a range does not have is 0,
+ * and so is an unset predicate's channel.
  */
 uint64_t varmityep_sheet(const uint8_t *text, size_t text_len,
                          uint64_t *numbers, size_t numbers_len,
+                         uint64_t *places, size_t places_len,
                          uint64_t *ranges, size_t ranges_len,
                          int64_t *ends, size_t ends_len);
 

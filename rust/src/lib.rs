@@ -1,6 +1,6 @@
 //! Margins and verdicts of amplifier recordings: safe Rust over the proved static library.
 //!
-//! [`answer`] gives the line that the program `margin` prints for a sheet. The parts of that answer
+//! [`answer`] gives the lines that the program `margin` prints for a sheet. The parts of that answer
 //! can be taken one by one: [`read_sheet`], [`read_requirement`], [`read_rows`], [`margin()`] and
 //! [`verdict`]; `examples/judge.rs` puts them together. What an input is refused for is a
 //! [`Refusal`].
@@ -21,7 +21,7 @@ mod table;
 pub use judge::{margin, verdict, Judgement, Recording, Verdict, TOP};
 pub use predicate::{Predicate, Predicates, Range};
 pub use refusal::Refusal;
-pub use sheet::{read_rows, read_sheet, Counts, Sheet};
+pub use sheet::{read_rows, read_sheet, Counts, Sheet, MOST_REQUIREMENTS};
 pub use table::{read_requirement, Node, Table, NO_END};
 
 /// Measured rows that [`answer`] has room for; more are refused by 5.
@@ -29,12 +29,17 @@ pub const ANSWER_ROWS: usize = 2_048;
 /// Cells that [`answer`] has; a verdict that needs more is refused by 8.
 pub const ANSWER_CELLS: usize = 8_192;
 
-/// No printed line is longer.
-const LINE: usize = 160;
+/// No answer is longer, in bytes.
+const LINES: usize = 2_688;
 
-/// The line that is printed for a sheet, its line feed included; a refusal is a line too.
+/// The lines that are printed for a sheet, their line feeds included: one for each requirement, a
+/// refusal too.
+///
+/// Where there are several, `req=` and the requirement's number, counted from 0, stand before each;
+/// they come by rising margin, equal margins in sheet order, and the refused ones follow. A sheet
+/// refused by 1 or 12 gives one line.
 pub fn answer(text: &[u8]) -> String {
-    let mut line = [0; LINE];
-    let length = names::answer(text, &mut line);
-    String::from_utf8_lossy(&line[..length]).into_owned()
+    let mut lines = [0; LINES];
+    let length = names::answer(text, &mut lines);
+    String::from_utf8_lossy(&lines[..length]).into_owned()
 }

@@ -3,13 +3,20 @@
 //! `include/varmityep.h` says what each place holds.
 
 extern "C" {
-    fn varmityep_answer(text: *const u8, text_len: usize, line: *mut u8, line_len: usize) -> usize;
+    fn varmityep_answer(
+        text: *const u8,
+        text_len: usize,
+        lines: *mut u8,
+        lines_len: usize,
+    ) -> usize;
 
     fn varmityep_sheet(
         text: *const u8,
         text_len: usize,
         numbers: *mut u64,
         numbers_len: usize,
+        places: *mut u64,
+        places_len: usize,
         ranges: *mut u64,
         ranges_len: usize,
         ends: *mut i64,
@@ -88,24 +95,34 @@ extern "C" {
     ) -> u64;
 }
 
-/// The printed line's length.
-pub fn answer(text: &[u8], line: &mut [u8]) -> usize {
+/// The length of the printed lines together.
+pub fn answer(text: &[u8], lines: &mut [u8]) -> usize {
     // SAFETY: the library asks nothing of its caller but slices that are live, of the lengths
     // given and apart from each other. References are; so in every call below.
-    unsafe { varmityep_answer(text.as_ptr(), text.len(), line.as_mut_ptr(), line.len()) }
+    unsafe { varmityep_answer(text.as_ptr(), text.len(), lines.as_mut_ptr(), lines.len()) }
 }
 
-pub fn sheet(text: &[u8], numbers: &mut [u64], ranges: &mut [u64], ends: &mut [i64]) -> u64 {
+/// What a sheet is read into.
+pub struct Sheet<'a> {
+    pub numbers: &'a mut [u64],
+    pub places: &'a mut [u64],
+    pub ranges: &'a mut [u64],
+    pub ends: &'a mut [i64],
+}
+
+pub fn sheet(text: &[u8], sheet: Sheet) -> u64 {
     unsafe {
         varmityep_sheet(
             text.as_ptr(),
             text.len(),
-            numbers.as_mut_ptr(),
-            numbers.len(),
-            ranges.as_mut_ptr(),
-            ranges.len(),
-            ends.as_mut_ptr(),
-            ends.len(),
+            sheet.numbers.as_mut_ptr(),
+            sheet.numbers.len(),
+            sheet.places.as_mut_ptr(),
+            sheet.places.len(),
+            sheet.ranges.as_mut_ptr(),
+            sheet.ranges.len(),
+            sheet.ends.as_mut_ptr(),
+            sheet.ends.len(),
         )
     }
 }

@@ -1,12 +1,14 @@
-//! The numbers by which an input is refused, in document 01's words.
+//! The numbers by which an input is refused, in the papers' words.
 
 use std::error::Error;
 use std::fmt;
 
-/// Why an input is refused. Of several reasons the first of this list is given.
+/// Why an input is refused. Of several reasons the first of this list is given, whatever the size
+/// of its number.
 #[derive(Clone, Copy, PartialEq, Eq, Hash, Debug)]
 pub enum Refusal {
     Text = 1,
+    Requirements = 12,
     Requirement = 2,
     Table = 3,
     Predicates = 4,
@@ -21,8 +23,9 @@ pub enum Refusal {
 
 impl Refusal {
     /// Every refusal, in the order in which they count.
-    pub const ALL: [Refusal; 11] = [
+    pub const ALL: [Refusal; 12] = [
         Refusal::Text,
+        Refusal::Requirements,
         Refusal::Requirement,
         Refusal::Table,
         Refusal::Predicates,
@@ -35,7 +38,7 @@ impl Refusal {
         Refusal::Jump,
     ];
 
-    /// Document 01's number.
+    /// The papers' number.
     pub fn number(self) -> u64 {
         self as u64
     }
@@ -59,6 +62,7 @@ impl fmt::Display for Refusal {
             Refusal::Text => {
                 "a line breaks the text form or is missing, or the text exceeds 65,536 bytes"
             }
+            Refusal::Requirements => "a seventeenth `req=` line",
             Refusal::Requirement => "requirement text outside the grammar or its limits",
             Refusal::Table => {
                 "a table rule broken, or a node names a predicate that is unset or above 15"

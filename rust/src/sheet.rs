@@ -4,31 +4,42 @@ use crate::names;
 use crate::predicate::{self, Predicates};
 use crate::refusal::Refusal;
 
-/// What a sheet says, its requirement and its rows as parts of its text.
+/// Requirements that a sheet may have; one more is refused by 12.
+pub const MOST_REQUIREMENTS: usize = 16;
+
+/// What a sheet says, its requirements and its rows as parts of its text.
 #[derive(Clone, PartialEq, Eq, Debug)]
 pub struct Sheet<'a> {
     pub channels: u64,
     pub predicates: Predicates,
     pub step: u64,
     pub drift: u64,
-    /// What follows `req=`, for [`crate::read_requirement`].
-    pub requirement: &'a [u8],
-    /// What stands behind the `req=` line, for [`read_rows`].
+    /// What follows each `req=`, 1 to 16 of them, for [`crate::read_requirement`].
+    pub requirements: Vec<&'a [u8]>,
+    /// What stands behind the last `req=` line, for [`read_rows`].
     pub rows: &'a [u8],
 }
 
-/// Reads a sheet. Refusal 1, of the whole text: its rows are judged too where channels is 1 to 8.
+/// Reads a sheet. Refusals 1 and 12, of the whole text: its rows are judged too where channels is
+/// 1 to 8.
 pub fn read_sheet(text: &[u8]) -> Result<Sheet<'_>, Refusal> {
-    let mut numbers = [0; 6];
+    let (mut numbers, mut places) = ([0; 5], [0; 2 * MOST_REQUIREMENTS]);
     let mut flat = predicate::Flat::BLANK;
-    Refusal::check(names::sheet(text, &mut numbers, &mut flat.ranges, &mut flat.ends))?;
-    let [channels, step, drift, from, to, rows] = numbers;
+    let lent = names::Sheet {
+        numbers: &mut numbers,
+        places: &mut places,
+        ranges: &mut flat.ranges,
+        ends: &mut flat.ends,
+    };
+    Refusal::check(names::sheet(text, lent))?;
+    let [channels, step, drift, rows, count] = numbers;
+    let part = |place: &[u64]| &text[place[0] as usize..place[1] as usize];
     Ok(Sheet {
         channels,
         predicates: predicate::of_flat(&flat),
         step,
         drift,
-        requirement: &text[from as usize..to as usize],
+        requirements: places.chunks_exact(2).take(count as usize).map(part).collect(),
         rows: &text[rows as usize..],
     })
 }

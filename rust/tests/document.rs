@@ -1,8 +1,8 @@
-//! Document 01's example, whole and by its parts, and every refusal number.
+//! Document 01's example, whole and by its parts, several requirements, and every refusal number.
 
 use varmityep::{
     answer, margin, read_requirement, read_rows, read_sheet, verdict, Counts, Judgement, Node,
-    Predicate, Predicates, Range, Recording, Refusal, Table, Verdict, TOP,
+    Predicate, Predicates, Range, Recording, Refusal, Table, Verdict, MOST_REQUIREMENTS, TOP,
 };
 
 const EXAMPLE: &str = "\
@@ -30,9 +30,9 @@ fn the_example_by_its_parts() {
     assert_eq!((sheet.channels, sheet.step, sheet.drift), (1, 1, 2));
     assert_eq!(sheet.predicates[0], Predicate { channel: 0, range: Range::AtLeast(5) });
     assert_eq!(sheet.predicates[1..], [Predicate::default(); 15]);
-    assert_eq!(sheet.requirement, b"G[0,2]p0");
+    assert_eq!(sheet.requirements, [b"G[0,2]p0"]);
 
-    let table = read_requirement(sheet.requirement).unwrap();
+    let table = read_requirement(sheet.requirements[0]).unwrap();
     let leaf = Node { kind: 1, ..Node::default() };
     assert_eq!(table.nodes, [leaf, Node { kind: 8, hi: 2, ..Node::default() }]);
 
@@ -49,6 +49,45 @@ fn the_example_by_its_parts() {
     let judged = verdict(&table, &sheet.predicates, &recording, 1, 2, &mut work);
     assert_eq!(judged, Ok(Judgement { verdict: Verdict::Holds, hold: 5, fail: -7 }));
     assert_eq!(work[20], 77);
+}
+
+/// The example with these requirements in the place of its own.
+fn several(requirements: &[&str]) -> String {
+    let lines: String = requirements.iter().map(|text| format!("req={text}\n")).collect();
+    EXAMPLE.replace("req=G[0,2]p0\n", &lines)
+}
+
+#[test]
+fn several_requirements_come_by_rising_margin() {
+    // Two margins of 6, in sheet order whatever their holds, and the refused ones behind.
+    let lines = "\
+req=3 rows=5 filled=0 margin=-6 hold=-6 fail=6 verdict=fails
+req=1 rows=5 filled=0 margin=6 hold=6 fail=-6 verdict=holds
+req=4 rows=5 filled=0 margin=6 hold=5 fail=-7 verdict=holds
+req=5 rows=5 filled=0 margin=7 hold=6 fail=-7 verdict=holds
+req=0 refused=3
+req=2 refused=2
+";
+    let requirements = ["p1", "p0", "p0 ", "!p0", "G[0,2]p0", "F[1,3]p0"];
+    let text = several(&requirements);
+    assert_eq!(answer(text.as_bytes()), lines);
+    assert_eq!(read_sheet(text.as_bytes()).unwrap().requirements, requirements.map(str::as_bytes));
+    // Behind its number, each line is what the requirement alone gets.
+    for line in lines.lines() {
+        let (k, alone) = line.strip_prefix("req=").unwrap().split_once(' ').unwrap();
+        let requirement = requirements[k.parse::<usize>().unwrap()];
+        assert_eq!(answer(several(&[requirement]).as_bytes()), format!("{alone}\n"));
+    }
+    // A fault of the recording refuses each by its own number; 1 and 12 refuse the sheet.
+    let gap = text.replace("t=2 src=m", "t=2 src=f");
+    let tens = "req=0 refused=3\nreq=1 refused=10\nreq=2 refused=2\n\
+        req=3 refused=10\nreq=4 refused=10\nreq=5 refused=10\n";
+    assert_eq!(answer(gap.as_bytes()), tens);
+    assert_eq!(answer(format!("{text}junk\n").as_bytes()), "refused=1\n");
+    assert_eq!(answer(format!("{}junk\n", several(&["p0"; 17])).as_bytes()), "refused=1\n");
+    let sixteen = read_sheet(several(&["p0"; MOST_REQUIREMENTS]).as_bytes())
+        .map(|sheet| sheet.requirements.len());
+    assert_eq!(sixteen, Ok(16));
 }
 
 /// A sheet of so many rows, one second apart, none of which misses anything.
@@ -74,6 +113,7 @@ fn every_number_refuses_a_sheet() {
         let refused = answer(EXAMPLE.replace(old, new).as_bytes());
         assert_eq!(refused, format!("refused={number}\n"), "{new}");
     }
+    assert_eq!(answer(several(&["p0"; 17]).as_bytes()), "refused=12\n");
     assert_eq!(answer(long_sheet("G[0,2]p0", 2_049).as_bytes()), "refused=5\n");
     assert_eq!(answer(long_sheet("!G[0,2]p0", 2_048).as_bytes()), "refused=8\n");
     assert!(answer(long_sheet("G[0,2]p0", 2_048).as_bytes()).starts_with("rows=2048 filled=0 "));
@@ -143,6 +183,7 @@ fn every_refusal_of_margin_and_verdict() {
 #[test]
 fn every_refusal_of_the_readers() {
     assert_eq!(read_sheet(b"chan=1\n").err(), Some(Refusal::Text));
+    assert_eq!(read_sheet(several(&["p0"; 17]).as_bytes()).err(), Some(Refusal::Requirements));
     assert_eq!(read_requirement(b"G[0,2] p0").err(), Some(Refusal::Requirement));
     let row = b"t=0 src=m v0=10\n";
     let (mut times, mut values) = ([7; 1], [7; 1]);
@@ -172,5 +213,5 @@ fn distances_are_counted_from_one() {
 #[test]
 fn refusals_have_the_papers_numbers() {
     let numbers = Refusal::ALL.map(Refusal::number);
-    assert_eq!(numbers, [1, 2, 3, 4, 5, 6, 7, 8, 9, 10, 11]);
+    assert_eq!(numbers, [1, 12, 2, 3, 4, 5, 6, 7, 8, 9, 10, 11]);
 }

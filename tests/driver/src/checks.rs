@@ -1,4 +1,4 @@
-//! What one accepted sheet must satisfy, without any other implementation.
+//! What a sheet must satisfy, without any other implementation.
 
 use peer::answer::{answer, Answer};
 use peer::between::{claims, contradicted};
@@ -42,12 +42,78 @@ pub fn read_back(sound: &Sound) -> Checked {
     same("channels", sheet.channels, draft.channels)?;
     same("step", sheet.step, draft.step)?;
     same("drift", sheet.drift, draft.drift)?;
-    same("requirement", &text[sheet.requirement], &draft.requirement[..])?;
+    let requirements: Vec<&[u8]> =
+        sheet.requirements.iter().map(|places| &text[places.clone()]).collect();
+    same("requirements", &requirements, &draft.requirements.iter().map(Vec::as_slice).collect())?;
     for number in 0..16 {
         same("predicate", sheet.predicates[number as usize], drafted(draft, number))?;
     }
-    let table = read_requirement(&draft.requirement);
-    same("table", table, Ok(Table::of_tree(&sound.tree)))
+    for (requirement, tree) in requirements.iter().zip(&sound.trees) {
+        same("table", read_requirement(requirement), Ok(Table::of_tree(tree)))?;
+    }
+    Ok(())
+}
+
+/// The text without its other `req=` lines: of the lines that begin so, one behind the other, the
+/// one of number k is kept.
+pub fn only(text: &[u8], k: usize) -> Vec<u8> {
+    let lines: Vec<&[u8]> = text.split_inclusive(|&byte| byte == b'\n').collect();
+    let is_requirement = |line: &&[u8]| line.starts_with(b"req=");
+    let first = lines.iter().position(is_requirement).unwrap_or(lines.len());
+    let count = lines[first..].iter().take_while(|line| is_requirement(line)).count();
+    [&lines[..first], &lines[first + k..first + k + 1], &lines[first + count..]].concat().concat()
+}
+
+/// One of several printed lines.
+pub struct Line {
+    pub k: usize,
+    /// What follows `req=K` and the space.
+    pub alone: Vec<u8>,
+    /// None where the requirement is refused.
+    pub margin: Option<i64>,
+}
+
+/// The lines of an answer to several requirements, from its bytes.
+pub fn lines(printed: &[u8]) -> Result<Vec<Line>, String> {
+    let line = |bytes: &[u8]| {
+        let words = std::str::from_utf8(bytes).ok()?.strip_prefix("req=")?;
+        let (k, alone) = words.split_once(' ')?;
+        let margin = alone.split(' ').find_map(|word| word.strip_prefix("margin="));
+        let margin = match margin {
+            Some(margin) => Some(margin.parse().ok()?),
+            None => alone.starts_with("refused=").then_some(None)?,
+        };
+        Some(Line { k: k.parse().ok()?, alone: alone.as_bytes().to_vec(), margin })
+    };
+    let lines: Option<Vec<Line>> =
+        printed.split_inclusive(|&byte| byte == b'\n').map(line).collect();
+    lines.ok_or("a line without its number, or of no known form".to_string())
+}
+
+/// "Lines come by rising margin, equal margins in sheet order; refused requirements follow, in
+/// sheet order": each requirement once, and of neighbours the one that must precede.
+pub fn in_order(lines: &[Line], count: usize) -> Checked {
+    let mut numbers: Vec<usize> = lines.iter().map(|line| line.k).collect();
+    numbers.sort();
+    same("numbers of the lines", numbers, (0..count).collect())?;
+    for pair in lines.windows(2) {
+        let (one, next) = (&pair[0], &pair[1]);
+        let precedes = match (one.margin, next.margin) {
+            (Some(margin), Some(other)) => margin < other || margin == other && one.k < next.k,
+            (Some(_), None) => true,
+            (None, Some(_)) => false,
+            (None, None) => one.k < next.k,
+        };
+        ensure(precedes, || format!("line {} stands before line {}", one.k, next.k))?;
+    }
+    Ok(())
+}
+
+/// "Each answer equals what that requirement alone would get, refusal included."
+pub fn alone(text: &[u8], line: &Line) -> Checked {
+    let printed = String::from_utf8_lossy(&line.alone).into_owned();
+    let single = String::from_utf8_lossy(&answer(&only(text, line.k))).into_owned();
+    same(&format!("line of requirement {}, and its own sheet's", line.k), printed, single)
 }
 
 fn drafted(draft: &Draft, number: u64) -> Predicate {

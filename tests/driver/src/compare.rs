@@ -1,7 +1,7 @@
 //! One input put to each implementation at hand, and the answers compared.
 
 use crate::flat::{flat_predicates, flat_table, Peer};
-use crate::library::{FlatCall, FlatPredicates, FlatSheet, FlatTable, Library};
+use crate::library::{FlatCall, FlatPredicates, FlatSheet, FlatTable, Library, LINES};
 use crate::program::Program;
 use peer::generate::calls::Call;
 use std::fmt::Debug;
@@ -16,21 +16,19 @@ fn differ(what: &str, peer: impl Debug, other: impl Debug) -> String {
     format!("{what}\n  the peer:  {peer:?}\n  the other: {other:?}")
 }
 
-/// Longer than any printed line; what is behind the line must stay.
-const LINE: usize = 160;
-
 fn lossy(bytes: &[u8]) -> String {
     String::from_utf8_lossy(bytes).into_owned()
 }
 
 pub fn answers(others: &Others, text: &[u8], printed: &[u8]) -> Result<(), String> {
     let Some(library) = &others.library else { return Ok(()) };
-    let mut line = [b'~'; LINE];
-    let length = library.answer(text, &mut line);
-    let mut wanted = [b'~'; LINE];
+    // What is behind the printed lines must stay.
+    let mut lines = [b'~'; LINES];
+    let length = library.answer(text, &mut lines);
+    let mut wanted = [b'~'; LINES];
     wanted[..printed.len()].copy_from_slice(printed);
-    if length != printed.len() || line != wanted {
-        return Err(differ("answer of the library", lossy(printed), (length, lossy(&line))));
+    if length != printed.len() || lines != wanted {
+        return Err(differ("answer of the library", lossy(printed), (length, lossy(&lines))));
     }
     Ok(())
 }
@@ -68,7 +66,7 @@ fn same<T: PartialEq + Debug>(
 pub fn sheets(others: &Others, text: &[u8]) -> Result<(), String> {
     let read = |library: &dyn Library| {
         let predicates = FlatPredicates { ranges: [NOISE; 32], ends: [SIGNED_NOISE; 32] };
-        let mut sheet = FlatSheet { numbers: [NOISE; 6], predicates };
+        let mut sheet = FlatSheet { numbers: [NOISE; 5], places: [NOISE; 32], predicates };
         (library.sheet(text, &mut sheet), sheet)
     };
     same(others, "sheet", read).map(|_| ())

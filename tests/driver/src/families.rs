@@ -3,12 +3,13 @@
 use crate::checks::{self, Tried};
 use crate::compare::{self, Others};
 use crate::tally::Tally;
-use peer::answer::{judge_sheet, printed, Answer};
+use peer::answer::{entry_line, judge_sheet, printed, Answer, Entry};
 use peer::generate::calls::{call, long, Foretold};
 use peer::generate::damage::{damaged, damaged_requirement};
-use peer::generate::faults::{bad_requirement, faulty};
+use peer::generate::faults::{bad_requirement, faulty, Numbers};
 use peer::generate::limits::limits;
 use peer::generate::prng::Prng;
+use peer::generate::several::several;
 use peer::generate::sheets::{sound, tiny, Sound};
 use peer::refusal::Refusal;
 use peer::verdict::Verdict;
@@ -35,11 +36,12 @@ pub struct Family {
     pub run: Run,
 }
 
-pub const FAMILIES: [Family; 7] = [
-    Family { name: "sound", share: 200, run: sound_sheet },
-    Family { name: "tiny", share: 100, run: tiny_sheet },
-    Family { name: "faulty", share: 250, run: faulty_sheet },
-    Family { name: "damaged", share: 200, run: damaged_sheet },
+pub const FAMILIES: [Family; 8] = [
+    Family { name: "sound", share: 180, run: sound_sheet },
+    Family { name: "tiny", share: 90, run: tiny_sheet },
+    Family { name: "faulty", share: 230, run: faulty_sheet },
+    Family { name: "damaged", share: 180, run: damaged_sheet },
+    Family { name: "several", share: 70, run: several_sheet },
     Family { name: "calls", share: 150, run: library_call },
     Family { name: "requirements", share: 50, run: requirement_text },
     Family { name: "rows", share: 50, run: rows_text },
@@ -53,23 +55,61 @@ fn at<T>(input: &[u8], result: Result<T, String>) -> Result<T, Failure> {
 }
 
 /// The peer's answer, compared with the others'.
-fn answered(bench: &mut Bench, text: &[u8]) -> Result<Result<Answer, Refusal>, Failure> {
-    let outcome = judge_sheet(text);
-    let line = printed(&outcome);
-    bench.tally.add(kind_of_answer(&line));
-    at(text, compare::answers(bench.others, text, &line))?;
+fn answered(bench: &mut Bench, text: &[u8]) -> Result<Result<Vec<Entry>, Refusal>, Failure> {
+    let judged = judge_sheet(text);
+    let lines = printed(&judged);
+    at(text, compare::answers(bench.others, text, &lines))?;
     at(text, compare::sheets(bench.others, text))?;
     if bench.ask_program {
-        at(text, compare::program(bench.others, text, &line))?;
+        at(text, compare::program(bench.others, text, &lines))?;
     }
-    Ok(outcome)
+    match &judged {
+        Err(refusal) => bench.tally.add(format!("answer refused={}", refusal.number())),
+        Ok(entries) => {
+            entries.iter().for_each(|entry| bench.tally.add(kind_of_entry(entry)));
+            if entries.len() > 1 {
+                each_alone(bench, text, &lines, entries.len())?;
+            }
+        }
+    }
+    Ok(judged)
 }
 
-/// The refusal or the verdict of a printed line.
-fn kind_of_answer(line: &[u8]) -> String {
-    let line = String::from_utf8_lossy(line);
+/// The refusal or the verdict of a requirement.
+fn kind_of_entry(entry: &Entry) -> String {
+    let line = entry_line(entry);
     let last = line.trim_end().rsplit(' ').next().unwrap_or_default();
     format!("answer {last}")
+}
+
+/// The lines of several requirements are in order, and each is what its requirement alone gets: of
+/// the peer, of the library, and for one of them of the program.
+fn each_alone(bench: &mut Bench, text: &[u8], printed: &[u8], count: usize) -> Result<(), Failure> {
+    let lines = at(text, checks::lines(printed))?;
+    at(text, checks::in_order(&lines, count))?;
+    for line in &lines {
+        at(text, checks::alone(text, line))?;
+        let single = checks::only(text, line.k);
+        at(&single, compare::answers(bench.others, &single, &line.alone))?;
+        if bench.ask_program && line.k == text.len() % count {
+            at(&single, compare::program(bench.others, &single, &line.alone))?;
+        }
+    }
+    let accepted = lines.iter().filter(|line| line.margin.is_some()).count();
+    let equal = lines.windows(2).any(|p| p[0].margin.is_some() && p[0].margin == p[1].margin);
+    for (what, found) in [
+        ("16 requirements", count == 16),
+        ("none accepted", accepted == 0),
+        ("some refused", (1..count).contains(&accepted)),
+        ("all accepted", accepted == count),
+        ("another order", lines.iter().enumerate().any(|(place, line)| line.k != place)),
+        ("equal margins", equal),
+    ] {
+        if found {
+            bench.tally.add(format!("several: {what}"));
+        }
+    }
+    Ok(())
 }
 
 fn sound_sheet(bench: &mut Bench, rng: &mut Prng) -> Result<(), Failure> {
@@ -86,10 +126,22 @@ fn accepted(bench: &mut Bench, rng: &mut Prng, sound: &Sound) -> Result<(), Fail
     let text = sound.draft.text();
     at(&text, checks::read_back(sound))?;
     at(&text, checks::filled_unread(&sound.draft, rng))?;
-    let outcome = answered(bench, &text)?;
-    let answer = at(&text, outcome.map_err(|refusal| format!("a sound sheet: {refusal:?}")))?;
-    at(&text, checks::margins(&answer))?;
-    match at(&text, checks::histories(&answer, rng))? {
+    let refused = |refusal| format!("a sound sheet: {refusal:?}");
+    for entry in at(&text, answered(bench, &text)?.map_err(refused))? {
+        let answer = at(&text, entry.map_err(refused))?;
+        accepted_requirement(bench, rng, &text, &answer)?;
+    }
+    Ok(())
+}
+
+fn accepted_requirement(
+    bench: &mut Bench,
+    rng: &mut Prng,
+    text: &[u8],
+    answer: &Answer,
+) -> Result<(), Failure> {
+    at(text, checks::margins(answer))?;
+    match at(text, checks::histories(answer, rng))? {
         Tried::All(0) => bench.tally.add("histories: there is none"),
         Tried::All(count) => {
             bench.tally.add("histories: all tried");
@@ -105,11 +157,23 @@ fn accepted(bench: &mut Bench, rng: &mut Prng, sound: &Sound) -> Result<(), Fail
 }
 
 fn faulty_sheet(bench: &mut Bench, rng: &mut Prng) -> Result<(), Failure> {
-    let (text, number) = faulty(rng);
-    let outcome = answered(bench, &text)?;
-    let given = outcome.err().map_or(0, Refusal::number);
-    if given != number {
-        return at(&text, Err(format!("faults of number {number} put in, refused by {given}")));
+    let (text, numbers) = faulty(rng);
+    foretold_sheet(bench, &text, numbers)
+}
+
+fn several_sheet(bench: &mut Bench, rng: &mut Prng) -> Result<(), Failure> {
+    let (text, numbers) = several(rng);
+    foretold_sheet(bench, &text, numbers)
+}
+
+fn foretold_sheet(bench: &mut Bench, text: &[u8], numbers: Numbers) -> Result<(), Failure> {
+    let number = |entry: &Entry| entry.as_ref().err().map_or(0, |refusal| refusal.number());
+    let given: Numbers = match answered(bench, text)? {
+        Err(refusal) => Err(refusal.number()),
+        Ok(entries) => Ok(entries.iter().map(number).collect()),
+    };
+    if given != numbers {
+        return at(text, Err(format!("refused by {given:?}, foretold {numbers:?}")));
     }
     Ok(())
 }
@@ -178,10 +242,11 @@ fn rows_length(text: &[u8], head_lines: usize) -> usize {
 /// Sheets at each limit: the same in every run, always put to the program too.
 pub fn limit_sheets(bench: &mut Bench) -> Result<(), Failure> {
     for limit in limits() {
-        let line = printed(&answered(bench, &limit.text)?);
-        if line != limit.line.as_bytes() {
-            let line = String::from_utf8_lossy(&line).into_owned();
-            return at(&limit.text, Err(format!("{}: {line:?}, not {:?}", limit.name, limit.line)));
+        let lines = printed(&answered(bench, &limit.text)?);
+        if lines != limit.printed.as_bytes() {
+            let lines = String::from_utf8_lossy(&lines).into_owned();
+            let what = format!("{}: {lines:?}, not {:?}", limit.name, limit.printed);
+            return at(&limit.text, Err(what));
         }
         bench.tally.add("limits");
     }

@@ -35,11 +35,13 @@ pub fn flat_predicates(predicates: &Predicates) -> FlatPredicates {
 }
 
 pub fn flat_sheet(sheet: &Sheet) -> FlatSheet {
-    let numbers = [
-        sheet.channels, sheet.step, sheet.drift, sheet.requirement.start as u64,
-        sheet.requirement.end as u64, sheet.rows_from as u64,
-    ];
-    FlatSheet { numbers, predicates: flat_predicates(&sheet.predicates) }
+    let count = sheet.requirements.len() as u64;
+    let numbers = [sheet.channels, sheet.step, sheet.drift, sheet.rows_from as u64, count];
+    let mut places = [0; 32];
+    for (place, requirement) in places.chunks_mut(2).zip(&sheet.requirements) {
+        place.copy_from_slice(&[requirement.start as u64, requirement.end as u64]);
+    }
+    FlatSheet { numbers, places, predicates: flat_predicates(&sheet.predicates) }
 }
 
 fn table(flat: &FlatTable) -> Table {
@@ -91,9 +93,9 @@ fn hand<T, F>(found: Result<T, Refusal>, flat: impl Fn(T) -> F, place: &mut F) -
 pub struct Peer;
 
 impl Library for Peer {
-    fn answer(&self, text: &[u8], line: &mut [u8]) -> usize {
+    fn answer(&self, text: &[u8], lines: &mut [u8]) -> usize {
         let printed = peer::answer::answer(text);
-        line[..printed.len()].copy_from_slice(&printed);
+        lines[..printed.len()].copy_from_slice(&printed);
         printed.len()
     }
 

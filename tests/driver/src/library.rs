@@ -4,7 +4,7 @@
 //! A refusal is its number, 0 for none. Whatever is lent is written under 0 alone and keeps its
 //! contents under every other number.
 
-use peer::limits::{MOST_NODES, PREDICATES};
+use peer::limits::{MOST_NODES, MOST_REQUIREMENTS, PREDICATES};
 
 /// Five numbers for each of 64 nodes: kind, left, right, lo, hi. Places beyond the count are 0.
 pub type Nodes = [u64; 5 * MOST_NODES];
@@ -37,21 +37,28 @@ pub struct FlatCall<'a> {
     pub values: &'a [i64],
 }
 
-/// Channels, step, drift, the requirement's first place and the place behind its last, the rows'
-/// first place.
-pub type SheetNumbers = [u64; 6];
+/// Channels, step, drift, the rows' first place, the count of requirements.
+pub type SheetNumbers = [u64; 5];
+
+/// Two numbers for each requirement: its first place in the text and the place behind its last.
+/// Places beyond the count are 0.
+pub type Places = [u64; 2 * MOST_REQUIREMENTS];
+
+/// No answer is longer, in bytes.
+pub const LINES: usize = 2_688;
 
 #[derive(Clone, PartialEq, Eq, Debug)]
 pub struct FlatSheet {
     pub numbers: SheetNumbers,
+    pub places: Places,
     pub predicates: FlatPredicates,
 }
 
 pub trait Library {
-    /// The whole answer: the printed line's length. A refusal is a line too.
-    fn answer(&self, text: &[u8], line: &mut [u8]) -> usize;
+    /// The whole answer: the length of the printed lines together. A refusal is a line too.
+    fn answer(&self, text: &[u8], lines: &mut [u8]) -> usize;
 
-    /// Refusal 0 or 1.
+    /// Refusal 0, 1 or 12.
     fn sheet(&self, text: &[u8], sheet: &mut FlatSheet) -> u64;
 
     /// Refusal 0 or 2.

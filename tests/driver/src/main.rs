@@ -18,6 +18,7 @@ use arguments::Arguments;
 use compare::Others;
 use families::{limit_sheets, Bench, Failure, Family, FAMILIES, LONG};
 use peer::generate::prng::{case_seed, Prng};
+use peer::refusal::ORDER;
 use program::Program;
 use std::ops::Range;
 use std::process::ExitCode;
@@ -165,7 +166,7 @@ fn wanted(thousands: u64) -> Vec<(String, u64)> {
     let mut each = |what: &str, numbers: &[u64], least: u64| {
         wanted.extend(numbers.iter().map(|number| (format!("{what}{number}"), least * thousands)));
     };
-    each("answer refused=", &[1, 2, 3, 4, 5, 6, 7, 8, 9, 10, 11], 5);
+    each("answer refused=", &ORDER, 5);
     each("margin call refused=", &[0, 3, 4, 5, 6, 7, 8], 3);
     each("verdict call refused=", &[0, 3, 4, 5, 6, 7, 8, 9, 10, 11], 2);
     each("distance refused=", &[0, 4, 7], 20);
@@ -174,6 +175,12 @@ fn wanted(thousands: u64) -> Vec<(String, u64)> {
     for verdict in ["holds", "fails", "unshown"] {
         wanted.push((format!("answer verdict={verdict}"), 20 * thousands));
     }
+    for what in
+        ["16 requirements", "none accepted", "some refused", "all accepted", "another order"]
+    {
+        wanted.push((format!("several: {what}"), 5 * thousands));
+    }
+    wanted.push(("several: equal margins".to_string(), 20 * thousands));
     for histories in ["there is none", "all tried", "some tried", "a verdict tried on all"] {
         wanted.push((format!("histories: {histories}"), 10 * thousands));
     }

@@ -20,13 +20,13 @@ fn flat<'a>(call: &FlatCall<'a>) -> names::Call<'a> {
 }
 
 impl Library for Proved {
-    fn answer(&self, text: &[u8], line: &mut [u8]) -> usize {
-        names::answer(text, line)
+    fn answer(&self, text: &[u8], lines: &mut [u8]) -> usize {
+        names::answer(text, lines)
     }
 
     fn sheet(&self, text: &[u8], sheet: &mut FlatSheet) -> u64 {
-        let FlatSheet { numbers, predicates: FlatPredicates { ranges, ends } } = sheet;
-        names::sheet(text, numbers, ranges, ends)
+        let FlatSheet { numbers, places, predicates: FlatPredicates { ranges, ends } } = sheet;
+        names::sheet(text, names::Sheet { numbers, places, ranges, ends })
     }
 
     fn requirement(&self, text: &[u8], table: &mut FlatTable) -> u64 {

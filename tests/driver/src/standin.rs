@@ -15,10 +15,10 @@ unsafe fn whole<'a, T, const N: usize>(place: *mut T, len: usize) -> &'a mut [T;
 unsafe extern "C" fn varmityep_answer(
     text: *const u8,
     text_len: usize,
-    line: *mut u8,
-    line_len: usize,
+    lines: *mut u8,
+    lines_len: usize,
 ) -> usize {
-    Peer.answer(from_raw_parts(text, text_len), from_raw_parts_mut(line, line_len))
+    Peer.answer(from_raw_parts(text, text_len), from_raw_parts_mut(lines, lines_len))
 }
 
 #[no_mangle]
@@ -27,17 +27,20 @@ unsafe extern "C" fn varmityep_sheet(
     text_len: usize,
     numbers: *mut u64,
     numbers_len: usize,
+    places: *mut u64,
+    places_len: usize,
     ranges: *mut u64,
     ranges_len: usize,
     ends: *mut i64,
     ends_len: usize,
 ) -> u64 {
-    let (numbers, ranges) = (whole(numbers, numbers_len), whole(ranges, ranges_len));
-    let ends = whole(ends, ends_len);
+    let (numbers, places) = (whole(numbers, numbers_len), whole(places, places_len));
+    let (ranges, ends) = (whole(ranges, ranges_len), whole(ends, ends_len));
     let predicates = FlatPredicates { ranges: *ranges, ends: *ends };
-    let mut sheet = FlatSheet { numbers: *numbers, predicates };
+    let mut sheet = FlatSheet { numbers: *numbers, places: *places, predicates };
     let refusal = Peer.sheet(from_raw_parts(text, text_len), &mut sheet);
-    (*numbers, *ranges, *ends) = (sheet.numbers, sheet.predicates.ranges, sheet.predicates.ends);
+    (*numbers, *places) = (sheet.numbers, sheet.places);
+    (*ranges, *ends) = (sheet.predicates.ranges, sheet.predicates.ends);
     refusal
 }
 

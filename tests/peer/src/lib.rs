@@ -38,4 +38,6 @@ pub mod levels;
 pub mod generate;
 
 #[cfg(test)]
+mod several;
+#[cfg(test)]
 mod worked;

@@ -18,6 +18,8 @@ pub const NO_END: u64 = 4_294_967_295;
 pub const LARGEST_STEP: u64 = 1_000_000_000;
 pub const LARGEST_DRIFT: u64 = 1_000_000_000;
 
+/// The `req=` lines of a sheet.
+pub const MOST_REQUIREMENTS: usize = 16;
 pub const MOST_ENCLOSINGS: usize = 32;
 
 pub const MOST_BYTES: usize = 65_536;

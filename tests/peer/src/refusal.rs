@@ -3,6 +3,7 @@
 #[derive(Clone, Copy, PartialEq, Eq, Debug)]
 pub enum Refusal {
     Text,
+    Requirements,
     Requirement,
     Table,
     Predicates,
@@ -19,6 +20,7 @@ impl Refusal {
     pub fn number(self) -> u64 {
         match self {
             Refusal::Text => 1,
+            Refusal::Requirements => 12,
             Refusal::Requirement => 2,
             Refusal::Table => 3,
             Refusal::Predicates => 4,
@@ -33,8 +35,8 @@ impl Refusal {
     }
 }
 
-/// The numbers in the order in which they count, which need not be that of their size.
-pub const ORDER: [u64; 11] = [1, 2, 3, 4, 5, 6, 7, 8, 9, 10, 11];
+/// The numbers in the order in which they count, which is not that of their size.
+pub const ORDER: [u64; 12] = [1, 12, 2, 3, 4, 5, 6, 7, 8, 9, 10, 11];
 
 /// The one of these numbers that counts first, 0 where there is none.
 pub fn first_of(numbers: &[u64]) -> u64 {

@@ -1,7 +1,7 @@
-//! The sheet: `chan=`, `p=` lines, `step=`, `drift=`, `req=`, rows.
+//! The sheet: `chan=`, `p=` lines, `step=`, `drift=`, `req=` lines, rows.
 
 use crate::fields::{after_key, end, first_line, unsigned, values, Read};
-use crate::limits::{MOST_BYTES, PREDICATES};
+use crate::limits::{MOST_BYTES, MOST_REQUIREMENTS, PREDICATES};
 use crate::predicate::{Predicate, Predicates, Range, UNSET};
 use crate::recording::channels_broken;
 use crate::refusal::{when, Refusal};
@@ -14,19 +14,22 @@ pub struct Sheet {
     pub predicates: Predicates,
     pub step: u64,
     pub drift: u64,
-    /// The places in the text of what follows `req=`, without the line feed.
-    pub requirement: ops::Range<usize>,
-    /// The place in the text of what stands behind the head.
+    /// For each `req=` line, in their order, the places in the text of what follows the key,
+    /// without the line feed.
+    pub requirements: Vec<ops::Range<usize>>,
+    /// The place in the text of what stands behind the last of them.
     pub rows_from: usize,
 }
 
-/// Entry point: refusal 1. The whole text is judged, rows too, unless their width is unknown.
+/// Entry point: refusals 1 and 12. The whole text is judged, rows too, unless their width is
+/// unknown: "12 (no sheet), a seventeenth `req=` line, after 1 and before 2".
 pub fn read_sheet(text: &[u8]) -> Result<Sheet, Refusal> {
     when(text.len() > MOST_BYTES, Refusal::Text)?;
     let sheet = read_head(text)?;
     if !channels_broken(sheet.channels) {
         parse_rows(&text[sheet.rows_from..], sheet.channels)?;
     }
+    when(sheet.requirements.len() > MOST_REQUIREMENTS, Refusal::Requirements)?;
     Ok(sheet)
 }
 
@@ -35,12 +38,22 @@ fn read_head(text: &[u8]) -> Read<Sheet> {
     let (predicates, rest) = predicate_lines(rest)?;
     let (step, rest) = number_line(rest, "step=")?;
     let (drift, rest) = number_line(rest, "drift=")?;
-    let (line, rows) = first_line(rest)?;
-    let requirement = after_key(line, "req=")?;
-    let rows_from = text.len() - rows.len();
-    let to = rows_from - 1;
-    let requirement = to - requirement.len()..to;
-    Ok(Sheet { channels, predicates, step, drift, requirement, rows_from })
+    let (requirements, rows_from) = requirement_lines(text, text.len() - rest.len())?;
+    Ok(Sheet { channels, predicates, step, drift, requirements, rows_from })
+}
+
+/// "A sheet shall take 1 to 16 `req=` lines": the lines from this place on that begin so, one at
+/// least. The first that does not is where the rows begin.
+fn requirement_lines(text: &[u8], mut place: usize) -> Read<(Vec<ops::Range<usize>>, usize)> {
+    let mut requirements = Vec::new();
+    while text[place..].starts_with(b"req=") {
+        let (line, rest) = first_line(&text[place..])?;
+        let to = place + line.len();
+        requirements.push(to - after_key(line, "req=")?.len()..to);
+        place = text.len() - rest.len();
+    }
+    when(requirements.is_empty(), Refusal::Text)?;
+    Ok((requirements, place))
 }
 
 fn number_line<'a>(text: &'a [u8], key: &str) -> Read<(u64, &'a [u8])> {

@@ -237,7 +237,8 @@ const BREAKS: &[(&str, &str)] = &[
     ("drift=2\n", ""),
     ("drift=2\n", "drift=2\ndrift=2\n"),
     ("req=", "rec="),
-    ("req=G[0,2]p0\n", "req=G[0,2]p0\nreq=G[0,2]p0\n"),
+    ("req=G[0,2]p0\n", ""),
+    ("t=1 src=m", "req=G[0,2]p0\nt=1 src=m"),
     ("t=0 ", "t=4294967296 "),
     ("t=0 ", "t=-0 "),
     ("t=0 ", "t=+0 "),
@@ -373,7 +374,8 @@ fn filled_rows_reach_no_answer() {
 #[test]
 fn the_sheet_reader() {
     let sheet = read_sheet(EXAMPLE.as_bytes()).unwrap();
-    assert_eq!(&EXAMPLE[sheet.requirement.clone()], "G[0,2]p0");
+    assert_eq!(sheet.requirements.len(), 1);
+    assert_eq!(&EXAMPLE[sheet.requirements[0].clone()], "G[0,2]p0");
     assert!(EXAMPLE[sheet.rows_from..].starts_with("t=0 "));
     assert_eq!((sheet.channels, sheet.step, sheet.drift), (1, 1, 2));
     let four = "chan=9\np=3 ch=7 lo=* hi=*\np=1 ch=0 lo=* hi=-4\np=15 ch=4294967295 lo=9 hi=-9\nstep=4294967295\ndrift=0\nreq=\n";
@@ -384,7 +386,7 @@ fn the_sheet_reader() {
         sheet.predicates[15],
         Predicate { channel: 4_294_967_295, range: Range::Between(9, -9) }
     );
-    assert_eq!(sheet.requirement, four.len() - 1..four.len() - 1);
+    assert_eq!(sheet.requirements, [four.len() - 1..four.len() - 1]);
 }
 
 #[test]

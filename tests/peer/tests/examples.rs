@@ -1,4 +1,4 @@
-//! Each sheet of the examples prints the line that stands beside it.
+//! Each sheet of the examples prints the lines that stand beside it.
 
 use std::fs;
 use std::path::Path;
@@ -11,10 +11,10 @@ fn examples_print_what_stands_beside_them() {
         let file = entry.expect("a file").path();
         if file.extension().is_some_and(|extension| extension == "sheet") {
             let text = fs::read(&file).expect("a sheet");
-            let printed = fs::read(file.with_extension("printed")).expect("its printed line");
+            let printed = fs::read(file.with_extension("printed")).expect("its printed lines");
             assert_eq!(peer::answer::answer(&text), printed, "{}", file.display());
             sheets += 1;
         }
     }
-    assert!(sheets >= 5);
+    assert!(sheets >= 6);
 }

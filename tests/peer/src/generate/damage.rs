@@ -14,7 +14,7 @@ pub fn damaged(rng: &mut Prng) -> Vec<u8> {
 
 /// Requirement text with damages, for its reader alone.
 pub fn damaged_requirement(rng: &mut Prng) -> Vec<u8> {
-    let mut text = sound(rng).draft.requirement;
+    let mut text = sound(rng).draft.requirements.swap_remove(0);
     for _ in 0..rng.below(4) {
         damage(rng, &mut text);
     }

@@ -16,7 +16,7 @@ pub struct Draft {
     pub predicates: Vec<PredicateLine>,
     pub step: u64,
     pub drift: u64,
-    pub requirement: Vec<u8>,
+    pub requirements: Vec<Vec<u8>>,
     pub rows: Vec<Row>,
 }
 
@@ -26,7 +26,7 @@ impl Draft {
         lines.extend(self.predicates.iter().map(predicate_line));
         lines.push(format!("step={}", self.step).into_bytes());
         lines.push(format!("drift={}", self.drift).into_bytes());
-        lines.push([b"req=", &self.requirement[..]].concat());
+        lines.extend(self.requirements.iter().map(|text| requirement_line(text)));
         lines.extend(self.rows.iter().map(row_line));
         lines
     }
@@ -35,9 +35,14 @@ impl Draft {
         joined(&self.lines())
     }
 
+    /// How many lines stand before the first `req=` line.
+    pub fn lines_before_requirements(&self) -> usize {
+        self.predicates.len() + 3
+    }
+
     /// How many lines stand before the rows.
     pub fn head_lines(&self) -> usize {
-        self.predicates.len() + 4
+        self.lines_before_requirements() + self.requirements.len()
     }
 
     /// The places of the measured rows.
@@ -53,6 +58,10 @@ impl Draft {
 /// Lines with a line feed behind each.
 pub fn joined(lines: &[Vec<u8>]) -> Vec<u8> {
     lines.iter().flat_map(|line| line.iter().copied().chain([b'\n'])).collect()
+}
+
+pub fn requirement_line(text: &[u8]) -> Vec<u8> {
+    [b"req=", text].concat()
 }
 
 fn predicate_line(predicate: &PredicateLine) -> Vec<u8> {

@@ -1,37 +1,67 @@
-//! Sheets with faults put in on purpose, so that the refusal is known without reading them: the
-//! first number, in the order of refusals, among the faults put in.
+//! Sheets with faults put in on purpose, so that the refusals are known without reading them: of
+//! each requirement the first number, in the order of refusals, among the faults that concern it.
 
-use super::draft::{joined, Draft, PredicateLine};
+use super::draft::{joined, requirement_line, Draft, PredicateLine};
 use super::prng::Prng;
 use super::sheets::{filled, sound};
 use crate::limits::{
     LARGEST_SIGNED, LARGEST_STEP, LARGEST_UNSIGNED, LARGEST_VALUE, LAST_TIME, MOST_BYTES,
+    MOST_REQUIREMENTS,
 };
 use crate::refusal::{first_of, last_to_first, ORDER};
 use crate::rows::Row;
 
-/// A sheet with one to three faults, and the number that it must be refused by.
-pub fn faulty(rng: &mut Prng) -> (Vec<u8>, u64) {
+/// The number that a whole sheet is refused by (1 or 12), else for each requirement the number
+/// that it is refused by, 0 for none.
+pub type Numbers = Result<Vec<u64>, u64>;
+
+/// A sheet with one to three faults, and the numbers that it must be refused by.
+pub fn faulty(rng: &mut Prng) -> (Vec<u8>, Numbers) {
     let mut draft = sound(rng).draft;
     let numbers: Vec<u64> = (0..1 + rng.below(3)).map(|_| rng.pick(&ORDER)).collect();
-    // A fault that counts later goes in earlier: one that counts before it may undo it, and wins
-    // anyway.
-    let numbers = last_to_first(&numbers);
+    let mut entries = vec![Vec::new(); draft.requirements.len()];
     // Cells run out by many rows and nodes, which later faults keep.
     if numbers.contains(&8) {
         too_many_cells(rng, &mut draft);
+        for k in some(rng, entries.len()) {
+            draft.requirements[k] = sixty_four_nodes();
+            entries[k].push(8);
+        }
     }
-    for &number in &numbers {
-        put(rng, &mut draft, number);
+    // A fault that counts later goes in earlier: one that counts before it may undo it, and wins
+    // anyway.
+    for number in last_to_first(&numbers) {
+        for k in put(rng, &mut draft, number) {
+            entries[k].push(number);
+        }
     }
-    let text = if numbers.contains(&1) { broken_text(rng, &draft) } else { draft.text() };
-    (text, first_of(&numbers))
+    if numbers.contains(&1) {
+        return (broken_text(rng, &draft), Err(1));
+    }
+    if numbers.contains(&12) {
+        return (draft.text(), Err(12));
+    }
+    (draft.text(), Ok(entries.iter().map(|own| first_of(own)).collect()))
 }
 
-fn put(rng: &mut Prng, draft: &mut Draft, number: u64) {
+/// Some of so many requirements, at least one; half the time all.
+pub fn some(rng: &mut Prng, count: usize) -> Vec<usize> {
+    let one = rng.below(count);
+    let all = rng.once_in(2);
+    (0..count).filter(|&k| k == one || all || rng.once_in(3)).collect()
+}
+
+/// Puts a fault in. Gives the requirements that it concerns: all, if it is one of the recording.
+fn put(rng: &mut Prng, draft: &mut Draft, number: u64) -> Vec<usize> {
+    let all = (0..draft.requirements.len()).collect();
     match number {
-        2 => draft.requirement = bad_requirement(rng),
-        3 => name_unset(rng, draft),
+        2 => {
+            let some = some(rng, draft.requirements.len());
+            some.iter().for_each(|&k| draft.requirements[k] = bad_requirement(rng));
+            return some;
+        }
+        3 => return name_unset(rng, draft),
+        12 => too_many_requirements(rng, draft),
         4 => bad_channels_or_predicate(rng, draft),
         5 => bad_row_count(rng, draft),
         6 => bad_times(rng, draft),
@@ -40,7 +70,21 @@ fn put(rng: &mut Prng, draft: &mut Draft, number: u64) {
         10 => gap(rng, draft),
         11 => jump(rng, draft),
         // 8 goes in before all others, 1 into the text.
-        _ => {}
+        _ => return Vec::new(),
+    }
+    all
+}
+
+/// Seventeen lines and more: the sheet's own, and any further ones, bad ones among them.
+fn too_many_requirements(rng: &mut Prng, draft: &mut Draft) {
+    let count = MOST_REQUIREMENTS + 1 + rng.pick(&[0, 0, 0, 1, 2, 9]);
+    while draft.requirements.len() < count {
+        let further = match rng.below(4) {
+            0 => bad_requirement(rng),
+            1 => b"T".to_vec(),
+            _ => draft.requirements[rng.below(draft.requirements.len())].clone(),
+        };
+        draft.requirements.insert(rng.below(draft.requirements.len() + 1), further);
     }
 }
 
@@ -64,16 +108,30 @@ pub fn bad_requirement(rng: &mut Prng) -> Vec<u8> {
     }
 }
 
-fn name_unset(rng: &mut Prng, draft: &mut Draft) {
+/// Some requirements name a number that has no line; or one loses its line, and all name that.
+fn name_unset(rng: &mut Prng, draft: &mut Draft) -> Vec<usize> {
+    let count = draft.requirements.len();
+    let unset: Vec<u64> = (0..16).filter(|&number| !draft.is_set(number)).collect();
+    let some = some(rng, count);
+    if some.len() < count && !unset.is_empty() {
+        let number = rng.pick(&unset);
+        some.iter().for_each(|&k| draft.requirements[k] = naming(rng, number));
+        return some;
+    }
     let number = rng.below(16) as u64;
     draft.predicates.retain(|predicate| predicate.number != number);
-    draft.requirement = match rng.below(3) {
+    draft.requirements.iter_mut().for_each(|requirement| *requirement = naming(rng, number));
+    (0..count).collect()
+}
+
+pub fn naming(rng: &mut Prng, number: u64) -> Vec<u8> {
+    match rng.below(3) {
         0 => format!("p{number}"),
         // The margin of true or anything is TOP; the predicate is judged all the same.
         1 => format!("T|p{number}"),
         _ => format!("G[0,*](T&F[3,9]p{number})"),
     }
-    .into_bytes();
+    .into_bytes()
 }
 
 fn bad_channels_or_predicate(rng: &mut Prng, draft: &mut Draft) {
@@ -135,9 +193,12 @@ fn bad_value(rng: &mut Prng, draft: &mut Draft) {
     draft.rows[place].values[channel] = rng.pick(&[beyond, -beyond]);
 }
 
-/// 64 nodes and at least 65 rows; a gap's fault may take one row away.
-fn too_many_cells(rng: &mut Prng, draft: &mut Draft) {
-    draft.requirement = format!("!{}", vec!["T"; 32].join("|")).into_bytes();
+pub fn sixty_four_nodes() -> Vec<u8> {
+    format!("!{}", vec!["T"; 32].join("|")).into_bytes()
+}
+
+/// At least 65 rows, too many for 64 nodes; a gap's fault may take one row away.
+pub fn too_many_cells(rng: &mut Prng, draft: &mut Draft) {
     let rows = 66 + rng.below(8) as u64;
     let values = vec![3; draft.channels as usize];
     let step = draft.step.min(20_000_000);
@@ -203,27 +264,30 @@ fn jump(rng: &mut Prng, draft: &mut Draft) {
 /// A fault of the text form, put into the written sheet.
 fn broken_text(rng: &mut Prng, draft: &Draft) -> Vec<u8> {
     let lines = draft.lines();
-    let head = draft.head_lines();
+    let (first, head) = (draft.lines_before_requirements(), draft.head_lines());
     let rows_are_read = (1..=8).contains(&draft.channels);
-    // The requirement's line is judged by its key alone, so most faults go elsewhere.
-    let judged = if rows_are_read { lines.len() } else { head };
+    // A requirement's line is judged by its key alone, so most faults go elsewhere.
+    let judged = if rows_are_read { lines.len() } else { first };
     let place = loop {
         let place = rng.below(judged);
-        if place != head - 1 {
+        if !(first..head).contains(&place) {
             break place;
         }
     };
-    match rng.below(6) {
+    match rng.below(7) {
         0 => with_line(&lines, place, broken_layout(rng, &lines[place])),
         1 | 2 => with_line(&lines, place, broken_field(rng, &lines[place])),
         3 => broken_order(rng, draft, lines),
         4 if rows_are_read => broken_tail(rng, draft, lines),
         5 if rng.once_in(10) => too_long(rng, draft),
+        6 => unended(draft),
         _ => {
             let keys = ["chan=", "p=", "step=", "drift=", "req=", "t=", "", "#", "Req="];
+            // Behind the `req=` lines another one is no fault.
+            let fits = |key: &str| lines[place].starts_with(key.as_bytes()) && !key.is_empty();
             let kept: Vec<&&str> = keys
                 .iter()
-                .filter(|key| !lines[place].starts_with(key.as_bytes()) || key.is_empty())
+                .filter(|&&key| !fits(key) && (key != "req=" || place != head))
                 .collect();
             let value = lines[place].iter().position(|&byte| byte == b'=').map_or(0, |at| at + 1);
             // A `p=` line may stand where `step=` is due; with step's value it has too few fields.
@@ -233,6 +297,13 @@ fn broken_text(rng: &mut Prng, draft: &Draft) -> Vec<u8> {
     }
 }
 
+/// The text ends in its last `req=` line, before the line feed.
+pub fn unended(draft: &Draft) -> Vec<u8> {
+    let mut text = joined(&draft.lines()[..draft.head_lines()]);
+    text.pop();
+    text
+}
+
 fn with_line(lines: &[Vec<u8>], place: usize, line: Vec<u8>) -> Vec<u8> {
     let mut lines = lines.to_vec();
     lines[place] = line;
@@ -240,7 +311,7 @@ fn with_line(lines: &[Vec<u8>], place: usize, line: Vec<u8>) -> Vec<u8> {
 }
 
 fn broken_layout(rng: &mut Prng, line: &[u8]) -> Vec<u8> {
-    let line = String::from_utf8(line.to_vec()).expect("only the requirement may be no text");
+    let line = String::from_utf8(line.to_vec()).expect("only a requirement may be no text");
     match rng.below(7) {
         0 => format!("{line}\r"),
         1 => format!("{line} "),
@@ -278,42 +349,57 @@ fn broken_field(rng: &mut Prng, line: &[u8]) -> Vec<u8> {
 
 /// A line missing, twice, or out of its place.
 fn broken_order(rng: &mut Prng, draft: &Draft, mut lines: Vec<Vec<u8>>) -> Vec<u8> {
-    let head = draft.head_lines();
-    let (step, drift, req) = (head - 3, head - 2, head - 1);
-    match rng.below(6) {
+    let (first, head) = (draft.lines_before_requirements(), draft.head_lines());
+    let (step, drift) = (first - 2, first - 1);
+    match rng.below(7) {
         0 => {
-            let place = rng.pick(&[0, step, drift, req]);
+            let place = rng.pick(&[0, step, drift]);
             lines.remove(place);
         }
         1 => lines.swap(step, drift),
-        2 => lines.swap(0, rng.pick(&[step, drift, req])),
+        2 => lines.swap(0, rng.pick(&[step, drift, first])),
         3 => {
             let place = rng.pick(&[0, step, drift]);
             lines.insert(place, lines[place].clone());
         }
-        4 if head > 4 => {
-            let place = 1 + rng.below(head - 4);
+        4 if first > 3 => {
+            let place = 1 + rng.below(first - 3);
             let twice = lines[place].clone();
-            lines.insert(1 + rng.below(head - 4), twice);
+            lines.insert(1 + rng.below(first - 3), twice);
         }
-        _ => lines.insert(rng.below(head), Vec::new()),
+        // No `req=` line is left.
+        5 => drop(lines.drain(first..head)),
+        // Behind the first `req=` line it might stand where nothing is read.
+        _ => lines.insert(rng.below(first + 1), Vec::new()),
     }
     joined(&lines)
 }
 
 /// A fault behind the head, of a sheet whose rows are read.
 fn broken_tail(rng: &mut Prng, draft: &Draft, mut lines: Vec<Vec<u8>>) -> Vec<u8> {
-    let head = draft.head_lines();
+    let (first, head) = (draft.lines_before_requirements(), draft.head_lines());
     let mut row =
         Draft { rows: vec![filled(rng, draft.channels)], ..draft.clone() }.lines().remove(head);
-    match rng.below(5) {
+    match rng.below(7) {
         0 => row.extend(format!(" v{}=0", draft.channels).bytes()),
         1 => {
             let end = row.iter().rposition(|&byte| byte == b' ').expect("a field of values");
             row.truncate(end);
         }
         2 => row.clear(),
-        3 => row = lines[rng.below(head)].clone(),
+        3 => row = lines[rng.below(first)].clone(),
+        4 => {
+            // A requirement behind a row.
+            lines.insert(head, row);
+            row = requirement_line(b"T");
+            lines.insert(head + 1 + rng.below(lines.len() - head), row);
+            return joined(&lines);
+        }
+        5 => {
+            // The rows begin at the blank line, and a requirement may follow.
+            lines.insert(first + 1 + rng.below(lines.len() - first), Vec::new());
+            return joined(&lines);
+        }
         _ => {
             // The last line's line feed is missing.
             lines.push(row);

@@ -1,4 +1,4 @@
-//! Sheets at and one past each limit of size, each with the line that the program must print.
+//! Sheets at and one past each limit of size, each with the lines that the program must print.
 
 use super::draft::{Draft, PredicateLine};
 use crate::rows::Row;
@@ -6,7 +6,7 @@ use crate::rows::Row;
 pub struct Limit {
     pub name: String,
     pub text: Vec<u8>,
-    pub line: String,
+    pub printed: String,
 }
 
 /// Rows one second apart, all values 0; predicate 0 is at least 0, so its margin is 1.
@@ -18,7 +18,7 @@ fn draft(channels: u64, rows: usize, requirement: &str) -> Draft {
         predicates: vec![PredicateLine { number: 0, channel: 0, lo: Some(0), hi: None }],
         step: 1,
         drift: 0,
-        requirement: requirement.as_bytes().to_vec(),
+        requirements: vec![requirement.as_bytes().to_vec()],
         rows: (0..rows).map(row).collect(),
     }
 }
@@ -36,8 +36,8 @@ fn refused(number: u64) -> String {
     format!("refused={number}\n")
 }
 
-fn limit(name: &str, draft: Draft, line: String) -> Limit {
-    Limit { name: name.to_string(), text: draft.text(), line }
+fn limit(name: &str, draft: Draft, printed: String) -> Limit {
+    Limit { name: name.to_string(), text: draft.text(), printed }
 }
 
 /// `p0` joined so many times.
@@ -48,6 +48,8 @@ fn joined(count: usize) -> String {
 pub fn limits() -> Vec<Limit> {
     let mut limits = rows_and_cells();
     limits.extend(requirement_sizes());
+    limits.extend(requirement_counts());
+    limits.extend(requirement_lines());
     limits.extend(text_sizes());
     limits
 }
@@ -125,6 +127,102 @@ fn requirement_sizes() -> Vec<Limit> {
     ]
 }
 
+/// A sheet with these requirements over so many rows.
+fn several(rows: usize, requirements: &[&str]) -> Draft {
+    let texts = requirements.iter().map(|text| text.as_bytes().to_vec()).collect();
+    Draft { requirements: texts, ..draft(1, rows, "") }
+}
+
+/// The line of each of so many requirements, by its number.
+fn each(count: usize, line: impl Fn(usize) -> String) -> String {
+    (0..count).map(|k| format!("req={k} {}", line(k))).collect()
+}
+
+fn requirement_counts() -> Vec<Limit> {
+    let many = |count: usize, requirement: &str| several(2, &vec![requirement; count]);
+    let holding = |count| each(count, |_| holds(2, 0));
+    let mut one_bad = many(17, "p0");
+    one_bad.requirements[16] = b"p".to_vec();
+    let unread = |count| Draft { channels: 0, rows: Vec::new(), ..many(count, "T") };
+    // Long lines: all three margins are −TOP, every row but one is filled.
+    let mut longest = several(1, &["F[1,1]T"; 16]);
+    let row = Row { time: 0, measured: false, values: vec![0] };
+    longest.rows.extend(vec![row; 4_000]);
+    let missed = "rows=1 filled=4000 margin=-4000000000 hold=-4000000000 fail=-4000000000 \
+        verdict=unshown\n";
+    vec![
+        limit("one requirement", many(1, "p0"), holds(2, 0)),
+        limit("2 requirements", many(2, "p0"), holding(2)),
+        limit("15 requirements", many(15, "p0"), holding(15)),
+        limit("16 requirements", many(16, "p0"), holding(16)),
+        limit("17 requirements", many(17, "p0"), refused(12)),
+        limit("18 requirements", many(18, "p0"), refused(12)),
+        limit("10,000 requirements", many(10_000, "T"), refused(12)),
+        limit("17 requirements, one bad", one_bad, refused(12)),
+        limit("17 bad requirements", many(17, ""), refused(12)),
+        limit("16 bad requirements", many(16, ""), each(16, |_| refused(2))),
+        limit("16 requirements, unread rows", unread(16), each(16, |_| refused(4))),
+        limit("17 requirements, unread rows", unread(17), refused(12)),
+        limit("16 long lines", longest, each(16, |_| missed.to_string())),
+        limit(
+            "16 requirements of 4,096 bytes",
+            many(16, &format!("{}p0", "!".repeat(4_030))),
+            each(16, |_| refused(2)),
+        ),
+        limit(
+            "16 requirements, 2,048 rows",
+            several(2_048, &["G[0,*]p0"; 16]),
+            each(16, |_| holds(2_048, 0)),
+        ),
+        limit("16 requirements, 2,049 rows", several(2_049, &["p0"; 16]), each(16, |_| refused(5))),
+    ]
+}
+
+fn requirement_lines() -> Vec<Limit> {
+    let whole = |count| several(2, &vec!["p0"; count]).text();
+    let unread = |count| Draft { channels: 9, rows: Vec::new(), ..several(2, &vec!["T"; count]) };
+    // Without the rows, and without the last line feed.
+    let cut = |draft: Draft| {
+        let mut text = Draft { rows: Vec::new(), ..draft }.text();
+        text.pop();
+        text
+    };
+    let behind = |mut text: Vec<u8>, bytes: &[u8]| {
+        text.extend(bytes);
+        text
+    };
+    let text = |name: &str, text, printed| Limit { name: name.to_string(), text, printed };
+    let mixed = several(2, &["p0", "p1", "!p0", "p0&p0", "", "!!p0", "F[0,9]!p0", "p0"]);
+    let order = "req=2 rows=2 filled=0 margin=-1 hold=-1 fail=1 verdict=fails\n\
+        req=6 rows=2 filled=0 margin=-1 hold=-1 fail=1 verdict=fails\n\
+        req=0 rows=2 filled=0 margin=1 hold=1 fail=-1 verdict=holds\n\
+        req=3 rows=2 filled=0 margin=1 hold=1 fail=-1 verdict=holds\n\
+        req=5 rows=2 filled=0 margin=1 hold=1 fail=-1 verdict=holds\n\
+        req=7 rows=2 filled=0 margin=1 hold=1 fail=-1 verdict=holds\n\
+        req=1 refused=3\nreq=4 refused=2\n";
+    vec![
+        limit("by margin, then refused", mixed, order.to_string()),
+        text("no requirement", several(2, &[]).text(), refused(1)),
+        text("16 requirements, a broken row", behind(whole(16), b"t=9 src=m\n"), refused(1)),
+        text("17 requirements, a broken row", behind(whole(17), b"t=9 src=m\n"), refused(1)),
+        text(
+            "17 requirements, no last line feed",
+            behind(whole(17), b"t=9 src=m v0=0"),
+            refused(1),
+        ),
+        text("a requirement behind the rows", behind(whole(1), b"req=p0\n"), refused(1)),
+        text("16 requirements, the last cut", cut(several(2, &["p0"; 16])), refused(1)),
+        text("17 requirements, the last cut", cut(several(2, &["p0"; 17])), refused(1)),
+        text("unread rows, a requirement cut", cut(unread(1)), refused(1)),
+        text("unread rows, the second cut", cut(unread(2)), refused(1)),
+        text("unread rows, the 17th cut", cut(unread(17)), refused(1)),
+        text("unread rows, a key alone", behind(unread(1).text(), b"req="), refused(1)),
+        text("unread rows, junk", behind(unread(2).text(), b"re=\nreq=T"), each(2, |_| refused(4))),
+        text("unread rows, 12 and junk", behind(unread(17).text(), b"x\r\n"), refused(12)),
+        text("unread rows, lines behind junk", behind(unread(1).text(), b"\nreq=T\n"), refused(4)),
+    ]
+}
+
 fn text_sizes() -> Vec<Limit> {
     let sized = |bytes: usize| {
         let mut text = draft(1, 3, "p0").text();
@@ -146,21 +244,21 @@ fn text_sizes() -> Vec<Limit> {
         text
     };
     let full = sized(65_536);
-    let line = holds(3, filled(&full));
+    let printed = holds(3, filled(&full));
     vec![
-        Limit { name: "65,536 bytes".to_string(), text: full, line },
-        Limit { name: "65,537 bytes".to_string(), text: sized(65_537), line: refused(1) },
+        Limit { name: "65,536 bytes".to_string(), text: full, printed },
+        Limit { name: "65,537 bytes".to_string(), text: sized(65_537), printed: refused(1) },
         Limit {
             name: "65,536 bytes, unread rows".to_string(),
             text: unread(65_536),
-            line: refused(4),
+            printed: refused(4),
         },
         Limit {
             name: "65,537 bytes, unread rows".to_string(),
             text: unread(65_537),
-            line: refused(1),
+            printed: refused(1),
         },
-        Limit { name: "a million bytes".to_string(), text: unread(1_000_000), line: refused(1) },
-        Limit { name: "no byte".to_string(), text: Vec::new(), line: refused(1) },
+        Limit { name: "a million bytes".to_string(), text: unread(1_000_000), printed: refused(1) },
+        Limit { name: "no byte".to_string(), text: Vec::new(), printed: refused(1) },
     ]
 }

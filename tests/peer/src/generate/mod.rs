@@ -8,4 +8,5 @@ pub mod faults;
 pub mod limits;
 pub mod prng;
 pub mod requirements;
+pub mod several;
 pub mod sheets;

@@ -3,14 +3,42 @@
 use super::draft::{Draft, PredicateLine};
 use super::prng::Prng;
 use super::requirements::{written, Taste};
-use crate::limits::{LARGEST_SIGNED, LARGEST_UNSIGNED, LARGEST_VALUE};
+use crate::limits::{LARGEST_SIGNED, LARGEST_UNSIGNED, LARGEST_VALUE, MOST_REQUIREMENTS};
 use crate::rows::Row;
 use crate::tree::Shared;
 
-/// An accepted sheet and the tree that its requirement was written from.
+/// An accepted sheet and the trees that its requirements were written from.
 pub struct Sound {
     pub draft: Draft,
-    pub tree: Shared,
+    pub trees: Vec<Shared>,
+}
+
+/// How many requirements a sheet has: mostly one, now and then as many as there may be.
+fn requirements_of(rng: &mut Prng) -> usize {
+    match rng.below(60) {
+        0 => MOST_REQUIREMENTS,
+        1..=15 => 2 + rng.below(3),
+        _ => 1,
+    }
+}
+
+/// So many trees. Some repeat an earlier one, so that margins are equal.
+fn trees(rng: &mut Prng, taste: &Taste, count: usize, operators: usize) -> Vec<Shared> {
+    let mut trees: Vec<Shared> = Vec::new();
+    for _ in 0..count {
+        let tree = if !trees.is_empty() && rng.once_in(4) {
+            trees[rng.below(trees.len())].clone()
+        } else {
+            taste.tree(rng, operators)
+        };
+        trees.push(tree);
+    }
+    trees
+}
+
+/// Each tree's text, with parentheses of its own.
+fn texts(rng: &mut Prng, trees: &[Shared]) -> Vec<Vec<u8>> {
+    trees.iter().map(|tree| written(tree, rng, 10).into_bytes()).collect()
 }
 
 /// The measures of a sheet, from which the rest is drawn.
@@ -19,19 +47,27 @@ struct Measures {
     rows: usize,
     step: u64,
     drift: u64,
+    requirements: usize,
     operators: usize,
 }
 
 /// Any sheet: mostly small numbers, where equalities are frequent; now and then the largest.
 pub fn sound(rng: &mut Prng) -> Sound {
+    let requirements = requirements_of(rng);
+    sound_of(rng, requirements)
+}
+
+/// Any sheet with so many requirements.
+pub fn sound_of(rng: &mut Prng, requirements: usize) -> Sound {
     if rng.once_in(8) {
-        return extreme(rng);
+        return extreme(rng, requirements);
     }
     let measures = Measures {
         channels: if rng.once_in(6) { rng.between(1, 8) as u64 } else { rng.between(1, 2) as u64 },
         rows: rng.between(1, 24) as usize,
         step: rng.pick(&[1, 1, 2, 3, 5, 900]),
         drift: rng.between(0, 6) as u64,
+        requirements,
         operators: rng.below(9),
     };
     build(rng, measures)
@@ -44,6 +80,7 @@ pub fn tiny(rng: &mut Prng) -> Sound {
         rows: rng.between(1, 6) as usize,
         step: rng.pick(&[1, 1, 1, 2, 2, 3]),
         drift: rng.pick(&[0, 1, 1, 1, 2]),
+        requirements: requirements_of(rng),
         operators: rng.below(6),
     };
     build(rng, measures)
@@ -58,20 +95,20 @@ fn build(rng: &mut Prng, measures: Measures) -> Sound {
         unit: measures.step as i64,
         reach: (times[times.len() - 1] - times[0]) as i64 + 1,
     };
-    let tree = taste.tree(rng, measures.operators);
+    let trees = trees(rng, &taste, measures.requirements, measures.operators);
     let rows = times.iter().zip(values).map(|(&time, values)| Row { time, measured: true, values });
     let mut draft = Draft {
         channels: measures.channels,
         predicates,
         step: measures.step,
         drift: measures.drift,
-        requirement: written(&tree, rng, 10).into_bytes(),
+        requirements: texts(rng, &trees),
         rows: rows.collect(),
     };
     if rng.once_in(3) {
         add_filled(rng, &mut draft);
     }
-    Sound { draft, tree }
+    Sound { draft, trees }
 }
 
 /// Rising times whose neighbours are at most the step apart.
@@ -154,7 +191,7 @@ fn figure(rng: &mut Prng) -> i64 {
 }
 
 /// Numbers at their limits: nothing may wrap.
-fn extreme(rng: &mut Prng) -> Sound {
+fn extreme(rng: &mut Prng, requirements: usize) -> Sound {
     let big = LARGEST_VALUE;
     let values = [-big, -big + 1, -1, 0, 1, big - 1, big];
     let channels = rng.between(1, 3) as u64;
@@ -182,9 +219,9 @@ fn extreme(rng: &mut Prng) -> Sound {
         reach: 1_000_000_000,
     };
     let operators = rng.below(7);
-    let tree = taste.tree(rng, operators);
-    let requirement = written(&tree, rng, 10).into_bytes();
+    let trees = trees(rng, &taste, requirements, operators);
+    let requirements = texts(rng, &trees);
     let step = 1_000_000_000;
-    let draft = Draft { channels, predicates, step, drift: 1_000_000_000, requirement, rows };
-    Sound { draft, tree }
+    let draft = Draft { channels, predicates, step, drift: 1_000_000_000, requirements, rows };
+    Sound { draft, trees }
 }
