@@ -27,7 +27,8 @@ use Rattle.sheet_rows.specs.Answer.{measured-of, filled-of, has-room, answer-of
 use Rattle.sheet_rows.proofs.Storing.{length-times, length-values}
 use Rattle.sheet_rows.proofs.Numbers.{channels-are, room-for, for-room}
 use Rattle.heads.specs.declared.Head.{Head}
-use Rattle.answers.specs.Answers.{ROWS, VALUES, CELLS, measured, table-run, refused-by, answered as outcome-by, table-answer, Checked}
+use Rattle.sheets.specs.declared.Sheet.{Sheet}
+use Rattle.answers.specs.Answers.{ROWS, VALUES, CELLS, rows-part, measured, table-run, refused-by, answered as outcome-by, table-answer, Checked, Stored}
 use Rattle.answers.proofs.Figures.{only-number}
 use Rattle.answers.proofs.Runs.{run-fits, run-wide, run-many, none-refused}
 
@@ -156,3 +157,18 @@ module _ (s : List ℕ) (h : Head) (p : Checked s (h .channels)) where
         let c : Card = measured h (rows-of (h .channels) s) in
         let n : rows c ≤ ROWS = rw (times-long (rows-of (h .channels) s)) (read .fits) in
         rw (f, g, read .filled, run-fits c t (h .step) (h .drift) n) refl
+
+-- what the row reader leaves in slices with room, read from the part behind the requirements
+pub stored : (s : List ℕ) (x : Sheet) → Checked (rows-part s x) (x .head .channels) → (t : List ℕ) → t ≡ rows-part s x → (a : Answer) → a ≡ answer-of t (x .head .channels) ROWS VALUES
+    → (times times₀ : List ℕ) → times ≡ unless-refused (a .number) (in-front (times-of (rows-of (x .head .channels) t)) times₀) times₀ → length times ≡ ROWS
+    → (values values₀ : List ℤ) → values ≡ unless-refused (a .number) (in-front (values-of (rows-of (x .head .channels) t)) values₀) values₀ → length values ≡ VALUES
+    → Stored s x a times values
+stored s x p t w a e times times₀ f m values values₀ g n =
+    let c : a ≡ answer-of (rows-part s x) (x .head .channels) ROWS VALUES = e ∙ ap (λ (r : List ℕ). answer-of r (x .head .channels) ROWS VALUES) w in
+    record {
+      answer = c;
+      times-long = m;
+      values-long = n;
+      times-read = λ z. times-taken (rows-part s x) (x .head) p a c z times times₀ (rw w at f);
+      values-read = λ z. values-taken (rows-part s x) (x .head) p a c z values values₀ (rw w at g);
+    }

@@ -10,6 +10,7 @@ use Rattle.lists.proofs.Filled.{fill-in}
 use Rattle.tables.specs.declared.Table.{Table}
 use Rattle.refusals.specs.First.{first}
 use Rattle.refusals.proofs.First.{first-passes, unless-none, unless-some}
+use Rattle.requirements.specs.declared.Requirement.{Requirement}
 use Rattle.requirements.specs.Requirement.{requirement-of}
 use Rattle.row_lines.specs.Reading.{Listing}
 use Rattle.row_lines.proofs.Exact.{rows-exact}
@@ -40,6 +41,10 @@ module _ (h : Head) (l : Listing) (r : List ℕ) where
       let t : Table = requirement-of r .table in
       ap (λ (m : ℕ). answered m (measured h l) t (h .step) (h .drift) (filled-of l))
       (sym (first-passes (requirement-check r) (table-run (measured h l) t (h .step) (h .drift)) (eq-eqb (requirement-of r .refusal) 0 n)))
+
+  -- as the reader answered it
+  pub table-read : (q : Requirement) → q ≡ requirement-of r → q .refusal ≡ 0 → table-answer h l (q .table) ≡ answer-for h l r
+  table-read q e n = ap (λ (y : Requirement). table-answer h l (y .table)) e ∙ requirement-read (ap (λ (y : Requirement). y .refusal) (sym e) ∙ n)
 
 -- ---- the sheet
 
