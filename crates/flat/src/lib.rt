@@ -1,8 +1,9 @@
-// Tables and predicates as flat numbers in slices of any length, for callers that have no types of ours. Nothing is asked of a slice: a place that it doesn't have
+// Tables, predicates and places as flat numbers in slices of any length, for callers that have no types of ours. Nothing is asked of a slice: a place that it doesn't have
 // reads as 0 and is not written.
 use building::CELLS;
 use recordings::Predicate;
 use recordings::Range;
+use requirement_lines::Place;
 use tables::Node;
 use tables::Table;
 ghost use mathlib.Core.Path.{_≡_};
@@ -12,6 +13,7 @@ ghost use lib.ListN.{getD};
 ghost use Rattle.building.specs.Storing.{cells-of};
 ghost use Rattle.flat.specs.Written.{written};
 ghost use Rattle.flat.specs.Tables.{table-from};
+ghost use Rattle.flat.specs.Places.{places-of};
 ghost use Rattle.flat.specs.Predicates.{range-number, lo-of, hi-of, ranges-of, ends-of, range-from, predicate-from, predicates-from};
 
 // Writes numbers into a slice from its front on.
@@ -195,6 +197,19 @@ fn ends_of(predicates: [Predicate; 16]) -> [i64; 32]
         ends[2 * p + 1] = hi_of(range);
     }
     ends
+}
+
+// Each requirement's first place, and the place behind its last.
+pub fn places_of(places: [Place; 16]) -> [u64; 32]
+    ensures { λ r. ⌜ r ≡ places-of places ⌝ }
+{
+    let mut numbers = [0u64; 32];
+    for k in 0..16usize {
+        let place = places[k];
+        numbers[2 * k] = place.from as u64;
+        numbers[2 * k + 1] = place.to as u64;
+    }
+    numbers
 }
 
 // Writes predicates into two slices.

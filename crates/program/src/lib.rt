@@ -78,14 +78,14 @@ fn read_text(fd: i32, text: &mut [u8]) -> Input
 }
 
 // Stops where nothing more can be written, as on a closed output.
-fn write_line(fd: i32, line: &[u8]) {
+fn write_lines(fd: i32, lines: &[u8]) {
     let mut done: usize = 0;
     let mut turns = u64::MAX;
     while turns > 0 {
-        if done == line.len() {
+        if done == lines.len() {
             return;
         }
-        let step = write_more(fd, line, done);
+        let step = write_more(fd, lines, done);
         if step.over || step.failed {
             return;
         }
@@ -94,13 +94,13 @@ fn write_line(fd: i32, line: &[u8]) {
     }
 }
 
-// The answer to the text that a descriptor gives; nothing where it cannot be read.
+// The answers to the text that a descriptor gives; nothing where it cannot be read.
 pub fn answer_from(fd: i32) {
     let mut text = [0u8; 65537];
     let Input::Whole(count) = read_text(fd, &mut text) else {
         return;
     };
-    let mut line = [0u8; answers::printed::LINE];
-    let len = answers::printed::answer_line(&text[..count], &mut line);
-    write_line(libc::STDOUT_FILENO, &line[..len]);
+    let mut lines = [0u8; outcome_lines::LINES];
+    let len = answers::answer_lines(&text[..count], &mut lines);
+    write_lines(libc::STDOUT_FILENO, &lines[..len]);
 }

@@ -45,9 +45,9 @@ verdict-number Fails = pos 2
 abbrev pub verdict-handed : Judgement → List ℤ → List ℤ
 verdict-handed j old = handed (j .number) (verdict-number (j .verdict) ∷ j .hold ∷ j .fail ∷ []) old
 
--- channels, step, drift, the requirement's first place, the place behind its last, the rows' first place
-abbrev pub sheet-places : Sheet → List ℕ
-sheet-places s = s .channels ∷ s .step ∷ s .drift ∷ s .from ∷ s .to ∷ s .rows ∷ []
+-- channels, step, drift, the rows' first place, the count of requirements
+abbrev pub sheet-numbers : Sheet → List ℕ
+sheet-numbers s = s .head .channels ∷ s .head .step ∷ s .head .drift ∷ s .rows ∷ s .count ∷ []
 
 -- measured rows, filled rows
 abbrev pub row-places : Rows → List ℕ

@@ -10,6 +10,7 @@ ghost use Rattle.building.specs.Storing.{cells-of};
 ghost use Rattle.flat.specs.Written.{written};
 ghost use Rattle.flat.specs.Tables.{table-from};
 ghost use Rattle.flat.specs.Predicates.{ranges-of, ends-of};
+ghost use Rattle.flat.specs.Places.{places-of};
 ghost use Rattle.sheets.specs.Sheets.{sheet-of};
 ghost use Rattle.requirements.specs.Requirement.{requirement-of};
 ghost use Rattle.row_lines.specs.Reading.{rows-of};
@@ -18,50 +19,55 @@ ghost use Rattle.sheet_rows.specs.Answer.{answer-of, times-of, values-of, in-fr
 ghost use Rattle.distances.specs.Answers.{distance-outcome, distance-judged};
 ghost use Rattle.margins.specs.Answers.{margin-outcome, margin-judged, margin-cells};
 ghost use Rattle.verdicts.specs.Answer.{verdict-outcome, verdict-judged, verdict-cells};
-ghost use Rattle.answers.specs.Answers.{answer-of-text};
-ghost use Rattle.answers.specs.Printed.{LINE, line-of};
-ghost use Rattle.varmityep.specs.Places.{sheet-places, row-places, card-from, predicate-of, handed, distance-handed, margin-handed, verdict-number, verdict-handed};
+ghost use Rattle.answers.specs.Answers.{answers-of};
+ghost use Rattle.outcome_lines.specs.Printed.{LINES, lines-of};
+ghost use Rattle.varmityep.specs.Places.{sheet-numbers, row-places, card-from, predicate-of, handed, distance-handed, margin-handed, verdict-number, verdict-handed};
 
-// The printed line of the answer to a whole text, and its length.
+// The printed lines of the answers to a whole text, and their length.
 #[no_mangle]
-pub extern "C" fn varmityep_answer(text: &[u8], line: &mut [u8]) -> usize
-    ensures length { λ r. ⌜ r ≡ length (line-of (answer-of-text (now (text .entry)))) ⌝ }
-    ensures room { λ r. ⌜ r ≤ LINE ⌝ }
-    ensures line { λ _. ⌜ now (line .exit) ≡ written (line-of (answer-of-text (now (text .entry)))) (now (line .entry)) ⌝ }
+pub extern "C" fn varmityep_answer(text: &[u8], lines: &mut [u8]) -> usize
+    ensures length { λ r. ⌜ r ≡ length (lines-of (answers-of (now (text .entry)))) ⌝ }
+    ensures room { λ r. ⌜ r ≤ LINES ⌝ }
+    ensures lines { λ _. ⌜ now (lines .exit) ≡ written (lines-of (answers-of (now (text .entry)))) (now (lines .entry)) ⌝ }
 {
-    let mut printed = [0u8; answers::printed::LINE];
-    let len = answers::printed::answer_line(text, &mut printed);
-    flat::write_bytes(&printed[..len], line);
+    let mut printed = [0u8; outcome_lines::LINES];
+    let len = answers::answer_lines(text, &mut printed);
+    flat::write_bytes(&printed[..len], lines);
     len
 }
 
-// The head of a sheet. Like every function below, it writes nothing under a refusal.
+// A sheet without its rows. Like every function below, it writes nothing under a refusal.
 #[no_mangle]
 pub extern "C" fn varmityep_sheet(
     text: &[u8],
     numbers: &mut [u64],
+    places: &mut [u64],
     ranges: &mut [u64],
     ends: &mut [i64],
 ) -> u64
     ensures number { λ r. ⌜ r ≡ sheet-of (now (text .entry)) .number ⌝ }
-    ensures numbers { λ _. ⌜ now (numbers .exit) ≡ handed (sheet-of (now (text .entry)) .number) (sheet-places (sheet-of (now (text .entry)))) (now (numbers .entry)) ⌝ }
-    ensures ranges { λ _. ⌜ now (ranges .exit) ≡ handed (sheet-of (now (text .entry)) .number) (ranges-of (sheet-of (now (text .entry)) .predicates)) (now (ranges .entry)) ⌝ }
-    ensures ends { λ _. ⌜ now (ends .exit) ≡ handed (sheet-of (now (text .entry)) .number) (ends-of (sheet-of (now (text .entry)) .predicates)) (now (ends .entry)) ⌝ }
+    ensures numbers { λ _. ⌜ now (numbers .exit) ≡ handed (sheet-of (now (text .entry)) .number) (sheet-numbers (sheet-of (now (text .entry)))) (now (numbers .entry)) ⌝ }
+    ensures places { λ _. ⌜ now (places .exit) ≡ handed (sheet-of (now (text .entry)) .number) (places-of (sheet-of (now (text .entry)) .requirements)) (now (places .entry)) ⌝ }
+    ensures ranges { λ _. ⌜ now (ranges .exit) ≡ handed (sheet-of (now (text .entry)) .number) (ranges-of (sheet-of (now (text .entry)) .head .predicates)) (now (ranges .entry)) ⌝ }
+    ensures ends { λ _. ⌜ now (ends .exit) ≡ handed (sheet-of (now (text .entry)) .number) (ends-of (sheet-of (now (text .entry)) .head .predicates)) (now (ends .entry)) ⌝ }
 {
     let sheet = sheets::read_sheet(text);
     if sheet.number != 0 {
         return sheet.number;
     }
-    let places = [
-        sheet.channels as u64,
-        sheet.step,
-        sheet.drift,
-        sheet.from as u64,
-        sheet.to as u64,
+    let head = sheet.head;
+    let contents = [
+        head.channels as u64,
+        head.step,
+        head.drift,
         sheet.rows as u64,
+        sheet.count as u64,
     ];
-    flat::write_numbers(&places, numbers);
-    let predicates = sheet.predicates;
+    flat::write_numbers(&contents, numbers);
+    let requirements = sheet.requirements;
+    let stand = flat::places_of(requirements);
+    flat::write_numbers(&stand, places);
+    let predicates = head.predicates;
     flat::write_predicates(predicates, ranges, ends);
     0
 }

@@ -9,9 +9,9 @@ use Rattle.program.proofs.answer_from.Statement.{statement}
 use Rattle.program.proofs.answer_from.Tie as tie
 use Rattle.program.proofs.answer_from.Reads as reads
 use Rattle.program.proofs.answer_from.Lts as lts
-use Rattle.answers.proofs.printed.answer_line.Reads as answer-line-reads
+use Rattle.answers.proofs.answer_lines.Reads as answer-lines-reads
 use Rattle.program.proofs.read_text.Reads as read-text-reads
-use Rattle.program.proofs.write_line.Reads as write-line-reads
+use Rattle.program.proofs.write_lines.Reads as write-lines-reads
 
 slice-aggregate-read-text : tie.Need-slice-aggregate-read-text
 slice-aggregate-read-text c = search needs
@@ -31,23 +31,23 @@ returns c = search needs
 array-share-prefix-text : tie.Need-array-share-prefix-text
 array-share-prefix-text c = rw (c .before .count .given .1) at (c .before .before .before .before .read-text .ensures)
 
-slice-aggregate-answer-line : tie.Need-slice-aggregate-answer-line
-slice-aggregate-answer-line c = sym (length-take-le _ _ (rw (c .before .before .count .given .1) at (c .before .before .before .before .before .read-text .ensures)))
+slice-aggregate-answer-lines : tie.Need-slice-aggregate-answer-lines
+slice-aggregate-answer-lines c = sym (length-take-le _ _ (rw (c .before .before .count .given .1) at (c .before .before .before .before .before .read-text .ensures)))
 
-slice-aggregate-answer-line-2 : tie.Need-slice-aggregate-answer-line-2
-slice-aggregate-answer-line-2 c = search needs
+slice-aggregate-answer-lines-2 : tie.Need-slice-aggregate-answer-lines-2
+slice-aggregate-answer-lines-2 c = search needs
 
-answer-line-requires : tie.Need-answer-line-requires
-answer-line-requires c κs = search needs
+answer-lines-requires : tie.Need-answer-lines-requires
+answer-lines-requires c κs = search needs
 
-array-share-prefix-line : tie.Need-array-share-prefix-line
-array-share-prefix-line c = place-inside _ _ (c .before .answer-line .ensures .0) (omega arith)
+array-share-prefix-lines : tie.Need-array-share-prefix-lines
+array-share-prefix-lines c = place-inside _ _ (c .before .answer-lines .ensures .0) (omega arith)
 
-slice-aggregate-write-line : tie.Need-slice-aggregate-write-line
-slice-aggregate-write-line c = sym (length-take-le _ _ (place-inside _ _ (c .before .before .answer-line .ensures .0) (omega arith)))
+slice-aggregate-write-lines : tie.Need-slice-aggregate-write-lines
+slice-aggregate-write-lines c = sym (length-take-le _ _ (place-inside _ _ (c .before .before .answer-lines .ensures .0) (omega arith)))
 
-write-line-requires : tie.Need-write-line-requires
-write-line-requires c κs = search needs
+write-lines-requires : tie.Need-write-lines-requires
+write-lines-requires c κs = search needs
 
 returns-2 : tie.Need-returns-2
 returns-2 c = search needs
@@ -62,10 +62,10 @@ answer-from-spec =
     enum-told
     returns
     array-share-prefix-text
-    slice-aggregate-answer-line
-    slice-aggregate-answer-line-2
-    answer-line-requires
-    array-share-prefix-line
-    slice-aggregate-write-line
-    write-line-requires
+    slice-aggregate-answer-lines
+    slice-aggregate-answer-lines-2
+    answer-lines-requires
+    array-share-prefix-lines
+    slice-aggregate-write-lines
+    write-lines-requires
     returns-2)

@@ -3,10 +3,10 @@
 use Prim.Native.Nat.{_≤_}
 use lib.ListN.{length}
 use borrow.Author.Needs.{needs}
-use Rattle.program.proofs.write_line.Statement.{statement}
-use Rattle.program.proofs.write_line.Tie as tie
-use Rattle.program.proofs.write_line.Reads as reads
-use Rattle.program.proofs.write_line.Lts as lts
+use Rattle.program.proofs.write_lines.Statement.{statement}
+use Rattle.program.proofs.write_lines.Tie as tie
+use Rattle.program.proofs.write_lines.Reads as reads
+use Rattle.program.proofs.write_lines.Lts as lts
 use Rattle.program.proofs.write_more.Reads as write-more-reads
 
 abbrev Inv-loop : tie.InvT-loop
@@ -39,8 +39,8 @@ loop-again c = search needs
 returns-3 : tie.Need-returns-3 Inv-loop μ-loop
 returns-3 c = search needs
 
-pub write-line-spec : {M : Type 1} → statement M
-write-line-spec =
+pub write-lines-spec : {M : Type 1} → statement M
+write-lines-spec =
     tie.close
     (tie.spec
     Inv-loop
