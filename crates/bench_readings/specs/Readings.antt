@@ -17,8 +17,8 @@ use Rattle.verdicts.specs.Answer.{VerdictOutcome, verdict-judged}
 use Rattle.text.specs.Bytes.{bytes}
 use Rattle.requirements.specs.Requirement.{requirement-of}
 use Rattle.sheets.specs.Examples.{example as sheet, with-third, filled-row}
-use Rattle.answers.specs.Answers.{answer-of-text}
-use Rattle.answers.specs.Printed.{line-of}
+use Rattle.answers.specs.Answers.{answers-of}
+use Rattle.outcome_lines.specs.Printed.{lines-of}
 
 -- times 0 to 3, values 5, 7, 2, 9; p0 at least 3, p1 at most 6
 abbrev pub bench : Card
@@ -52,7 +52,7 @@ abbrev pub answer : Question → Answer
 answer (margin-of text) = margin (margin-judged bench (table-of text) 12)
 answer (distance-of v) = distance (distance-judged (record { channel = 0; range = Between (pos 3) (pos 8) }) v)
 answer (verdict-of drift text) = verdict (verdict-judged example (table-of text) 1 drift 20)
-answer (line-for text) = line (line-of (answer-of-text text))
+answer (line-for text) = line (lines-of (answers-of text))
 
 abbrev pub accepted-margin : ℤ → Answer
 accepted-margin m = margin (record { number = 0; margin = m })
