@@ -1,13 +1,13 @@
 -- The answer that a requirement gets is a function of the head, of its bytes and of the lines behind the requirements: whatever else a text that is written as a sheet holds.
 -- Assumes nothing.
-use mathlib.Core.Path.{_≡_, refl, sym, ap, _∙_}
+use mathlib.Core.Path.{_≡_, sym, ap, _∙_}
 use mathlib.Core.List.{List, []}
 use Prim.Native.Nat.{ℕ, _+_, _≤_, _<_}
 use native.Mathlib.Omega.{arith}
 use lib.ListN.{length, getD, drop}
 use Rattle.lines.specs.Lines.{lines, size, joined}
 use Rattle.lines.proofs.Lines.{lines-joined}
-use Rattle.row_lines.specs.Reading.{Listing, rows-of}
+use Rattle.row_lines.specs.Reading.{rows-of}
 use Rattle.heads.specs.declared.Head.{Head}
 use Rattle.requirement_lines.specs.Form.{requirement-lines, MOST-REQUIREMENTS}
 use Rattle.sheets.specs.declared.Sheet.{Sheet}
@@ -17,7 +17,6 @@ use Rattle.sheets.specs.Sheets.{sheet-of}
 use Rattle.sheets.proofs.Exact.{contents, written-read, written-form, written-rows}
 use Rattle.sheets.proofs.Behind.{requirement-holds}
 use Rattle.sheets.proofs.Only.{only-written}
-use Rattle.outcomes.specs.declared.Outcome.{Outcome}
 use Rattle.answers.specs.Answers.{listing, requirement-part, answer-for, answer-to}
 use Rattle.answers.proofs.Wholes.{answer-read}
 

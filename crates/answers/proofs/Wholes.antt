@@ -2,11 +2,10 @@
 -- Assumes nothing.
 use mathlib.Core.Path.{_≡_, refl, sym, ap, _∙_}
 use mathlib.Core.List.{List}
-use Prim.Native.Nat.{ℕ, _-_, _<_}
+use Prim.Native.Nat.{ℕ, _-_}
 use native.Mathlib.Omega.{arith}
-use lib.ListN.{length, getD, drop, length-drop}
+use lib.ListN.{length, drop, length-drop}
 use borrow.Author.Tests.{eq-eqb, ne-eqb}
-use Rattle.lists.proofs.Filled.{fill-in}
 use Rattle.tables.specs.declared.Table.{Table}
 use Rattle.refusals.specs.First.{first}
 use Rattle.refusals.proofs.First.{first-passes, unless-none, unless-some}
@@ -24,9 +23,7 @@ use Rattle.sheets.specs.Sheets.{sheet-of}
 use Rattle.sheets.proofs.Exact.{sheet-sound}
 use Rattle.sheets.proofs.Behind.{rows-behind, rows-inside, requirement-holds}
 use Rattle.sheet_rows.specs.Answer.{filled-of}
-use Rattle.outcomes.specs.declared.Outcome.{Outcome}
-use Rattle.outcomes.specs.declared.Outcomes.{Outcomes}
-use Rattle.answers.specs.Answers.{rows-part, measured, requirement-check, table-run, answered, refused-by, table-answer, answer-for, head-in, listing-in, requirement-in, requirement-part, listing, answer-to, no-entries, entries, answers-of, Checked, Placed}
+use Rattle.answers.specs.Answers.{rows-part, measured, requirement-check, table-run, answered, refused-by, table-answer, answer-for, head-in, listing-in, requirement-in, answer-to, no-entries, entries, answers-of, Checked, Placed}
 
 -- ---- the requirement
 

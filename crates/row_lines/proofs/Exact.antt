@@ -6,13 +6,12 @@ use mathlib.Core.List.{List, [], _∷_, _++_}
 use mathlib.Core.Bool.{Bool, true, false}
 use Prim.Native.Nat.{ℕ, zero, suc, _+_, _-_, _≤_, _<_}
 use native.Mathlib.Omega.{arith}
-use lib.ListN.{length, getD, drop, drop-of-length-le, length-drop, length-append}
+use lib.ListN.{length, getD, drop, drop-of-length-le, length-drop}
 use lib.IntN.{ℤ}
 use lib.Dec.{leb}
 use borrow.Author.Tests.{leb-true, le-leb, lt-leb}
-use Rattle.text.specs.Bytes.{bytes}
 use Rattle.text.proofs.Tests.{false-true, test-case}
-use Rattle.text.proofs.Places.{Between, place-inside}
+use Rattle.text.proofs.Places.{place-inside}
 use Rattle.row_lines.specs.declared.RowLine.{RowLine}
 use Rattle.row_lines.specs.declared.RowLine.the-variants.{Measured, Filled, Bad}
 use Rattle.lines.specs.Lines.{lines}

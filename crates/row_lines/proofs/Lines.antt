@@ -2,20 +2,15 @@
 -- Both are shown by counting how often a byte stands in what is written.
 -- Assumes nothing.
 use mathlib.Core.Path.{_≡_, refl, sym, ap, _∙_}
-use mathlib.Core.List.{List, [], _∷_, _++_, append-assoc}
-use mathlib.Core.Bool.{Bool, true, false, cond}
-use Prim.Native.Nat.{ℕ, _+_, _*_, _≤_, _<_}
-use native.Mathlib.Nat.{suc-mul, zero-mul, zero-add}
+use mathlib.Core.List.{List, _++_}
+use mathlib.Core.Bool.{Bool, true, false}
+use Prim.Native.Nat.{ℕ, _+_, _*_}
+use native.Mathlib.Nat.{suc-mul, zero-mul}
 use native.Mathlib.Omega.{arith}
-use lib.ListN.{length, length-append}
 use lib.IntN.{ℤ}
 use lib.Dec.{eqb}
-use borrow.Author.Tests.{ne-eqb}
 use Rattle.text.specs.Bytes.{bytes}
 use Rattle.text.specs.Number.{is-digit}
-use Rattle.text.specs.Numeral.{Numeral, Signed}
-use Rattle.text.proofs.Tests.{by-test, false-true}
-use Rattle.text.proofs.Numerals.{numeral-begins}
 use Rattle.lines.proofs.Counts.{count, count-append, numeral-count, signed-count}
 use Rattle.lines.proofs.Lines.{Fed}
 use Rattle.row_lines.specs.Form.{ValueFields, no-field, next, source, Row}

@@ -1,24 +1,21 @@
 -- What a sheet's places hold: requirement k stands at place k, and the lines of the rows from `rows` on. So texts that differ in filled rows alone have the same requirements,
 -- and their parts behind them differ in filled rows alone.
 -- Assumes nothing.
-use mathlib.Core.Path.{_≡_, sym, ap, subst, _∙_}
+use mathlib.Core.Path.{_≡_, sym, ap, _∙_}
 use mathlib.Core.List.{List, [], _++_}
 use Prim.Native.Nat.{ℕ, _+_, _-_, _≤_, _<_}
 use native.Mathlib.Omega.{arith}
-use lib.ListN.{length, getD, take, drop}
+use lib.ListN.{length, getD, drop}
 use Rattle.lines.specs.Lines.{lines, size}
 use Rattle.lines.proofs.Lines.{size-append, size-lines}
 use Rattle.lines.proofs.Places.{lines-behind}
-use Rattle.row_lines.specs.Reading.{limit}
-use Rattle.row_lines.specs.Same.{SameButFilled}
 use Rattle.requirement_lines.specs.declared.Place.{Place}
-use Rattle.requirement_lines.specs.Form.{requirement-lines, places-from, nowhere}
+use Rattle.requirement_lines.specs.Form.{requirement-lines, places-from}
 use Rattle.requirement_lines.proofs.Exact.{Holds, place-holds, places-length}
 use Rattle.requirement_lines.proofs.Sixteen.{sixteen-at}
 use Rattle.sheets.specs.declared.Sheet.{Sheet}
 use Rattle.sheets.specs.Form.{Form}
-use Rattle.sheets.specs.Sheets.{sheet-of}
-use Rattle.sheets.proofs.Exact.{sheet-sound, written-rows, alike-written}
+use Rattle.sheets.proofs.Exact.{written-rows}
 
 module _ (s : List ℕ) (x : Sheet) (f : Form s x) where
   pub rows-behind : lines (drop (x .rows) s) ≡ f .rows

@@ -1,12 +1,13 @@
 -- The parts' readers one after the other: the first that fails refuses the sheet, and the last gives it.
 -- Assumes nothing.
-use mathlib.Core.Path.{_≡_}
+use mathlib.Core.Path.{_≡_, sym}
 use mathlib.Core.List.{List}
 use mathlib.Core.Bool.{Bool, true, false}
 use Prim.Native.Nat.{ℕ, _≤_, _<_}
 use lib.ListN.{length}
 use lib.Dec.{ltb}
 use borrow.Author.Tests.{le-leb, lt-leb}
+use Rattle.refusals.proofs.First.{unless-some}
 use Rattle.row_lines.specs.Reading.{limit}
 use Rattle.heads.specs.declared.Head.{Head}
 use Rattle.heads.specs.declared.HeadLines.{HeadLines}
@@ -16,7 +17,7 @@ use Rattle.requirement_lines.specs.Form.{MOST-REQUIREMENTS}
 use Rattle.requirement_lines.specs.Reading.{requirements-at, stored}
 use Rattle.sheets.specs.declared.Sheet.{Sheet}
 use Rattle.sheets.specs.Form.{blank}
-use Rattle.sheets.specs.Sheets.{rows-kept, lines-kept, behind-head, sheet-of}
+use Rattle.sheets.specs.Sheets.{rows-kept, lines-kept, sheet-refusal, behind-head, sheet-of}
 
 -- ---- what follows the head
 
@@ -35,14 +36,31 @@ module _ (s : List ℕ) (h : Head) (rs : Requirements) where
   unfolding behind-head
   behind-broken k = rw k
 
-  module _ (k : lines-kept s h rs ≡ true) where
-    pub behind-crowded : MOST-REQUIREMENTS < rs .count → blank 12 ≡ behind-head s h rs
-    unfolding behind-head
-    behind-crowded l = rw (k, lt-leb _ _ l)
+  pub behind-crowded : lines-kept s h rs ≡ true → MOST-REQUIREMENTS < rs .count → blank 12 ≡ behind-head s h rs
+  unfolding behind-head
+  behind-crowded k l = rw (k, lt-leb _ _ l)
 
-    pub behind-read : rs .count ≤ MOST-REQUIREMENTS → record { number = 0; head = h; count = rs .count; requirements = rs .places; rows = rs .next } ≡ behind-head s h rs
+  -- by the refusal's number
+  module _ (n : ℕ) (e : n ≡ sheet-refusal (lines-kept s h rs) (rs .count)) where
+    pub behind-refused : (n ≡ 0 → ⊥) → blank n ≡ behind-head s h rs
     unfolding behind-head
-    behind-read l = rw (k, le-leb _ _ l)
+    behind-refused z = rw (← e) (sym (unless-some n _ _ z))
+
+    pub behind-read : n ≡ 0 → record { number = 0; head = h; count = rs .count; requirements = rs .places; rows = rs .next } ≡ behind-head s h rs
+    unfolding behind-head
+    behind-read z = rw (← e, z)
+
+-- ---- the refusal
+
+module _ (kept : Bool) (count : ℕ) where
+  pub refusal-broken : kept ≡ false → 1 ≡ sheet-refusal kept count
+  refusal-broken k = rw k
+
+  pub refusal-crowded : kept ≡ true → MOST-REQUIREMENTS < count → 12 ≡ sheet-refusal kept count
+  refusal-crowded k l = rw (k, lt-leb _ _ l)
+
+  pub refusal-none : kept ≡ true → count ≤ MOST-REQUIREMENTS → 0 ≡ sheet-refusal kept count
+  refusal-none k l = rw (k, le-leb _ _ l)
 
 -- ---- the whole sheet
 

@@ -5,7 +5,7 @@ use mathlib.Core.Path.{_≡_, refl, sym, ap, subst, _∙_}
 use mathlib.Core.Logic.{_↔_, _⊎_, inl, inr, ⊎-elim}
 use mathlib.Core.List.{List, [], _∷_, _++_}
 use mathlib.Core.Bool.{Bool, true, false, not, _&&_}
-use Prim.Native.Nat.{ℕ, _+_, _≤_, _<_}
+use Prim.Native.Nat.{ℕ, _+_, _≤_}
 use native.Mathlib.Omega.{arith}
 use lib.ListN.{length, drop}
 use lib.IntN.{ℤ}
@@ -33,7 +33,7 @@ use Rattle.requirement_lines.proofs.Exact.{requirements-are, requirements-taken
 use Rattle.sheets.specs.declared.Sheet.{Sheet}
 use Rattle.sheets.specs.Form.{Written, Form, Crowded, blank}
 use Rattle.sheets.specs.Sheets.{rows-kept, lines-kept, behind-head, sheet-of}
-use Rattle.sheets.proofs.Chain.{lines-broken, lines-there, behind-broken, behind-crowded, behind-read, sheet-long, sheet-headless, sheet-behind}
+use Rattle.sheets.proofs.Chain.{lines-there, behind-broken, behind-crowded, behind-read, sheet-long, sheet-headless, sheet-behind}
 
 -- ---- the rows behind
 
@@ -140,7 +140,7 @@ module _ {s : List ℕ} {h : Head} {rs rows : List (List ℕ)} (w : Written s h 
   pub written-read : length rs ≤ MOST-REQUIREMENTS → sheet-of s ≡ contents
   written-read few =
       let c : length (places-from at rs) ≡ length rs = places-length at rs in
-      sym (read-as _ (behind-read s h (stored (found (places-from at rs) next)) lines-stand (omega arith)))
+      sym (read-as _ (behind-read s h (stored (found (places-from at rs) next)) 0 (rw (lines-stand, le-leb (length (places-from at rs)) MOST-REQUIREMENTS (omega arith)) refl) refl))
       ∙ ap (λ (n : ℕ). record { number = 0; head = h; count = n; requirements = sixteen (places-from at rs); rows = next }) c
 
   pub written-crowded : MOST-REQUIREMENTS + 1 ≤ length rs → sheet-of s ≡ blank 12

@@ -1,13 +1,12 @@
 -- The text that keeps one requirement alone has the head, that requirement and the rows of the text: its lines are these, since each ends in its line feed.
 -- Assumes nothing.
-use mathlib.Core.Path.{_≡_, refl, sym, ap, subst, _∙_}
+use mathlib.Core.Path.{_≡_, refl, sym, ap, _∙_}
 use mathlib.Core.List.{List, [], _∷_, _++_, append-assoc, append-nil}
 use mathlib.Core.Bool.{Bool, true, false}
 use Prim.Native.Nat.{ℕ, zero, suc, _+_, _≤_, _<_}
 use native.Mathlib.Omega.{arith}
-use lib.ListN.{length, getD, drop}
+use lib.ListN.{length, getD}
 use borrow.Author.Tests.{ne-eqb}
-use Rattle.text.specs.Bytes.{bytes}
 use Rattle.text.specs.Mark.{prefix-of}
 use Rattle.lines.specs.Lines.{lines, size, joined}
 use Rattle.lines.proofs.Lines.{Fed, Each, none, also, each-append, each-map, size-append, joined-append, joined-length, lines-joined, size-lines, joined-lines}

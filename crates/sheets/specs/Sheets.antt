@@ -5,6 +5,7 @@ use mathlib.Core.Bool.{Bool, not, cond, _&&_}
 use mathlib.Core.List.{List}
 use lib.ListN.{length, drop}
 use lib.Dec.{leb, ltb}
+use Rattle.refusals.specs.First.{unless-refused}
 use Rattle.row_lines.specs.Reading.{limit, channels-in-range, is-broken, rows-of}
 use Rattle.heads.specs.declared.Head.{Head}
 use Rattle.heads.specs.Reading.{head-of}
@@ -22,12 +23,16 @@ rows-kept s at channels = not (channels-in-range channels && is-broken (rows-of 
 abbrev pub lines-kept : List ℕ → Head → Requirements → Bool
 lines-kept s h rs = rs .ok && (leb 1 (rs .count) && rows-kept s (rs .next) (h .channels))
 
--- what follows the head: 1 for the whole text before 12
+-- the first refusal that applies: 1 for the whole text before 12
+abbrev pub sheet-refusal : Bool → ℕ → ℕ
+sheet-refusal kept count = cond kept (cond (leb count MOST-REQUIREMENTS) 0 12) 1
+
+-- the sheet by what follows the head
 unfoldable pub behind-head : List ℕ → Head → Requirements → Sheet
 behind-head s h rs =
-    cond (lines-kept s h rs)
-    (cond (leb (rs .count) MOST-REQUIREMENTS) (record { number = 0; head = h; count = rs .count; requirements = rs .places; rows = rs .next }) (blank 12))
-    (blank 1)
+    unless-refused (sheet-refusal (lines-kept s h rs) (rs .count))
+    (record { number = 0; head = h; count = rs .count; requirements = rs .places; rows = rs .next })
+    (blank (sheet-refusal (lines-kept s h rs) (rs .count)))
 
 -- the sheet of a text; a text that is too long, or whose lines are not the ones due, gives none
 unfoldable pub sheet-of : List ℕ → Sheet

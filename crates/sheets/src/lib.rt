@@ -9,7 +9,7 @@ ghost use mathlib.Core.Bool.{true};
 ghost use Prim.Native.Nat.{_≤_};
 ghost use lib.ListN.{length};
 ghost use Rattle.sheets.specs.Form.{blank};
-ghost use Rattle.sheets.specs.Sheets.{rows-kept, lines-kept, behind-head, sheet-of};
+ghost use Rattle.sheets.specs.Sheets.{rows-kept, lines-kept, sheet-refusal, behind-head, sheet-of};
 
 // Document 01's number, 0 where the text has the form, and the sheet's contents: requirement k is the bytes of place k, and the rows begin at `rows`.
 pub struct Sheet {
@@ -50,6 +50,19 @@ fn keeps_lines(s: &[u8], head: Head, found: Requirements) -> bool
     keeps_rows(s, rows, channels)
 }
 
+// The first refusal that applies: 1 for the whole text before 12.
+fn refusal_of(kept: bool, count: usize) -> u64
+    ensures { λ r. ⌜ r ≡ sheet-refusal kept count ⌝ }
+{
+    if !kept {
+        return 1;
+    }
+    if requirement_lines::MOST < count {
+        return 12;
+    }
+    0
+}
+
 // No sheet, under a refusal.
 fn refused(number: u64) -> Sheet
     ensures { λ r. ⌜ r ≡ blank number ⌝ }
@@ -70,11 +83,10 @@ fn read_behind(s: &[u8], head: Head, found: Requirements) -> Sheet
     requires { ⌜ (found .ok ≡ true → found .next ≤ length (now s)) ⌝ }
     ensures { λ r. ⌜ r ≡ behind-head (now (s .entry)) head found ⌝ }
 {
-    if !keeps_lines(s, head, found) {
-        return refused(1);
-    }
-    if requirement_lines::MOST < found.count {
-        return refused(12);
+    let kept = keeps_lines(s, head, found);
+    let number = refusal_of(kept, found.count);
+    if number != 0 {
+        return refused(number);
     }
     let places = found.places;
     Sheet {
