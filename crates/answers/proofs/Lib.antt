@@ -1,7 +1,8 @@
--- Laws of the answers: their figures (`Figures`), the order of refusals (`Runs`), the parts of a text (`Rows`, `Wholes`, `Parts`), what is promised (`Promises`), and the same in the paper's
+-- Laws of the answers: their figures (`Figures`), the order of refusals (`Runs`), the parts of a text (`Rows`, `Wholes`, `Parts`), what is promised (`Promises`), what is printed (`Printed`), and the same in the paper's
 -- relations (`Relations`).
 pub mod Figures
 pub mod Parts
+pub mod Printed
 pub mod Promises
 pub mod Relations
 pub mod Rows

@@ -42,6 +42,7 @@ use Rattle.sheets.proofs.Exact.{contents, written-read, written-or-blank, sheet
 use Rattle.sheets.proofs.Only.{only-written}
 use Rattle.outcomes.specs.declared.Outcome.{Outcome}
 use Rattle.outcomes.specs.declared.Outcomes.{Outcomes}
+use Rattle.outcomes.specs.Order.{no-outcome, entry}
 use Rattle.outcome_lines.specs.Printed.{lines-of}
 use Rattle.answers.specs.Answers.{ROWS, CELLS, measured, sheet-check, crowd-check, requirement-check, rows-check, table-run, requirement-run, figures, refused-by, answer-for, head-in, listing-in, requirement-in, whole-run, answer-to, no-entries, entries, answers-of}
 use Rattle.answers.proofs.Figures.{only-number, answered-number}
@@ -70,15 +71,15 @@ count-read s k = go (sheet-of s .number)
 pub answers-count : (s : List ℕ) → sheet-of s .number ≡ 0 → answers-of s .count ≡ sheet-of s .count
 answers-count s e = ap (λ (a : Outcomes). a .count) (sym (answers-read s e))
 
-pub entry-is : (s : List ℕ) (k : ℕ) → k < answers-of s .count → getD (answers-of s .entries) k (refused-by 0) ≡ answer-to s k
+pub entry-is : (s : List ℕ) (k : ℕ) → k < answers-of s .count → entry (answers-of s .entries) k ≡ answer-to s k
 entry-is s k l =
     let e = count-read s k l in
     let c : answers-of s .count ≡ sheet-of s .count = answers-count s e in
     let few = placed s e .few in
     let z : 0 + k ≡ k = omega arith in
-    ap (λ (a : Outcomes). getD (a .entries) k (refused-by 0)) (sym (answers-read s e))
-    ∙ (ap (λ (i : ℕ). getD (entries s (sheet-of s)) i (refused-by 0)) (sym z)
-    ∙ (fill-in 0 (sheet-of s .count) (λ i. answer-for (head-in s) (listing-in s) (requirement-in s i)) no-entries k (refused-by 0) (omega arith) (omega arith)
+    ap (λ (a : Outcomes). entry (a .entries) k) (sym (answers-read s e))
+    ∙ (ap (λ (i : ℕ). entry (entries s (sheet-of s)) i) (sym z)
+    ∙ (fill-in 0 (sheet-of s .count) (λ i. answer-for (head-in s) (listing-in s) (requirement-in s i)) no-entries k no-outcome (omega arith) (omega arith)
     ∙ answer-read s k e))
 
 -- ---- the order of refusals
@@ -233,20 +234,22 @@ module _ (s : List ℕ) (k : ℕ) where
 
 -- ---- each answer is what its requirement alone would get
 
-pub alone : (s : List ℕ) (k : ℕ) → k < answers-of s .count → answer-to s k ≡ answer-to (only k s) 0
-alone s k l =
-    let e = count-read s k l in
-    let f = sheet-sound s e in
-    answer-only (f .written) (f .few) k (omega (arith, answers-count s e, f .count))
+module _ (s : List ℕ) (k : ℕ) (l : k < answers-of s .count) where
+  -- the text that keeps requirement k alone has one answer
+  pub alone-one : answers-of (only k s) .count ≡ 1
+  alone-one =
+      let e = count-read s k l in
+      let f = sheet-sound s e in
+      let w = only-written (f .written) k (omega (arith, answers-count s e, f .count)) in
+      let g : sheet-of (only k s) ≡ contents w = written-read w (omega arith) in
+      answers-count (only k s) (ap (λ (x : Sheet). x .number) g) ∙ ap (λ (x : Sheet). x .count) g
 
--- and the text that keeps it alone has this one answer
-pub alone-one : (s : List ℕ) (k : ℕ) → k < answers-of s .count → answers-of (only k s) .count ≡ 1
-alone-one s k l =
-    let e = count-read s k l in
-    let f = sheet-sound s e in
-    let w = only-written (f .written) k (omega (arith, answers-count s e, f .count)) in
-    let g : sheet-of (only k s) ≡ contents w = written-read w (omega arith) in
-    answers-count (only k s) (ap (λ (x : Sheet). x .number) g) ∙ ap (λ (x : Sheet). x .count) g
+  -- which is answer k of the whole text, refusal included
+  pub alone : entry (answers-of s .entries) k ≡ entry (answers-of (only k s) .entries) 0
+  alone =
+      let e = count-read s k l in
+      let f = sheet-sound s e in
+      entry-is s k l ∙ (answer-only (f .written) (f .few) k (omega (arith, answers-count s e, f .count)) ∙ sym (entry-is (only k s) 0 (omega (arith, alone-one))))
 
 -- ---- two runs: texts within the size limit that differ in well-written filled rows alone
 
