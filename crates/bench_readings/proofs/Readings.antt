@@ -23,7 +23,7 @@ use Rattle.grammar.specs.Reading.{window-at, timed-at, timed-among, leaf-at, mo
 use Rattle.row_lines.specs.Reading.{value-at, values-from, rest-at, row-at, rows-from}
 use Rattle.sheet_rows.specs.Answer.{times-in, values-in}
 use Rattle.predicate_lines.specs.Reading.{end-at, line-at, stored-in, with-line, lines-from, lines-at}
-use Rattle.head_lines.specs.Reading.{number-line-at}
+use Rattle.number_lines.specs.Reading.{number-line-at}
 use Rattle.heads.specs.Reading.{behind-channels, head-of}
 use Rattle.requirement_lines.specs.Reading.{until-feed, requirement-at, requirements-from}
 use Rattle.sheets.specs.Sheets.{behind-head, sheet-of}

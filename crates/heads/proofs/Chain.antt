@@ -6,7 +6,7 @@ use mathlib.Core.Bool.{true, false}
 use Prim.Native.Nat.{ℕ}
 use Rattle.text.specs.Bytes.{bytes}
 use Rattle.text.specs.declared.Field.the-variants.{Number, Bad as Field·Bad}
-use Rattle.head_lines.specs.Reading.{number-line-at}
+use Rattle.number_lines.specs.Reading.{number-line-at}
 use Rattle.predicate_lines.specs.declared.Predicates.{Predicates}
 use Rattle.predicate_lines.specs.Reading.{lines-at}
 use Rattle.heads.specs.declared.HeadLines.{HeadLines}

@@ -15,9 +15,9 @@ use Rattle.lines.specs.Lines.{lines, size}
 use Rattle.lines.proofs.Counts.{count}
 use Rattle.lines.proofs.Lines.{Fed, Each, none, also, each-append, lines-split, size-append}
 use Rattle.lines.proofs.Places.{LinesBetween, one-line, lines-both}
-use Rattle.head_lines.specs.Form.{NumberLine}
-use Rattle.head_lines.specs.Reading.{number-line-at}
-use Rattle.head_lines.proofs.Written.{number-line-is, number-line-taken, number-line-fed}
+use Rattle.number_lines.specs.Form.{NumberLine}
+use Rattle.number_lines.specs.Reading.{number-line-at}
+use Rattle.number_lines.proofs.Written.{number-line-is, number-line-taken, number-line-fed}
 use Rattle.recordings.specs.declared.Predicate.{Predicate}
 use Rattle.predicate_lines.specs.declared.Predicates.{Predicates}
 use Rattle.predicate_lines.specs.Form.{unset, PredicateLines, over, more}

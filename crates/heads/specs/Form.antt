@@ -4,7 +4,7 @@ use Prim.Native.Nat.{ℕ}
 use mathlib.Core.Path.{_≡_}
 use mathlib.Core.List.{List, [], _∷_, _++_}
 use Rattle.text.specs.Bytes.{bytes}
-use Rattle.head_lines.specs.Form.{NumberLine}
+use Rattle.number_lines.specs.Form.{NumberLine}
 use Rattle.predicate_lines.specs.Form.{unset, PredicateLines}
 use Rattle.heads.specs.declared.Head.{Head}
 

@@ -5,7 +5,7 @@ use mathlib.Core.Bool.{true, false, cond}
 use mathlib.Core.List.{List}
 use Rattle.text.specs.Bytes.{bytes}
 use Rattle.text.specs.Number.{after-number}
-use Rattle.head_lines.specs.Reading.{number-line-at}
+use Rattle.number_lines.specs.Reading.{number-line-at}
 use Rattle.predicate_lines.specs.declared.Predicates.{Predicates}
 use Rattle.predicate_lines.specs.Reading.{lines-at}
 use Rattle.heads.specs.declared.Head.{Head}

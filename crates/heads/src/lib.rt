@@ -53,10 +53,10 @@ fn read_behind(s: &[u8], channels: usize, predicates: Predicates) -> HeadLines
         return broken();
     }
     let step_at = predicates.next;
-    let Field::Number(step, drift_at) = head_lines::read_number(s, step_at, b"step=") else {
+    let Field::Number(step, drift_at) = number_lines::read_number(s, step_at, b"step=") else {
         return broken();
     };
-    let Field::Number(drift, next) = head_lines::read_number(s, drift_at, b"drift=") else {
+    let Field::Number(drift, next) = number_lines::read_number(s, drift_at, b"drift=") else {
         return broken();
     };
     let all = predicates.all;
@@ -77,7 +77,7 @@ fn read_behind(s: &[u8], channels: usize, predicates: Predicates) -> HeadLines
 pub fn read_head(s: &[u8]) -> HeadLines
     ensures { λ r. ⌜ r ≡ head-of (now (s .entry)) ⌝ }
 {
-    let Field::Number(channels, next) = head_lines::read_number(s, 0, b"chan=") else {
+    let Field::Number(channels, next) = number_lines::read_number(s, 0, b"chan=") else {
         return broken();
     };
     let predicates = predicate_lines::read_predicates(s, next);

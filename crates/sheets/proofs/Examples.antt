@@ -16,7 +16,7 @@ use Rattle.row_lines.specs.Form.{Row, no-field, next}
 use Rattle.row_lines.specs.Same.{SameButFilled, no-line, same, filled}
 use Rattle.row_lines.specs.Reading.{value-at, values-from, rest-at, row-at, rows-from}
 use Rattle.predicate_lines.specs.Reading.{end-at, line-at, stored-in, with-line, lines-from, lines-at}
-use Rattle.head_lines.specs.Reading.{number-line-at}
+use Rattle.number_lines.specs.Reading.{number-line-at}
 use Rattle.heads.specs.Reading.{behind-channels, head-of}
 use Rattle.requirement_lines.specs.Reading.{until-feed, requirement-at, requirements-from}
 use Rattle.sheets.specs.Sheets.{behind-head, sheet-of}

@@ -8,7 +8,7 @@ use Rattle.heads.proofs.read_behind.Statement.{statement}
 use Rattle.heads.proofs.read_behind.Tie as tie
 use Rattle.heads.proofs.read_behind.Reads as reads
 use Rattle.heads.proofs.read_behind.Lts as lts
-use Rattle.head_lines.proofs.read_number.Reads as read-number-reads
+use Rattle.number_lines.proofs.read_number.Reads as read-number-reads
 use Rattle.heads.proofs.broken.Reads as broken-reads
 
 broken-requires : tie.Need-broken-requires

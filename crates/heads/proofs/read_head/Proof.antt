@@ -7,7 +7,7 @@ use Rattle.heads.proofs.read_head.Statement.{statement}
 use Rattle.heads.proofs.read_head.Tie as tie
 use Rattle.heads.proofs.read_head.Reads as reads
 use Rattle.heads.proofs.read_head.Lts as lts
-use Rattle.head_lines.proofs.read_number.Reads as read-number-reads
+use Rattle.number_lines.proofs.read_number.Reads as read-number-reads
 use Rattle.heads.proofs.broken.Reads as broken-reads
 use Rattle.heads.proofs.read_behind.Reads as read-behind-reads
 use Rattle.predicate_lines.proofs.read_predicates.Reads as read-predicates-reads

@@ -1,10 +1,10 @@
--- `head_lines::read_number` meets its contract: each branch of the code is a case of the definition.
+-- `number_lines::read_number` meets its contract: each branch of the code is a case of the definition.
 -- Assumes nothing.
-use Rattle.head_lines.specs.Reading.{number-line-at}
+use Rattle.number_lines.specs.Reading.{number-line-at}
 use mathlib.Core.Path.{sym, _∙_}
 use borrow.Author.Needs.{needs}
-use Rattle.head_lines.proofs.read_number.Statement.{statement}
-use Rattle.head_lines.proofs.read_number.Tie as tie
+use Rattle.number_lines.proofs.read_number.Statement.{statement}
+use Rattle.number_lines.proofs.read_number.Tie as tie
 
 read-field-requires : tie.Need-read-field-requires
 read-field-requires c κs = search needs

@@ -2,7 +2,7 @@
 use text::Field;
 use text::Mark;
 ghost use mathlib.Core.Path.{_≡_};
-ghost use Rattle.head_lines.specs.Reading.{number-line-at};
+ghost use Rattle.number_lines.specs.Reading.{number-line-at};
 
 // A line of a key and a number.
 pub fn read_number(s: &[u8], at: usize, key: &[u8]) -> Field

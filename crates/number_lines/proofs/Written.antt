@@ -16,8 +16,8 @@ use Rattle.text.proofs.Fields.{mark-case, number-case, mark-taken, field-taken}
 use Rattle.lines.specs.Lines.{lines}
 use Rattle.lines.proofs.Counts.{count, count-append, numeral-count}
 use Rattle.lines.proofs.Lines.{lines-split, Fed}
-use Rattle.head_lines.specs.Form.{NumberLine}
-use Rattle.head_lines.specs.Reading.{number-line-at}
+use Rattle.number_lines.specs.Form.{NumberLine}
+use Rattle.number_lines.specs.Reading.{number-line-at}
 
 abbrev NumberHere : List ℕ → List ℕ → ℕ → Field → Type 0
 NumberHere key s at (Number v n) = (l : List ℕ) × Between s at n l × NumberLine key l v
