@@ -2,36 +2,28 @@
 -- Assumes nothing.
 use mathlib.Core.Path.{_≡_, sym, ap, _∙_}
 use mathlib.Core.List.{List, []}
-use Prim.Native.Nat.{ℕ, _+_, _≤_, _<_}
+use Prim.Native.Nat.{ℕ, _≤_, _<_}
 use native.Mathlib.Omega.{arith}
-use lib.ListN.{length, getD, drop}
-use Rattle.lines.specs.Lines.{lines, size, joined}
-use Rattle.lines.proofs.Lines.{lines-joined}
+use lib.ListN.{length, getD}
+use Rattle.lines.specs.Lines.{joined}
 use Rattle.row_lines.specs.Reading.{rows-of}
 use Rattle.heads.specs.declared.Head.{Head}
-use Rattle.requirement_lines.specs.Form.{requirement-lines, MOST-REQUIREMENTS}
+use Rattle.requirement_lines.specs.Form.{MOST-REQUIREMENTS}
 use Rattle.sheets.specs.declared.Sheet.{Sheet}
 use Rattle.sheets.specs.Form.{Written}
 use Rattle.sheets.specs.Only.{only}
 use Rattle.sheets.specs.Sheets.{sheet-of}
-use Rattle.sheets.proofs.Exact.{contents, written-read, written-form, written-rows}
-use Rattle.sheets.proofs.Behind.{requirement-holds}
+use Rattle.sheets.proofs.Exact.{contents, written-read, written-form, rows-text}
+use Rattle.sheets.proofs.Behind.{requirement-stands}
 use Rattle.sheets.proofs.Only.{only-written}
 use Rattle.answers.specs.Answers.{listing, requirement-part, answer-for, answer-to}
 use Rattle.answers.proofs.Wholes.{answer-read}
 
 module _ {s : List ℕ} {h : Head} {rs rows : List (List ℕ)} (w : Written s h rs rows) where
-  -- the rows are all that follows the requirements
-  pub rows-text : drop (size (w .front) + size (requirement-lines rs)) s ≡ joined rows
-  rows-text = sym (lines-joined (drop (size (w .front) + size (requirement-lines rs)) s)) ∙ ap joined (written-rows w)
-
-  pub joined-rows : lines (joined rows) ≡ rows
-  joined-rows = ap lines (sym rows-text) ∙ written-rows w
-
   module _ (few : length rs ≤ MOST-REQUIREMENTS) (k : ℕ) (l : k < length rs) where
     -- a place holds its requirement
     pub requirement-text : requirement-part s (contents w) k ≡ getD rs k []
-    requirement-text = requirement-holds s (contents w) (written-form w few) k (record { from = 0; to = 0 }) l .bytes
+    requirement-text = requirement-stands s (contents w) (written-form w few) k l .bytes
 
     pub answer-written : answer-to s k ≡ answer-for h (rows-of (h .channels) (joined rows)) (getD rs k [])
     answer-written =
@@ -39,7 +31,7 @@ module _ {s : List ℕ} {h : Head} {rs rows : List (List ℕ)} (w : Written s h 
         let e : sheet-of s ≡ x = written-read w few in
         sym (answer-read s k (ap (λ (y : Sheet). y .number) e))
         ∙ (ap (λ (y : Sheet). answer-for (y .head) (listing s y) (requirement-part s y k)) e
-        ∙ (ap (λ (t : List ℕ). answer-for h (rows-of (h .channels) t) (requirement-part s x k)) rows-text
+        ∙ (ap (λ (t : List ℕ). answer-for h (rows-of (h .channels) t) (requirement-part s x k)) (rows-text w)
         ∙ ap (answer-for h (rows-of (h .channels) (joined rows))) requirement-text))
 
 -- what a requirement gets is what the text gets that keeps it alone

@@ -5,21 +5,22 @@ use mathlib.Core.Path.{_≡_, refl, sym, ap, subst, _∙_}
 use mathlib.Core.Bool.{true, false, not}
 use mathlib.Core.Logic.{_⊎_, inl, inr, ⊎-elim}
 use mathlib.Core.List.{List, [], _∷_, _++_}
-use Prim.Native.Nat.{ℕ, zero, suc, _+_, _≤_, _<_}
+use Prim.Native.Nat.{ℕ, _+_, _≤_, _<_}
 use native.Mathlib.Omega.{arith}
-use lib.Dec.{T, leb→le, le→leb, eqb, eqb→eq}
-use lib.ListN.{length, getD}
+use lib.Dec.{leb→le, le→leb, eqb, eqb→eq}
+use lib.ListN.{length, getD, take}
+use lib.Seq.{length-take-le, getD-take}
 use borrow.Author.Tests.{eq-eqb, ne-eqb}
 use Rattle.numbers.proofs.Parts.{holds as yes}
 use Rattle.lists.specs.Fill.{fill}
-use Rattle.lists.proofs.Filled.{fill-in, fill-cong}
+use Rattle.lists.proofs.Filled.{length-fill, fill-in, fill-cong}
 use Rattle.recordings.specs.declared.Verdict.the-variants.{Holds, Fails}
 use Rattle.recordings.specs.Card.{Card, rows}
 use Rattle.recordings.specs.Shown.{Shown}
 use Rattle.recordings.specs.Verdict.{verdict}
 use Rattle.tables.specs.declared.Table.{Table}
 use Rattle.tables.specs.Tree.{root}
-use Rattle.refusals.specs.First.{Check, first, Exact, AllExact, Refused, Passed, unless-refused}
+use Rattle.refusals.specs.First.{Check, first, Exact, AllExact, Refused, Passed}
 use Rattle.rules.specs.Refusals.{table-checks, sample-checks}
 use Rattle.refusals.proofs.First.{first-passes, first-fails, passed, none-fails, refused, first-is, first-append, first-of-whole, exact-append, exact-parts, unless-none}
 use Rattle.sampling.specs.Sampling.{checks as sampling-checks}
@@ -38,49 +39,60 @@ use Rattle.sheets.specs.declared.Sheet.{Sheet}
 use Rattle.sheets.specs.Form.{blank}
 use Rattle.sheets.specs.Only.{only}
 use Rattle.sheets.specs.Sheets.{sheet-of}
-use Rattle.sheets.proofs.Exact.{contents, written-read, written-or-blank, sheet-cases, sheet-sound, sheet-refused, sheet-crowded, alike-written, sheet-alike}
+use Rattle.sheets.proofs.Exact.{contents, written-read, written-or-blank, joined-rows, sheet-cases, sheet-sound, sheet-refused, sheet-crowded, alike-written, sheet-alike}
 use Rattle.sheets.proofs.Only.{only-written}
 use Rattle.outcomes.specs.declared.Outcome.{Outcome}
 use Rattle.outcomes.specs.declared.Outcomes.{Outcomes}
-use Rattle.outcomes.specs.Order.{no-outcome, entry}
+use Rattle.outcomes.specs.Order.{past-end, entry}
 use Rattle.outcome_lines.specs.Printed.{lines-of}
-use Rattle.answers.specs.Answers.{ROWS, CELLS, measured, sheet-check, crowd-check, requirement-check, rows-check, table-run, requirement-run, figures, refused-by, answer-for, head-in, listing-in, requirement-in, whole-run, answer-to, no-entries, entries, answers-of}
+use Rattle.answers.specs.Answers.{ROWS, CELLS, measured, sheet-check, crowd-check, requirement-check, rows-check, table-run, requirement-run, figures, refused-by, answer-for, head-in, listing-in, requirement-in, whole-run, answer-to, no-entries, entries, none-answered, answers-of, answers-in}
 use Rattle.answers.proofs.Figures.{only-number, answered-number}
 use Rattle.answers.proofs.Wholes.{answer-refused, answer-read, answers-refused, answers-read, placed}
-use Rattle.answers.proofs.Parts.{joined-rows, answer-written, answer-only}
+use Rattle.answers.proofs.Parts.{answer-written, answer-only}
 
 -- ---- every entry is the answer that its requirement gets
 
+-- a blank sheet's number is no 0
+blank-number : {x : Sheet} (n : ℕ) → x ≡ blank n → 0 < n → x .number ≡ 0 → ⊥
+blank-number n e p z = let f : n ≡ 0 = ap (λ (y : Sheet). y .number) (sym e) ∙ z in omega arith
+
+-- a text is read, or gives no sheet
+sheet-either : (s : List ℕ) → (sheet-of s .number ≡ 0) ⊎ (sheet-of s .number ≡ 0 → ⊥)
+sheet-either s = ⊎-elim (λ f. inl (f .number)) (λ b. inr (⊎-elim (λ e. blank-number 1 e (omega arith)) (λ e. blank-number 12 e (omega arith)) b)) (sheet-cases s)
+
 pub answers-number : (s : List ℕ) → answers-of s .number ≡ sheet-of s .number
-unfolding answers-of
-answers-number s = go (sheet-of s .number)
-  where
-    go : (n : ℕ) → unless-refused {X = Outcomes} n (record { number = 0; count = sheet-of s .count; entries = entries s (sheet-of s) }) (record { number = n; count = 0; entries = no-entries }) .number ≡ n
-    go zero = refl
-    go (suc n) = refl
+answers-number s = ⊎-elim
+    (λ e. ap (λ (a : Outcomes). a .number) (sym (answers-read s e)) ∙ sym e)
+    (λ n. ap (λ (a : Outcomes). a .number) (sym (answers-refused s n)))
+    (sheet-either s)
+
+-- as many as the sheet has requirements
+pub answers-count : (s : List ℕ) → sheet-of s .number ≡ 0 → length (answers-in s) ≡ sheet-of s .count
+answers-count s e =
+    let n : ℕ = sheet-of s .count in
+    let m : length (entries s (sheet-of s)) ≡ 16 = length-fill 0 n (λ k. answer-for (head-in s) (listing-in s) (requirement-in s k)) no-entries in
+    let few = placed s e .few in
+    ap (λ (a : Outcomes). length (take (a .count) (a .entries))) (sym (answers-read s e)) ∙ length-take-le n (entries s (sheet-of s)) (omega arith)
 
 -- where there is an answer the sheet was read
-pub count-read : (s : List ℕ) (k : ℕ) → k < answers-of s .count → sheet-of s .number ≡ 0
-unfolding answers-of
-count-read s k = go (sheet-of s .number)
-  where
-    go : (n : ℕ) → k < unless-refused {X = Outcomes} n (record { number = 0; count = sheet-of s .count; entries = entries s (sheet-of s) }) (record { number = n; count = 0; entries = no-entries }) .count → n ≡ 0
-    go zero l = refl
-    go (suc n) l = absurd (omega arith)
+pub count-read : (s : List ℕ) (k : ℕ) → k < length (answers-in s) → sheet-of s .number ≡ 0
+count-read s k l = ⊎-elim
+    (λ e. e)
+    (λ n. let z : length (answers-in s) ≡ 0 = ap (λ (a : Outcomes). length (take (a .count) (a .entries))) (sym (answers-refused s n)) in absurd (omega arith))
+    (sheet-either s)
 
-pub answers-count : (s : List ℕ) → sheet-of s .number ≡ 0 → answers-of s .count ≡ sheet-of s .count
-answers-count s e = ap (λ (a : Outcomes). a .count) (sym (answers-read s e))
-
-pub entry-is : (s : List ℕ) (k : ℕ) → k < answers-of s .count → entry (answers-of s .entries) k ≡ answer-to s k
+pub entry-is : (s : List ℕ) (k : ℕ) → k < length (answers-in s) → entry (answers-in s) k ≡ answer-to s k
 entry-is s k l =
     let e = count-read s k l in
-    let c : answers-of s .count ≡ sheet-of s .count = answers-count s e in
+    let n : ℕ = sheet-of s .count in
+    let c = answers-count s e in
     let few = placed s e .few in
     let z : 0 + k ≡ k = omega arith in
-    ap (λ (a : Outcomes). entry (a .entries) k) (sym (answers-read s e))
+    ap (λ (a : Outcomes). entry (take (a .count) (a .entries)) k) (sym (answers-read s e))
+    ∙ (getD-take n (entries s (sheet-of s)) k past-end (omega arith)
     ∙ (ap (λ (i : ℕ). entry (entries s (sheet-of s)) i) (sym z)
-    ∙ (fill-in 0 (sheet-of s .count) (λ i. answer-for (head-in s) (listing-in s) (requirement-in s i)) no-entries k no-outcome (omega arith) (omega arith)
-    ∙ answer-read s k e))
+    ∙ (fill-in 0 n (λ i. answer-for (head-in s) (listing-in s) (requirement-in s i)) no-entries k past-end (omega arith) (omega arith)
+    ∙ answer-read s k e)))
 
 -- ---- the order of refusals
 
@@ -88,13 +100,16 @@ for-number : (h : Head) (l : Listing) (r : List ℕ) → answer-for h l r .numbe
 unfolding answer-for
 for-number h l r = answered-number (first (requirement-run h l r)) (measured h l) (requirement-of r .table) (h .step) (h .drift) (filled-of l)
 
--- a blank sheet's number is no 0
-blank-number : {x : Sheet} (n : ℕ) → x ≡ blank n → 0 < n → x .number ≡ 0 → ⊥
-blank-number n e p z = let f : n ≡ 0 = ap (λ (y : Sheet). y .number) (sym e) ∙ z in omega arith
+-- the tests of 1 and 12, by the sheet's number
+module _ (s : List ℕ) (m : ℕ) where
+  other-passes : (n : ℕ) → sheet-of s .number ≡ n → (n ≡ m → ⊥) → not (eqb (sheet-of s .number) m) ≡ true
+  other-passes n e h = rw (ne-eqb (sheet-of s .number) m (λ z. h (sym e ∙ z))) refl
 
--- a text is read, or gives no sheet
-pub sheet-either : (s : List ℕ) → (sheet-of s .number ≡ 0) ⊎ (sheet-of s .number ≡ 0 → ⊥)
-sheet-either s = ⊎-elim (λ f. inl (f .number)) (λ b. inr (⊎-elim (λ e. blank-number 1 e (omega arith)) (λ e. blank-number 12 e (omega arith)) b)) (sheet-cases s)
+  same-fails : sheet-of s .number ≡ m → not (eqb (sheet-of s .number) m) ≡ false
+  same-fails e = rw (eq-eqb (sheet-of s .number) m e) refl
+
+  blank-is : sheet-of s ≡ blank m → sheet-of s .number ≡ m
+  blank-is e = ap (λ (y : Sheet). y .number) e
 
 module _ (s : List ℕ) (k : ℕ) where
   abbrev run : List Check
@@ -107,50 +122,37 @@ module _ (s : List ℕ) (k : ℕ) where
   blank-run : (n : ℕ) → sheet-of s .number ≡ n → 0 < n → answer-to s k .number ≡ n
   blank-run n e p = ap (λ (o : Outcome). o .number) (sym (answer-refused s k (λ z. let w : n ≡ 0 = sym e ∙ z in omega arith))) ∙ e
 
-  passes-one : (n : ℕ) → sheet-of s .number ≡ n → (n ≡ 1 → ⊥) → sheet-check s .passes ≡ true
-  passes-one n e h = rw (ne-eqb (sheet-of s .number) 1 (λ z. h (sym e ∙ z))) refl
-
   -- the number is the first of the list, over the whole run
   pub order : answer-to s k .number ≡ first (whole-run s k)
   order = ⊎-elim
       (λ f. let e = f .number in
       run-number e
-      ∙ sym (first-passes (sheet-check s) (crowd-check s ∷ run) (passes-one 0 e (λ z. omega arith)) ∙ first-passes (crowd-check s) run (rw (ne-eqb (sheet-of s .number) 12 (λ z. let w : _≡_ {A = ℕ} 0 12 = sym e ∙ z in omega arith)) refl)))
+      ∙ sym (first-passes (sheet-check s) (crowd-check s ∷ run) (other-passes s 1 0 e (λ z. omega arith)) ∙ first-passes (crowd-check s) run (other-passes s 12 0 e (λ z. omega arith))))
       (λ b. ⊎-elim
-      (λ x. let e : sheet-of s .number ≡ 1 = ap (λ (y : Sheet). y .number) x in
-      blank-run 1 e (omega arith) ∙ sym (first-fails (sheet-check s) (crowd-check s ∷ run) (rw (eq-eqb (sheet-of s .number) 1 e) refl)))
-      (λ x. let e : sheet-of s .number ≡ 12 = ap (λ (y : Sheet). y .number) x in
+      (λ x. let e = blank-is s 1 x in
+      blank-run 1 e (omega arith) ∙ sym (first-fails (sheet-check s) (crowd-check s ∷ run) (same-fails s 1 e)))
+      (λ x. let e = blank-is s 12 x in
       blank-run 12 e (omega arith)
-      ∙ sym (first-passes (sheet-check s) (crowd-check s ∷ run) (passes-one 12 e (λ z. omega arith)) ∙ first-fails (crowd-check s) run (rw (eq-eqb (sheet-of s .number) 12 e) refl)))
+      ∙ sym (first-passes (sheet-check s) (crowd-check s ∷ run) (other-passes s 1 12 e (λ z. omega arith)) ∙ first-fails (crowd-check s) run (same-fails s 12 e)))
       b)
       (sheet-cases s)
 
 -- each test is its sentence
-module _ (s : List ℕ) (m : ℕ) where
-  passes-other : (n : ℕ) → sheet-of s .number ≡ n → (n ≡ m → ⊥) → T (not (eqb (sheet-of s .number) m))
-  passes-other n e h = yes {b = not (eqb (sheet-of s .number) m)} (rw (ne-eqb (sheet-of s .number) m (λ z. h (sym e ∙ z))) refl)
-
-  passes-never : sheet-of s .number ≡ m → T (not (eqb (sheet-of s .number) m)) → ⊥
-  passes-never e h = rw (eq-eqb (sheet-of s .number) m e) at h
-
-  blank-is : sheet-of s ≡ blank m → sheet-of s .number ≡ m
-  blank-is e = ap (λ (y : Sheet). y .number) e
-
 sheet-check-exact : (s : List ℕ) → Exact (sheet-check s)
 sheet-check-exact s = record {
-  sound = λ h. ⊎-elim (λ w. w) (λ e. absurd (passes-never s 1 (blank-is s 1 e) h)) (written-or-blank s);
+  sound = λ h. ⊎-elim (λ w. w) (λ e. absurd (rw (same-fails s 1 (blank-is s 1 e)) at h)) (written-or-blank s);
   complete = λ w. ⊎-elim
-      (λ f. passes-other s 1 0 (f .number) (λ z. omega arith))
-      (λ b. ⊎-elim (λ e. absurd (sheet-refused s .0 e w)) (λ e. passes-other s 1 12 (blank-is s 12 e) (λ z. omega arith)) b)
+      (λ f. yes {b = not (eqb (sheet-of s .number) 1)} (other-passes s 1 0 (f .number) (λ z. omega arith)))
+      (λ b. ⊎-elim (λ e. absurd (sheet-refused s .0 e w)) (λ e. yes {b = not (eqb (sheet-of s .number) 1)} (other-passes s 1 12 (blank-is s 12 e) (λ z. omega arith))) b)
       (sheet-cases s);
 }
 
 crowd-check-exact : (s : List ℕ) → Exact (crowd-check s)
 crowd-check-exact s = record {
-  sound = λ h c. passes-never s 12 (blank-is s 12 (sheet-crowded s .1 c)) h;
+  sound = λ h c. rw (same-fails s 12 (blank-is s 12 (sheet-crowded s .1 c))) at h;
   complete = λ w. ⊎-elim
-      (λ f. passes-other s 12 0 (f .number) (λ z. omega arith))
-      (λ b. ⊎-elim (λ e. passes-other s 12 1 (blank-is s 1 e) (λ z. omega arith)) (λ e. absurd (w (sheet-crowded s .0 e))) b)
+      (λ f. yes {b = not (eqb (sheet-of s .number) 12)} (other-passes s 12 0 (f .number) (λ z. omega arith)))
+      (λ b. ⊎-elim (λ e. yes {b = not (eqb (sheet-of s .number) 12)} (other-passes s 12 1 (blank-is s 1 e) (λ z. omega arith))) (λ e. absurd (w (sheet-crowded s .0 e))) b)
       (sheet-cases s);
 }
 
@@ -234,22 +236,22 @@ module _ (s : List ℕ) (k : ℕ) where
 
 -- ---- each answer is what its requirement alone would get
 
-module _ (s : List ℕ) (k : ℕ) (l : k < answers-of s .count) where
-  -- the text that keeps requirement k alone has one answer
-  pub alone-one : answers-of (only k s) .count ≡ 1
-  alone-one =
-      let e = count-read s k l in
-      let f = sheet-sound s e in
-      let w = only-written (f .written) k (omega (arith, answers-count s e, f .count)) in
-      let g : sheet-of (only k s) ≡ contents w = written-read w (omega arith) in
-      answers-count (only k s) (ap (λ (x : Sheet). x .number) g) ∙ ap (λ (x : Sheet). x .count) g
+single : (xs : List Outcome) → length xs ≡ 1 → xs ≡ entry xs 0 ∷ []
+single [] l = absurd (omega arith)
+single (x ∷ []) l = refl
+single (x ∷ y ∷ xs) l = absurd (omega arith)
 
-  -- which is answer k of the whole text, refusal included
-  pub alone : entry (answers-of s .entries) k ≡ entry (answers-of (only k s) .entries) 0
-  alone =
-      let e = count-read s k l in
-      let f = sheet-sound s e in
-      entry-is s k l ∙ (answer-only (f .written) (f .few) k (omega (arith, answers-count s e, f .count)) ∙ sym (entry-is (only k s) 0 (omega (arith, alone-one))))
+-- the text that keeps requirement k alone has one answer, which is answer k of the whole text, refusal included
+pub alone : (s : List ℕ) (k : ℕ) → k < length (answers-in s) → answers-in (only k s) ≡ entry (answers-in s) k ∷ []
+alone s k l =
+    let e = count-read s k l in
+    let f = sheet-sound s e in
+    let m : k < length (f .requirements) = omega (arith, answers-count s e, f .count) in
+    let w = only-written (f .written) k m in
+    let g : sheet-of (only k s) ≡ contents w = written-read w (omega arith) in
+    let n : length (answers-in (only k s)) ≡ 1 = answers-count (only k s) (ap (λ (x : Sheet). x .number) g) ∙ ap (λ (x : Sheet). x .count) g in
+    single (answers-in (only k s)) n
+    ∙ ap (λ (o : Outcome). o ∷ []) (entry-is (only k s) 0 (omega arith) ∙ (sym (answer-only (f .written) (f .few) k m) ∙ sym (entry-is s k l)))
 
 -- ---- two runs: texts within the size limit that differ in well-written filled rows alone
 
@@ -280,7 +282,7 @@ module _ (a b : List ℕ) (short-a : length a ≤ limit) (short-b : length b ≤
   refused-same : (sheet-of a .number ≡ 0 → ⊥) → answers-of a ≡ answers-of b
   refused-same n =
       let f : sheet-of a .number ≡ sheet-of b .number = ap (λ (x : Sheet). x .number) sheets-same in
-      sym (answers-refused a n) ∙ (ap (λ (m : ℕ). record { number = m; count = 0; entries = no-entries }) f ∙ answers-refused b (λ z. n (f ∙ z)))
+      sym (answers-refused a n) ∙ (ap none-answered f ∙ answers-refused b (λ z. n (f ∙ z)))
 
   -- get the same answers, and print the same bytes
   pub same-answers : answers-of a ≡ answers-of b
@@ -288,3 +290,39 @@ module _ (a b : List ℕ) (short-a : length a ≤ limit) (short-b : length b ≤
 
   pub same-lines : lines-of (answers-of a) ≡ lines-of (answers-of b)
   same-lines = ap lines-of same-answers
+
+-- ---- what was shown for a single verdict is shown for every entry of the list
+
+module _ (s : List ℕ) (k : ℕ) (l : k < length (answers-in s)) where
+  abbrev pub answer : Outcome
+  answer = entry (answers-in s) k
+
+  said : (P : Outcome → Type 0) → P (answer-to s k) → P answer
+  said P h = subst P (sym (entry-is s k l)) h
+
+  -- the order of refusals
+  pub entry-refused : (answer .number ≡ 0 → ⊥) → Refused (whole-run s k) (answer .number)
+  entry-refused = said (λ o. (o .number ≡ 0 → ⊥) → Refused (whole-run s k) (o .number)) (number-refused s k)
+
+  pub refused-entry : (m : ℕ) → Refused (whole-run s k) m → answer .number ≡ m
+  refused-entry = said (λ o. (m : ℕ) → Refused (whole-run s k) m → o .number ≡ m) (refused-number s k)
+
+  pub entry-none : answer .number ≡ 0 → Passed (whole-run s k)
+  entry-none = said (λ o. o .number ≡ 0 → Passed (whole-run s k)) (number-none s k)
+
+  pub none-entry : Passed (whole-run s k) → answer .number ≡ 0
+  none-entry = said (λ o. Passed (whole-run s k) → o .number ≡ 0) (none-number s k)
+
+  -- the figures, and under a refusal nothing but its number
+  pub entry-figures : answer .number ≡ 0 → answer ≡ figures (recording s k) (table s k) (head-in s .step) (head-in s .drift) (filled-of (listing-in s))
+  entry-figures = said (λ o. o .number ≡ 0 → o ≡ figures (recording s k) (table s k) (head-in s .step) (head-in s .drift) (filled-of (listing-in s))) (figures-are s k)
+
+  pub entry-alone : (answer .number ≡ 0 → ⊥) → answer ≡ refused-by (answer .number)
+  entry-alone = said (λ o. (o .number ≡ 0 → ⊥) → o ≡ refused-by (o .number)) (refused-alone s k)
+
+  -- demand 3
+  pub entry-holds : answer .number ≡ 0 → answer .verdict ≡ Holds → Shown (recording s k) (head-in s .step) (head-in s .drift) true (root (table s k))
+  entry-holds = said (λ o. o .number ≡ 0 → o .verdict ≡ Holds → Shown (recording s k) (head-in s .step) (head-in s .drift) true (root (table s k))) (holds s k)
+
+  pub entry-fails : answer .number ≡ 0 → answer .verdict ≡ Fails → Shown (recording s k) (head-in s .step) (head-in s .drift) false (root (table s k))
+  entry-fails = said (λ o. o .number ≡ 0 → o .verdict ≡ Fails → Shown (recording s k) (head-in s .step) (head-in s .drift) false (root (table s k))) (fails s k)

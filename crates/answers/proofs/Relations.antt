@@ -32,13 +32,13 @@ use Rattle.requirement_lines.specs.Form.{MOST-REQUIREMENTS}
 use Rattle.sheets.specs.declared.Sheet.{Sheet}
 use Rattle.sheets.specs.Form.{Written}
 use Rattle.sheets.specs.Sheets.{sheet-of}
-use Rattle.sheets.proofs.Exact.{contents, written-read, sheet-sound}
-use Rattle.sheets.proofs.Behind.{requirement-holds}
+use Rattle.sheets.proofs.Exact.{contents, written-read, rows-text, joined-rows, sheet-sound}
+use Rattle.sheets.proofs.Behind.{requirement-stands}
 use Rattle.outcomes.specs.declared.Outcome.{Outcome}
-use Rattle.answers.specs.Answers.{measured, listing, requirement-part, table-run, figures, answered, table-answer, answer-for, head-in, listing-in, requirement-in, answer-to, answers-of}
+use Rattle.answers.specs.Answers.{measured, listing, requirement-part, table-run, figures, answered, table-answer, answer-for, head-in, listing-in, requirement-in, answer-to, answers-in}
 use Rattle.answers.proofs.Figures.{answered-number}
 use Rattle.answers.proofs.Wholes.{requirement-read}
-use Rattle.answers.proofs.Parts.{rows-text, joined-rows, requirement-text, answer-written}
+use Rattle.answers.proofs.Parts.{requirement-text, answer-written}
 use Rattle.answers.proofs.Promises.{count-read, answers-count, number-none, holds, fails}
 
 module _ {s : List ℕ} {h : Head} {rs rows : List (List ℕ)} (w : Written s h rs rows) (few : length rs ≤ MOST-REQUIREMENTS) (k : ℕ) (l : k < length rs)
@@ -87,7 +87,7 @@ module _ {s : List ℕ} {h : Head} {rs rows : List (List ℕ)} (w : Written s h 
   fails-said e v = rw (root-says (getD rs k []) a q) at (moved false (fails s k e v))
 
 -- and every answer with number 0 stands in these relations
-pub related : (s : List ℕ) (k : ℕ) → k < answers-of s .count → answer-to s k .number ≡ 0
+pub related : (s : List ℕ) (k : ℕ) → k < length (answers-in s) → answer-to s k .number ≡ 0
     → (h : Head) × (rs : List (List ℕ)) × (rows : List (List ℕ)) × Written s h rs rows × (length rs ≤ MOST-REQUIREMENTS) × (k < length rs)
     × (samples : List Sample) × (filled : ℕ) × Rows (h .channels) rows samples filled × (a : Tree) × Requires (getD rs k []) a
 related s k l e =
@@ -99,5 +99,5 @@ related s k l e =
     let m : k < sheet-of s .count = omega (arith, answers-count s z) in
     let n : channels-in-range (head-in s .channels) ≡ true = rw (le-leb 1 (head-in s .channels) (c .some-channel), le-leb (head-in s .channels) 8 (c .few-channels)) refl in
     let r = f .written .listed n in
-    let g : requirement-in s k ≡ getD (f .requirements) k [] = requirement-holds s (sheet-of s) f k (record { from = 0; to = 0 }) m .bytes in
+    let g : requirement-in s k ≡ getD (f .requirements) k [] = requirement-stands s (sheet-of s) f k m .bytes in
     (head-in s, f .requirements, f .rows, f .written, f .few, omega (arith, f .count), r .0, r .1, r .2, q .0, subst (λ (b : List ℕ). Requires b (q .0)) g (q .1))

@@ -1,4 +1,4 @@
--- The row reader on the part behind a sheet's head: it refuses only channels out of range and more rows than there is room for, since the sheet has checked the lines.
+-- The row reader on the part behind a sheet's requirements: it refuses only channels out of range and more rows than there is room for, since the sheet has checked the lines.
 -- Assumes nothing.
 use mathlib.Core.Path.{_≡_, refl, sym, ap, subst, _∙_}
 use mathlib.Core.Bool.{Bool, true, false, _&&_}
@@ -103,14 +103,14 @@ module _ (s : List ℕ) (h : Head) (p : Checked s (h .channels)) where
     narrow : h .channels ≤ 8
     narrow = channels-are (h .channels) w .1
 
-  pub rows-refused : (answer .number ≡ 0 → ⊥) → (channels-obey (h .predicates) (h .channels) ≡ false) ⊎ (suc ROWS ≤ measured-of (rows-of (h .channels) s))
+  rows-refused : (answer .number ≡ 0 → ⊥) → (channels-obey (h .predicates) (h .channels) ≡ false) ⊎ (suc ROWS ≤ measured-of (rows-of (h .channels) s))
   rows-refused q = by-test (channels-in-range (h .channels))
       (λ w. by-test (has-room (measured-of (rows-of (h .channels) s)) (h .channels) ROWS VALUES)
       (λ m. absurd (q (ap (λ (a : Answer). a .number) (none w m))))
       (λ m. inr (many (measured-of (rows-of (h .channels) s)) (h .channels) (narrow w) m)))
       (λ w. inl (wide (h .channels) (h .predicates) w))
 
-  pub rows-read : answer .number ≡ 0 → Read h (rows-of (h .channels) s) answer
+  rows-read : answer .number ≡ 0 → Read h (rows-of (h .channels) s) answer
   rows-read q = by-test (channels-in-range (h .channels))
       (λ w. by-test (has-room (measured-of (rows-of (h .channels) s)) (h .channels) ROWS VALUES)
       (λ m. record {
@@ -143,10 +143,10 @@ module _ (s : List ℕ) (h : Head) (p : Checked s (h .channels)) where
     values-few = product (a .rows) (h .channels) rows-few (read .narrow)
 
     -- what was stored stands in front
-    pub times-taken : (times times₀ : List ℕ) → times ≡ unless-refused (a .number) (in-front (times-of (rows-of (h .channels) s)) times₀) times₀ → take (a .rows) times ≡ times-of (rows-of (h .channels) s)
+    times-taken : (times times₀ : List ℕ) → times ≡ unless-refused (a .number) (in-front (times-of (rows-of (h .channels) s)) times₀) times₀ → take (a .rows) times ≡ times-of (rows-of (h .channels) s)
     times-taken times times₀ f = rw (f, z) (front-taken (times-of (rows-of (h .channels) s)) times₀ (a .rows) (read .counted ∙ sym (times-long (rows-of (h .channels) s))))
 
-    pub values-taken : (values values₀ : List ℤ) → values ≡ unless-refused (a .number) (in-front (values-of (rows-of (h .channels) s)) values₀) values₀
+    values-taken : (values values₀ : List ℤ) → values ≡ unless-refused (a .number) (in-front (values-of (rows-of (h .channels) s)) values₀) values₀
         → take (a .rows * h .channels) values ≡ values-of (rows-of (h .channels) s)
     values-taken values values₀ g = rw (g, z) (front-taken (values-of (rows-of (h .channels) s)) values₀ (a .rows * h .channels) (ap (λ (n : ℕ). n * h .channels) (read .counted) ∙ sym (values-long (h .channels) s)))
 

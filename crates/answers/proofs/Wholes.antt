@@ -14,16 +14,13 @@ use Rattle.requirements.specs.Requirement.{requirement-of}
 use Rattle.row_lines.specs.Reading.{Listing}
 use Rattle.row_lines.proofs.Exact.{rows-exact}
 use Rattle.heads.specs.declared.Head.{Head}
-use Rattle.requirement_lines.specs.Form.{places-from}
-use Rattle.requirement_lines.proofs.Sixteen.{sixteen-long}
-use Rattle.lines.specs.Lines.{size}
 use Rattle.sheets.specs.declared.Sheet.{Sheet}
 use Rattle.sheets.specs.Form.{Form}
 use Rattle.sheets.specs.Sheets.{sheet-of}
 use Rattle.sheets.proofs.Exact.{sheet-sound}
-use Rattle.sheets.proofs.Behind.{rows-behind, rows-inside, requirement-holds}
+use Rattle.sheets.proofs.Behind.{rows-behind, rows-inside, places-long, requirement-stands}
 use Rattle.sheet_rows.specs.Answer.{filled-of}
-use Rattle.answers.specs.Answers.{rows-part, measured, requirement-check, table-run, answered, refused-by, table-answer, answer-for, head-in, listing-in, requirement-in, answer-to, no-entries, entries, answers-of, Checked, Placed}
+use Rattle.answers.specs.Answers.{rows-part, measured, requirement-check, table-run, answered, refused-by, table-answer, answer-for, head-in, listing-in, requirement-in, answer-to, none-answered, all-answered, answers-of, Checked, Placed}
 
 -- ---- the requirement
 
@@ -54,11 +51,11 @@ unfolding answer-to
 answer-read s k h = sym (unless-none _ _ h)
 
 module _ (s : List ℕ) where
-  pub answers-refused : (sheet-of s .number ≡ 0 → ⊥) → record { number = sheet-of s .number; count = 0; entries = no-entries } ≡ answers-of s
+  pub answers-refused : (sheet-of s .number ≡ 0 → ⊥) → none-answered (sheet-of s .number) ≡ answers-of s
   unfolding answers-of
   answers-refused h = sym (unless-some _ _ _ h)
 
-  pub answers-read : sheet-of s .number ≡ 0 → record { number = 0; count = sheet-of s .count; entries = entries s (sheet-of s) } ≡ answers-of s
+  pub answers-read : sheet-of s .number ≡ 0 → all-answered s (sheet-of s) ≡ answers-of s
   unfolding answers-of
   answers-read h = sym (unless-none _ _ h)
 
@@ -75,9 +72,9 @@ checked s x f = record {
 placed-by : (s : List ℕ) (x : Sheet) → Form s x → Placed s x
 placed-by s x f = record {
   few = omega (arith, f .count, f .few);
-  long = ap length (f .places) ∙ sixteen-long (places-from (size (f .written .front)) (f .requirements));
-  ordered = λ k l. requirement-holds s x f k (record { from = 0; to = 0 }) l .ordered;
-  inside = λ k l. requirement-holds s x f k (record { from = 0; to = 0 }) l .inside;
+  long = places-long s x f;
+  ordered = λ k l. requirement-stands s x f k l .ordered;
+  inside = λ k l. requirement-stands s x f k l .inside;
   behind = rows-inside s x f;
   checked = checked s x f;
 }

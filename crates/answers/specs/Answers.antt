@@ -1,4 +1,4 @@
--- The answers to a whole text: for each of its requirements the number of the first refusal that applies to the sheet, the requirement and the measured rows, or else the figures.
+-- The answers to a whole text: 1 or 12, or for each of its requirements the number of the first refusal that applies to it and to the measured rows, or else the figures.
 -- Assumes nothing.
 use mathlib.Core.List.{List, _∷_, _++_}
 use mathlib.Core.Path.{_≡_}
@@ -26,8 +26,9 @@ use Rattle.sheet_rows.specs.declared.Answer.{Answer as RowsAnswer}
 use Rattle.sheet_rows.specs.Answer.{answer-of, times-of, values-of, filled-of}
 use Rattle.heads.specs.declared.Head.{Head}
 use Rattle.requirement_lines.specs.declared.Place.{Place}
+use Rattle.requirement_lines.specs.Form.{MOST-REQUIREMENTS, no-place}
 use Rattle.sheets.specs.declared.Sheet.{Sheet}
-use Rattle.sheets.specs.Form.{Written, Crowded}
+use Rattle.sheets.specs.Form.{IsWritten, Crowded}
 use Rattle.sheets.specs.Sheets.{sheet-of}
 use Rattle.outcomes.specs.declared.Outcome.{Outcome}
 use Rattle.outcomes.specs.declared.Outcomes.{Outcomes}
@@ -44,7 +45,7 @@ CELLS = 8_192
 
 -- ---- the parts of a text: requirement k stands at place k, and the rows behind the requirements
 abbrev pub place-of : Sheet → ℕ → Place
-place-of x k = getD (x .requirements) k (record { from = 0; to = 0 })
+place-of x k = getD (x .requirements) k no-place
 
 abbrev pub requirement-part : List ℕ → Sheet → ℕ → List ℕ
 requirement-part s x k = take (place-of x k .to - place-of x k .from) (drop (place-of x k .from) s)
@@ -64,7 +65,7 @@ measured h l = card (h .predicates) (h .channels) (times-of l) (values-of l)
 abbrev pub sheet-check : List ℕ → Check
 sheet-check s = record {
   number = 1;
-  sentence = (h : Head) × (rs : List (List ℕ)) × (ls : List (List ℕ)) × Written s h rs ls;
+  sentence = IsWritten s;
   passes = not (eqb (sheet-of s .number) 1);
 }
 
@@ -134,17 +135,24 @@ answer-to s k = unless-refused (sheet-of s .number) (answer-for (head-in s) (lis
 
 -- sixteen places of no answer, and the answers of a sheet's requirements in front of them
 abbrev pub no-entries : List Outcome
-no-entries = replicate 16 (refused-by 0)
+no-entries = replicate MOST-REQUIREMENTS (refused-by 0)
 
 abbrev pub entries : List ℕ → Sheet → List Outcome
 entries s x = fill 0 (x .count) (λ k. answer-for (x .head) (listing s x) (requirement-part s x k)) no-entries
 
--- all answers to a text in sheet order; 1 and 12 are answered once for the whole text
+-- 1 and 12 are answered once for the whole text
+abbrev pub none-answered : ℕ → Outcomes
+none-answered number = record { number = number; count = 0; entries = no-entries }
+
+abbrev pub all-answered : List ℕ → Sheet → Outcomes
+all-answered s x = record { number = 0; count = x .count; entries = entries s x }
+
 unfoldable pub answers-of : List ℕ → Outcomes
-answers-of s =
-    unless-refused (sheet-of s .number)
-    (record { number = 0; count = sheet-of s .count; entries = entries s (sheet-of s) })
-    (record { number = sheet-of s .number; count = 0; entries = no-entries })
+answers-of s = unless-refused (sheet-of s .number) (all-answered s (sheet-of s)) (none-answered (sheet-of s .number))
+
+-- the answers to a text in sheet order, one for each requirement
+abbrev pub answers-in : List ℕ → List Outcome
+answers-in s = take (answers-of s .count) (answers-of s .entries)
 
 -- ---- what the readers leave
 -- lines behind the requirements that were checked
@@ -152,10 +160,10 @@ pub record Checked (rows : List ℕ) (channels : ℕ) : Type 0 where
   pub short : length rows ≤ limit
   pub whole : channels-in-range channels ≡ true → is-broken (rows-of channels rows) ≡ false
 
--- the sheet's places are inside its text
+-- at most sixteen requirements stand in the text, and the rows behind them were checked
 pub record Placed (s : List ℕ) (x : Sheet) : Type 0 where
-  pub few : x .count ≤ 16
-  pub long : length (x .requirements) ≡ 16
+  pub few : x .count ≤ MOST-REQUIREMENTS
+  pub long : length (x .requirements) ≡ MOST-REQUIREMENTS
   pub ordered : (k : ℕ) → k < x .count → place-of x k .from ≤ place-of x k .to
   pub inside : (k : ℕ) → k < x .count → place-of x k .to ≤ length s
   pub behind : x .rows ≤ length s

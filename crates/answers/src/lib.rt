@@ -4,7 +4,7 @@ ghost use Prim.Native.Nat.{_≤_, _<_};
 ghost use lib.ListN.{length};
 ghost use Rattle.margins.specs.Answers.{margin-outcome};
 ghost use Rattle.verdicts.specs.Answer.{verdict-refusal};
-ghost use Rattle.answers.specs.Answers.{CELLS, listing, requirement-part, refused-by, answered, answer-for, no-entries, entries, answers-of, Placed, Stored};
+ghost use Rattle.answers.specs.Answers.{CELLS, listing, requirement-part, refused-by, answered, answer-for, entries, none-answered, answers-of, Placed, Stored};
 ghost use Rattle.printing.specs.Output.{output, printed};
 ghost use Rattle.outcome_lines.specs.Printed.{LINES, lines-of};
 ghost use Rattle.recordings.specs.Card.{lent};
@@ -143,7 +143,7 @@ fn answer_all(text: &[u8], sheet: Sheet) -> [Outcome; 16]
 }
 
 fn no_answers(number: u64) -> Outcomes
-    ensures { λ r. ⌜ r ≡ record { number = number; count = 0; entries = no-entries } ⌝ }
+    ensures { λ r. ⌜ r ≡ none-answered number ⌝ }
 {
     let none = refused(0);
     Outcomes {

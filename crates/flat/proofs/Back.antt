@@ -22,6 +22,9 @@ use Rattle.building.specs.Storing.{cells-of, nodes-from}
 use Rattle.building.proofs.Cells.{zeros, length-cells, cells-append, table-back}
 use Rattle.flat.specs.Written.{written}
 use Rattle.flat.specs.Tables.{table-from}
+use Rattle.requirement_lines.specs.declared.Place.{Place}
+use Rattle.requirement_lines.specs.Form.{no-place}
+use Rattle.flat.specs.Places.{places-of}
 use Rattle.flat.specs.Predicates.{range-number, lo-of, hi-of, pairs, ranges-of, ends-of, range-from, predicate-from, predicates-from}
 use Rattle.flat.proofs.Padded.{same-nodes}
 
@@ -75,6 +78,17 @@ module _ (ps : List Predicate) (sixteen : length ps ≡ 16) (ranges : List ℕ) 
       let l : length (fill 0 16 f unset) ≡ 16 = length-fill 0 16 f unset in
       ext-getD none (fill 0 16 f unset) ps (l ∙ sym sixteen)
       (λ k h. (rw zero-add at (fill-in 0 16 f unset k none (omega arith) (omega arith))) ∙ predicate-back k (omega arith))
+
+-- ---- places
+
+-- the two numbers of place k are the place
+pub places-back : (ps : List Place) → length ps ≡ 16 → (old : List ℕ) → 32 ≤ length old → (k : ℕ) → k < 16
+    → (getD (written (places-of ps) old) (2 * k) 0 ≡ getD ps k no-place .from) × (getD (written (places-of ps) old) (2 * k + 1) 0 ≡ getD ps k no-place .to)
+places-back ps l old r k h =
+    let m = length-pairs (λ (p : Place). p .from) (λ p. p .to) ps in
+    let a = pair-at (λ (p : Place). p .from) (λ p. p .to) ps k no-place 0 (omega arith) in
+    let e = front-at (places-of ps) old 0 (omega arith) in
+    (e (2 * k) (omega arith) ∙ a .0, e (2 * k + 1) (omega arith) ∙ a .1)
 
 -- ---- tables
 

@@ -13,7 +13,7 @@ use Rattle.printing.proofs.Printed.{printed-none, printed-then}
 use Rattle.refusals.specs.First.{unless-refused}
 use Rattle.outcomes.specs.declared.Outcome.{Outcome}
 use Rattle.outcomes.specs.declared.Outcomes.{Outcomes}
-use Rattle.outcomes.specs.Order.{no-outcome, entry}
+use Rattle.outcomes.specs.Order.{past-end, entry}
 use Rattle.outcomes.specs.Arrangement.{arrange-below, arrangement, order-of}
 use Rattle.outcomes.proofs.Arrangements.{length-arrangement, order-at, order-below}
 use Rattle.outcome_lines.specs.Printed.{NUMBERED, LINES, refusal-line, line-of, numbered-line, lines-in, entry-lines, lines-of}
@@ -50,7 +50,7 @@ module _ (xs : List Outcome) (count : ℕ) where
   pub printing-next : {start here there : Output} {order : List ℕ} {n : ℕ} → Printing (take count xs) start here n → n < count → n < length xs → order ≡ order-of xs count → there ≡ printed here (numbered-line (getD order n 0) (entry xs (getD order n 0))) → length (numbered-line (getD order n 0) (entry xs (getD order n 0))) ≤ NUMBERED → Printing (take count xs) start there (n + 1)
   printing-next {order = order} {n = n} p h l e t r =
       one-more (take count xs) n (getD order n 0) p (rw (length-take count xs) (omega arith)) (rw e (order-at xs count n))
-      (sym (getD-take count xs (getD order n 0) no-outcome (rw e (order-below xs count n h l .0))))
+      (sym (getD-take count xs (getD order n 0) past-end (rw e (order-below xs count n h l .0))))
       t r
 
   -- after the last turn all lines are printed
@@ -65,22 +65,23 @@ module _ (xs : List Outcome) (count : ℕ) where
   printing-room {n = n} l p d = let s = rw (all-taken n l d) at (p .short) in omega (arith, s, p .inside, length-take count xs)
 
 -- ---- by the count of requirements, and by the whole text's number
-one-only : (xs : List Outcome) → 0 < length xs → line-of (entry xs 0) ≡ entry-lines (take 1 xs)
+pub lines-single : (xs : List Outcome) → length xs ≡ 1 → line-of (entry xs 0) ≡ entry-lines xs
 unfolding entry-lines
-one-only [] h = absurd (omega arith)
-one-only (x ∷ xs) h = refl
+lines-single [] h = absurd (omega arith)
+lines-single (x ∷ []) h = refl
+lines-single (x ∷ y ∷ xs) h = absurd (omega arith)
+
+pub lines-several : (xs : List Outcome) → (length xs ≡ 1 → ⊥) → lines-in xs (arrangement xs) ≡ entry-lines xs
+unfolding entry-lines lines-in arrangement arrange-below
+lines-several [] h = refl
+lines-several (x ∷ []) h = absurd (h refl)
+lines-several (x ∷ y ∷ xs) h = refl
 
 pub entry-one : (xs : List Outcome) (count : ℕ) → length xs ≡ 16 → count ≡ 1 → line-of (entry xs 0) ≡ entry-lines (take count xs)
-entry-one xs count l e = rw e (one-only xs (omega arith))
-
-not-one : (xs : List Outcome) → (length xs ≡ 1 → ⊥) → lines-in xs (arrangement xs) ≡ entry-lines xs
-unfolding entry-lines lines-in arrangement arrange-below
-not-one [] h = refl
-not-one (x ∷ []) h = absurd (h refl)
-not-one (x ∷ y ∷ xs) h = refl
+entry-one xs count l e = ap line-of (sym (getD-take count xs 0 past-end (omega arith))) ∙ lines-single (take count xs) (omega (arith, length-take count xs))
 
 pub entry-several : (xs : List Outcome) (count : ℕ) → length xs ≡ 16 → (count ≡ 1 → ⊥) → lines-in (take count xs) (arrangement (take count xs)) ≡ entry-lines (take count xs)
-entry-several xs count l h = not-one (take count xs) (λ e. h (omega (arith, e, length-take count xs)))
+entry-several xs count l h = lines-several (take count xs) (λ e. h (omega (arith, e, length-take count xs)))
 
 pub lines-refused : (a : Outcomes) → (a .number ≡ 0 → ⊥) → refusal-line (a .number) ≡ lines-of a
 unfolding lines-of

@@ -65,7 +65,7 @@ entry-lines (x ∷ y ∷ xs) = lines-in (x ∷ y ∷ xs) (arrangement (x ∷ y �
 unfoldable pub lines-of : Outcomes → List ℕ
 lines-of a = unless-refused (a .number) (entry-lines (take (a .count) (a .entries))) (refusal-line (a .number))
 
--- no line is longer
+-- no line is longer: the longest that 64-bit numbers give has 153 bytes
 abbrev pub LINE : ℕ
 LINE = 160
 

@@ -11,9 +11,6 @@ use outcomes::Outcome;
 use outcomes::Outcomes;
 use recordings::Verdict;
 
-// No line is longer: the longest that 64-bit numbers give has 153 bytes.
-pub const LINE: usize = 160;
-
 // Sixteen lines with their numbers are not longer.
 pub const LINES: usize = 2688;
 
@@ -73,7 +70,7 @@ fn refusal_line(out: &mut [u8], at: usize, number: u64) -> usize
     printing::word(out, at, b"\n")
 }
 
-pub fn line(out: &mut [u8], at: usize, outcome: Outcome) -> usize
+fn line(out: &mut [u8], at: usize, outcome: Outcome) -> usize
     ensures { λ r. ⌜ output (out .exit) r ≡ printed (output (out .entry) at) (line-of outcome) ⌝ }
     ensures room { λ _. ⌜ length (line-of outcome) ≤ LINE ⌝ }
 {

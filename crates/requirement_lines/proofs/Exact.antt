@@ -6,7 +6,7 @@ use mathlib.Core.Bool.{true, false}
 use Prim.Native.Nat.{ℕ, zero, suc, _+_, _-_, _≤_, _<_}
 use native.Mathlib.Nat.{add-zero}
 use native.Mathlib.Omega.{arith}
-use lib.ListN.{length, getD, take, drop, length-append, drop-of-length-le}
+use lib.ListN.{length, getD, drop, length-append, drop-of-length-le}
 use lib.Seq.{drop-drop, take-append-seam}
 use lib.Dec.{leb}
 use borrow.Author.Tests.{le-leb}
@@ -21,7 +21,7 @@ use Rattle.lines.proofs.Places.{LinesBetween, no-line, one-line, lines-both, li
 use Rattle.requirement_lines.specs.declared.Place.{Place}
 use Rattle.requirement_lines.specs.declared.Line.{Line}
 use Rattle.requirement_lines.specs.declared.Line.the-variants.{At, Bad}
-use Rattle.requirement_lines.specs.Form.{requirement-line, requirement-lines, places-from, Over}
+use Rattle.requirement_lines.specs.Form.{requirement-line, requirement-lines, places-from, StandsAt, Over}
 use Rattle.requirement_lines.specs.Reading.{requirement-at, after-requirement, Found, found, broken, also, requirements-from, requirements-at}
 use Rattle.requirement_lines.proofs.Written.{RequirementIs, requirement-is, line-fed, requirement-taken}
 use Rattle.requirement_lines.proofs.Collecting.{from-over, from-turn}
@@ -92,7 +92,7 @@ front-key : (s : List ℕ) (at : ℕ) (r : List ℕ) (ls : List (List ℕ)) → 
 unfolding prefix-of
 front-key s at r ls f = let l : at < length s = place-inside s at (requirement-line r) (f .rest) (f .bytes-are) (fed-some (line-fed r (f .clear))) in rw (le-leb at (length s) (omega arith), f .bytes-are)
 
-pub size-requirement : (r : List ℕ) (rs : List (List ℕ)) → size (requirement-lines (r ∷ rs)) ≡ 4 + length r + 1 + size (requirement-lines rs)
+size-requirement : (r : List ℕ) (rs : List (List ℕ)) → size (requirement-lines (r ∷ rs)) ≡ 4 + length r + 1 + size (requirement-lines rs)
 unfolding requirement-lines size
 size-requirement r rs = omega (arith, length-append (bytes "req=" ++ r) (bytes "\n"), length-append (bytes "req=") r)
 
@@ -138,13 +138,8 @@ requirements-taken s at rs rest h o = (
 
 -- ---- the bytes at a requirement's place are the requirement
 
-pub record Holds (s : List ℕ) (p : Place) (r : List ℕ) : Type 0 where
-  pub bytes : take (p .to - p .from) (drop (p .from) s) ≡ r
-  pub ordered : p .from ≤ p .to
-  pub inside : p .to ≤ length s
-
 pub place-holds : (s : List ℕ) (at : ℕ) (rs rest : List (List ℕ)) → lines (drop at s) ≡ requirement-lines rs ++ rest → (k : ℕ) (d : Place) → k < length rs
-    → Holds s (getD (places-from at rs) k d) (getD rs k [])
+    → StandsAt s (getD (places-from at rs) k d) (getD rs k [])
 unfolding requirement-lines places-from
 place-holds s at [] rest h k d l = absurd (omega arith)
 place-holds s at (r ∷ rs) rest h zero d l =

@@ -7,7 +7,7 @@ use native.Mathlib.Omega.{arith}
 use lib.ListN.{length, getD, set, take, replicate, length-append, List·getD-append}
 use lib.Seq.{length-take-le, getD-take}
 use Rattle.requirement_lines.specs.declared.Place.{Place}
-use Rattle.requirement_lines.specs.Form.{nowhere, sixteen}
+use Rattle.requirement_lines.specs.Form.{no-place, nowhere, sixteen}
 
 pub sixteen-long : (ps : List Place) → length (sixteen ps) ≡ 16
 sixteen-long ps = length-take-le 16 (ps ++ nowhere) (omega (arith, length-append ps nowhere))
@@ -28,4 +28,16 @@ set-more (suc n) (suc m) [] p x h = ap (λ (l : List _). p ∷ l) (take-same n m
 set-more (suc n) m (q ∷ ps) p x h = ap (λ (l : List _). q ∷ l) (set-more n m ps p x (omega arith))
 
 pub sixteen-more : (ps : List Place) (p : Place) → set (sixteen ps) (length ps) p ≡ sixteen (ps ++ (p ∷ []))
-sixteen-more ps p = set-more 16 16 ps p (record { from = 0; to = 0 }) (omega arith)
+sixteen-more ps p = set-more 16 16 ps p no-place (omega arith)
+
+-- and behind the last is no place
+behind : {X : Type 0} (n m : ℕ) (ps : List X) (x : X) (k : ℕ) → length ps ≤ k → getD (take n (ps ++ replicate m x)) k x ≡ x
+behind zero m ps x k h = refl
+behind (suc n) zero [] x k h = refl
+behind (suc n) (suc m) [] x zero h = refl
+behind (suc n) (suc m) [] x (suc k) h = behind n m [] x k (omega arith)
+behind (suc n) m (p ∷ ps) x zero h = absurd (omega arith)
+behind (suc n) m (p ∷ ps) x (suc k) h = behind n m ps x k (omega arith)
+
+pub sixteen-behind : (ps : List Place) (k : ℕ) → length ps ≤ k → getD (sixteen ps) k no-place ≡ no-place
+sixteen-behind ps k h = behind 16 16 ps no-place k h

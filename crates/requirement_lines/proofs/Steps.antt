@@ -1,4 +1,4 @@
--- The search for a line feed, and the line of the requirement, which it ends.
+-- The search for a line feed, and a requirement's line, which it ends.
 -- Assumes nothing.
 use mathlib.Core.Path.{_≡_}
 use mathlib.Core.List.{List}
@@ -11,7 +11,7 @@ use Rattle.text.specs.Bytes.{bytes}
 use Rattle.text.specs.Mark.{mark-at}
 use Rattle.text.specs.declared.Mark.the-variants.{Next, Bad as Mark·Bad}
 use Rattle.requirement_lines.specs.declared.Line.the-variants.{Bad}
-use Rattle.requirement_lines.specs.Reading.{until-feed, line-of, requirement-at}
+use Rattle.requirement_lines.specs.Reading.{until-feed, placed-line, requirement-at}
 
 -- ---- the search for a line feed
 module _ (s : List ℕ) (at : ℕ) where
@@ -28,12 +28,12 @@ module _ (s : List ℕ) (at : ℕ) where
     unfolding until-feed
     feed-next h = rw (add-one, drop-cons s at 0, ne-eqb _ _ h)
 
--- the line of the requirement, which ends at `to`
+-- a requirement's line, which ends at `to`
 module _ (s : List ℕ) (at from to : ℕ) (e : mark-at (bytes "req=") s at ≡ Next from) (g : to ≡ from + length (until-feed (drop from s))) where
   pub line-open : mark-at (bytes "\n") s to ≡ Mark·Bad → Bad ≡ requirement-at s at
   unfolding requirement-at
   line-open f = rw (e, ← g, f)
 
-  pub line-whole : (n : ℕ) → mark-at (bytes "\n") s to ≡ Next n → line-of from to n ≡ requirement-at s at
+  pub line-whole : (n : ℕ) → mark-at (bytes "\n") s to ≡ Next n → placed-line from to n ≡ requirement-at s at
   unfolding requirement-at
   line-whole n f = rw (e, ← g, f)

@@ -21,7 +21,7 @@ use Rattle.requirement_lines.specs.declared.Place.{Place}
 use Rattle.requirement_lines.specs.declared.Line.{Line}
 use Rattle.requirement_lines.specs.declared.Line.the-variants.{At, Bad}
 use Rattle.requirement_lines.specs.Form.{requirement-line}
-use Rattle.requirement_lines.specs.Reading.{until-feed, line-of, requirement-at}
+use Rattle.requirement_lines.specs.Reading.{until-feed, placed-line, requirement-at}
 
 -- ---- the bytes before the first line feed
 
@@ -98,14 +98,14 @@ requirement-past s at p n h = omega (arith, requirement-is s at p n h .next)
 -- ---- complete
 
 requirement-read : (s : List ℕ) (at from n : ℕ) (w r : List ℕ) → mark-at (bytes "req=") s at ≡ Next from → drop from s ≡ w ++ (10 ∷ r) → count 10 w ≡ 0
-    → mark-at (bytes "\n") s (from + length w) ≡ Next n → requirement-at s at ≡ line-of from (from + length w) n
+    → mark-at (bytes "\n") s (from + length w) ≡ Next n → requirement-at s at ≡ placed-line from (from + length w) n
 unfolding requirement-at
 requirement-read s at from n w r e f c g =
     let h : until-feed (drop from s) ≡ w = ap until-feed f ∙ until-feed-is w r c in
     rw (e, h, g)
 
 pub requirement-taken : (s : List ℕ) (at : ℕ) (w r : List ℕ) → drop at s ≡ requirement-line w ++ r → count 10 w ≡ 0
-    → (requirement-at s at ≡ line-of (at + 4) (at + 4 + length w) (at + 4 + length w + 1)) × (drop (at + 4) s ≡ w ++ (bytes "\n" ++ r)) × (drop (at + 4 + length w + 1) s ≡ r)
+    → (requirement-at s at ≡ placed-line (at + 4) (at + 4 + length w) (at + 4 + length w + 1)) × (drop (at + 4) s ≡ w ++ (bytes "\n" ++ r)) × (drop (at + 4 + length w + 1) s ≡ r)
 requirement-taken s at w r e c =
     let g : drop at s ≡ bytes "req=" ++ (w ++ (bytes "\n" ++ r)) = simp append-assoc at e in
     let k = mark-taken s at (w ++ (bytes "\n" ++ r)) (bytes "req=") (omega arith) g in

@@ -18,14 +18,14 @@ unfoldable pub until-feed : List ℕ → List ℕ
 until-feed [] = []
 until-feed (b ∷ s) = cond (eqb b 10) [] (b ∷ until-feed s)
 
-abbrev pub line-of : ℕ → ℕ → ℕ → Line
-line-of from to n = At (record { from = from; to = to }) n
+abbrev pub placed-line : ℕ → ℕ → ℕ → Line
+placed-line from to n = At (record { from = from; to = to }) n
 
 -- the requirement's line at a place
 unfoldable pub requirement-at : List ℕ → ℕ → Line
 requirement-at s at =
     after-mark (mark-at (bytes "req=") s at)
-    (λ from. after-mark (mark-at (bytes "\n") s (from + length (until-feed (drop from s)))) (λ n. line-of from (from + length (until-feed (drop from s))) n) Bad)
+    (λ from. after-mark (mark-at (bytes "\n") s (from + length (until-feed (drop from s)))) (λ n. placed-line from (from + length (until-feed (drop from s))) n) Bad)
     Bad
 
 abbrev pub after-requirement : {A : Type 0} → Line → (Place → ℕ → A) → A → A

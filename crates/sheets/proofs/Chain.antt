@@ -32,14 +32,6 @@ module _ (s : List ℕ) (h : Head) (rs : Requirements) where
     pub lines-there : 1 ≤ rs .count → (b : Bool) → b ≡ rows-kept s (rs .next) (h .channels) → b ≡ lines-kept s h rs
     lines-there l b e = rw (o, le-leb _ _ l) e
 
-  pub behind-broken : lines-kept s h rs ≡ false → blank 1 ≡ behind-head s h rs
-  unfolding behind-head
-  behind-broken k = rw k
-
-  pub behind-crowded : lines-kept s h rs ≡ true → MOST-REQUIREMENTS < rs .count → blank 12 ≡ behind-head s h rs
-  unfolding behind-head
-  behind-crowded k l = rw (k, lt-leb _ _ l)
-
   -- by the refusal's number
   module _ (n : ℕ) (e : n ≡ sheet-refusal (lines-kept s h rs) (rs .count)) where
     pub behind-refused : (n ≡ 0 → ⊥) → blank n ≡ behind-head s h rs

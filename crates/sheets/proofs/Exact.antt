@@ -10,12 +10,11 @@ use native.Mathlib.Omega.{arith}
 use lib.ListN.{length, drop}
 use lib.IntN.{ℤ}
 use lib.Dec.{leb, ltb}
-use borrow.Author.Tests.{leb-true, leb-false, le-leb, le-ltb, ltb-false}
-use Rattle.text.specs.Bytes.{bytes}
+use borrow.Author.Tests.{leb-true, leb-false, le-ltb, ltb-false}
 use Rattle.text.specs.Mark.{prefix-of}
 use Rattle.text.proofs.Tests.{false-true, by-test}
-use Rattle.lines.specs.Lines.{lines, size}
-use Rattle.lines.proofs.Lines.{Each, none, also, each-map}
+use Rattle.lines.specs.Lines.{lines, size, joined}
+use Rattle.lines.proofs.Lines.{Each, none, also, each-map, size-append, lines-joined, size-lines}
 use Rattle.lines.proofs.Places.{lines-behind, lines-inside}
 use Rattle.row_lines.specs.Form.{Row, AreRows}
 use Rattle.row_lines.specs.Reading.{limit, channels-in-range, is-broken, rows-of}
@@ -27,13 +26,13 @@ use Rattle.heads.specs.Reading.{head-place, head-of}
 use Rattle.heads.proofs.Exact.{head-is, head-taken, head-lines}
 use Rattle.requirement_lines.specs.declared.Place.{Place}
 use Rattle.requirement_lines.specs.declared.Requirements.{Requirements}
-use Rattle.requirement_lines.specs.Form.{requirement-line, requirement-lines, places-from, Over, MOST-REQUIREMENTS, sixteen}
+use Rattle.requirement_lines.specs.Form.{requirement-line, requirement-lines, places-from, is-requirement, Over, MOST-REQUIREMENTS, sixteen}
 use Rattle.requirement_lines.specs.Reading.{Found, found, broken, requirements-at, stored}
 use Rattle.requirement_lines.proofs.Exact.{requirements-are, requirements-taken, places-length}
 use Rattle.sheets.specs.declared.Sheet.{Sheet}
-use Rattle.sheets.specs.Form.{Written, Form, Crowded, blank}
+use Rattle.sheets.specs.Form.{Written, IsWritten, Form, Crowded, blank}
 use Rattle.sheets.specs.Sheets.{rows-kept, lines-kept, behind-head, sheet-of}
-use Rattle.sheets.proofs.Chain.{lines-there, behind-broken, behind-crowded, behind-read, sheet-long, sheet-headless, sheet-behind}
+use Rattle.sheets.proofs.Chain.{lines-there, refusal-broken, refusal-crowded, refusal-none, behind-refused, behind-read, sheet-long, sheet-headless, sheet-behind}
 
 -- ---- the rows behind
 
@@ -52,9 +51,6 @@ listed-kept ch s at h = go (channels-in-range ch) refl
     go false e = rw e
 
 -- ---- sound: a text is written as a sheet, or gives none
-
-abbrev pub IsWritten : List ℕ → Type 0
-IsWritten s = (h : Head) × (rs : List (List ℕ)) × (rows : List (List ℕ)) × Written s h rs rows
 
 module _ (s : List ℕ) (l : ltb limit (length s) ≡ false) (o : head-of s .ok ≡ true) where
   abbrev head : Head
@@ -80,7 +76,7 @@ module _ (s : List ℕ) (l : ltb limit (length s) ≡ false) (o : head-of s .ok 
       )
 
   none-written : (x : Found) → requirements-at s (head-of s .next) ≡ x → lines-kept s head (stored x) ≡ false → blank 1 ≡ sheet-of s
-  none-written x e k = sheet-behind s l (head-of s) refl o (stored x) (ap stored (sym e)) (blank 1) (behind-broken s head (stored x) k)
+  none-written x e k = sheet-behind s l (head-of s) refl o (stored x) (ap stored (sym e)) (blank 1) (behind-refused s head (stored x) 1 (refusal-broken _ (stored x .count) k) (λ z. omega arith))
 
   found-either : (x : Found) → requirements-at s (head-of s .next) ≡ x → IsWritten s ⊎ (sheet-of s ≡ blank 1)
   found-either (found ps n) e =
@@ -119,9 +115,20 @@ module _ {s : List ℕ} {h : Head} {rs rows : List (List ℕ)} (w : Written s h 
   taken : (requirements-at s at ≡ found (places-from at rs) next) × (lines (drop next s) ≡ rows)
   taken = requirements-taken s at rs rows (lines-behind (w .front) (requirement-lines rs ++ rows) s (w .cuts)) (w .over)
 
-  -- the rows stand behind the requirements
+  -- the rows stand behind the requirements, and are all that follows them
   pub written-rows : lines (drop next s) ≡ rows
   written-rows = taken .1
+
+  pub rows-text : drop next s ≡ joined rows
+  rows-text = sym (lines-joined (drop next s)) ∙ ap joined written-rows
+
+  pub joined-rows : lines (joined rows) ≡ rows
+  joined-rows = ap lines (sym rows-text) ∙ written-rows
+
+  -- the text is as long as its three parts
+  pub written-size : length s ≡ size (w .front) + (size (requirement-lines rs) + size rows)
+  written-size =
+      sym (size-lines s) ∙ (ap size (w .cuts) ∙ (size-append (w .front) (requirement-lines rs ++ rows) ∙ ap (λ (n : ℕ). size (w .front) + n) (size-append (requirement-lines rs) rows)))
 
   lines-stand : lines-kept s h (stored (found (places-from at rs) next)) ≡ true
   lines-stand =
@@ -140,13 +147,13 @@ module _ {s : List ℕ} {h : Head} {rs rows : List (List ℕ)} (w : Written s h 
   pub written-read : length rs ≤ MOST-REQUIREMENTS → sheet-of s ≡ contents
   written-read few =
       let c : length (places-from at rs) ≡ length rs = places-length at rs in
-      sym (read-as _ (behind-read s h (stored (found (places-from at rs) next)) 0 (rw (lines-stand, le-leb (length (places-from at rs)) MOST-REQUIREMENTS (omega arith)) refl) refl))
+      sym (read-as _ (behind-read s h (stored (found (places-from at rs) next)) 0 (refusal-none _ (length (places-from at rs)) lines-stand (omega arith)) refl))
       ∙ ap (λ (n : ℕ). record { number = 0; head = h; count = n; requirements = sixteen (places-from at rs); rows = next }) c
 
-  pub written-crowded : MOST-REQUIREMENTS + 1 ≤ length rs → sheet-of s ≡ blank 12
+  written-crowded : MOST-REQUIREMENTS + 1 ≤ length rs → sheet-of s ≡ blank 12
   written-crowded many =
       let c : length (places-from at rs) ≡ length rs = places-length at rs in
-      sym (read-as (blank 12) (behind-crowded s h (stored (found (places-from at rs) next)) lines-stand (omega arith)))
+      sym (read-as (blank 12) (behind-refused s h (stored (found (places-from at rs) next)) 12 (refusal-crowded _ (length (places-from at rs)) lines-stand (omega arith)) (λ z. omega arith)))
 
   abbrev pub written-form : length rs ≤ MOST-REQUIREMENTS → Form s contents
   written-form few = record { requirements = rs; rows = rows; written = w; few = few; count = refl; places = refl; behind = refl; number = refl }
@@ -221,9 +228,9 @@ no-rows [] = none
 no-rows (r ∷ rs) = also {l = requirement-line r} (record { first = λ (e : _≡_ {A = ℕ} 114 116). omega arith }) (no-rows rs)
 
 -- a row does not begin with `req=`
-row-over : {ch t : ℕ} {l : List ℕ} {m : Bool} {vs : List ℤ} → Row ch l m t vs → prefix-of (bytes "req=") l ≡ false
+row-over : {ch t : ℕ} {l : List ℕ} {m : Bool} {vs : List ℤ} → Row ch l m t vs → is-requirement l ≡ false
 unfolding prefix-of
-row-over f = ap (prefix-of (bytes "req=")) (f .spelled)
+row-over f = ap is-requirement (f .spelled)
 
 alike-over : {ls ms : List (List ℕ)} → Alike ls ms → Over ls → Over ms
 alike-over no-line h = h

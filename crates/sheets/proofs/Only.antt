@@ -9,15 +9,15 @@ use lib.ListN.{length, getD}
 use borrow.Author.Tests.{ne-eqb}
 use Rattle.text.specs.Mark.{prefix-of}
 use Rattle.lines.specs.Lines.{lines, size, joined}
-use Rattle.lines.proofs.Lines.{Fed, Each, none, also, each-append, each-map, size-append, joined-append, joined-length, lines-joined, size-lines, joined-lines}
+use Rattle.lines.proofs.Lines.{Fed, Each, none, also, each-append, each-map, size-append, joined-append, joined-length, joined-lines}
 use Rattle.lines.proofs.Places.{lines-behind}
 use Rattle.heads.specs.declared.Head.{Head}
 use Rattle.heads.proofs.Exact.{HeadLine, head-lines}
-use Rattle.requirement_lines.specs.Form.{requirement-line, requirement-lines, Over}
+use Rattle.requirement_lines.specs.Form.{requirement-line, requirement-lines, is-requirement, Over}
 use Rattle.requirement_lines.proofs.Exact.{requirement-lines-fed}
 use Rattle.sheets.specs.Form.{Written}
-use Rattle.sheets.specs.Only.{before-first, from-first, requires, requires-nothing, head-lines-of, requirement-lines-of, row-lines-of, only}
-use Rattle.sheets.proofs.Exact.{written-rows}
+use Rattle.sheets.specs.Only.{before-first, from-first, is-other, head-lines-of, requirement-lines-of, row-lines-of, only}
+use Rattle.sheets.proofs.Exact.{written-size, joined-rows}
 
 -- ---- lines before the first of a kind
 
@@ -41,31 +41,31 @@ module _ (kind : List ℕ → Bool) where
   unfolding from-first
   from-here l ls p = rw p
 
--- ---- which lines are requirements
+-- ---- which lines are requirements'
 
-head-requires : (l : List ℕ) → HeadLine l → requires l ≡ false
+head-requires : (l : List ℕ) → HeadLine l → is-requirement l ≡ false
 unfolding prefix-of
 head-requires [] h = refl
 head-requires (b ∷ l) h = rw (ne-eqb b 114 (h .no-requirement))
 
-line-requires : (r : List ℕ) → requires (requirement-line r) ≡ true
+line-requires : (r : List ℕ) → is-requirement (requirement-line r) ≡ true
 unfolding prefix-of
 line-requires r = refl
 
-all-require : (rs : List (List ℕ)) → Each (λ (l : List ℕ). requires-nothing l ≡ false) (requirement-lines rs)
+all-require : (rs : List (List ℕ)) → Each (λ (l : List ℕ). is-other l ≡ false) (requirement-lines rs)
 unfolding requirement-lines
 all-require [] = none
 all-require (r ∷ rs) = also {l = requirement-line r} (rw (line-requires r) refl) (all-require rs)
 
-none-left : (rows : List (List ℕ)) → Over rows → before-first requires-nothing rows ≡ []
+none-left : (rows : List (List ℕ)) → Over rows → before-first is-other rows ≡ []
 unfolding before-first
 none-left [] h = refl
-none-left (l ∷ ls) h = before-here requires-nothing l ls (rw h refl)
+none-left (l ∷ ls) h = before-here is-other l ls (rw h refl)
 
-all-left : (rows : List (List ℕ)) → Over rows → from-first requires-nothing rows ≡ rows
+all-left : (rows : List (List ℕ)) → Over rows → from-first is-other rows ≡ rows
 unfolding from-first
 all-left [] h = refl
-all-left (l ∷ ls) h = from-here requires-nothing l ls (rw h refl)
+all-left (l ∷ ls) h = from-here is-other l ls (rw h refl)
 
 -- ---- one line of several
 
@@ -93,39 +93,39 @@ module _ {s : List ℕ} {h : Head} {rs rows : List (List ℕ)} (w : Written s h 
   abbrev front : List (List ℕ)
   front = w .front
 
-  others : Each (λ (l : List ℕ). requires l ≡ false) front
+  others : Each (λ (l : List ℕ). is-requirement l ≡ false) front
   others = each-map head-requires (head-lines (w .begins))
 
   -- the requirements' lines begin the lines from the first of them on
-  begin : from-first requires (requirement-lines rs ++ rows) ≡ requirement-lines rs ++ rows
+  begin : from-first is-requirement (requirement-lines rs ++ rows) ≡ requirement-lines rs ++ rows
   unfolding requirement-lines
   begin = go rs (w .some)
     where
-      go : (xs : List (List ℕ)) → 1 ≤ length xs → from-first requires (requirement-lines xs ++ rows) ≡ requirement-lines xs ++ rows
+      go : (xs : List (List ℕ)) → 1 ≤ length xs → from-first is-requirement (requirement-lines xs ++ rows) ≡ requirement-lines xs ++ rows
       go [] l = absurd (omega arith)
-      go (r ∷ xs) l = from-here requires (requirement-line r) (requirement-lines xs ++ rows) (line-requires r)
+      go (r ∷ xs) l = from-here is-requirement (requirement-line r) (requirement-lines xs ++ rows) (line-requires r)
 
-  end : before-first requires (requirement-lines rs ++ rows) ≡ []
+  end : before-first is-requirement (requirement-lines rs ++ rows) ≡ []
   unfolding requirement-lines
   end = go rs (w .some)
     where
-      go : (xs : List (List ℕ)) → 1 ≤ length xs → before-first requires (requirement-lines xs ++ rows) ≡ []
+      go : (xs : List (List ℕ)) → 1 ≤ length xs → before-first is-requirement (requirement-lines xs ++ rows) ≡ []
       go [] l = absurd (omega arith)
-      go (r ∷ xs) l = before-here requires (requirement-line r) (requirement-lines xs ++ rows) (line-requires r)
+      go (r ∷ xs) l = before-here is-requirement (requirement-line r) (requirement-lines xs ++ rows) (line-requires r)
 
-  pub heads-are : head-lines-of s ≡ front
-  heads-are = ap (before-first requires) (w .cuts) ∙ (before-others requires (requirement-lines rs ++ rows) others ∙ (ap (λ (x : List (List ℕ)). front ++ x) end ∙ append-nil front))
+  heads-are : head-lines-of s ≡ front
+  heads-are = ap (before-first is-requirement) (w .cuts) ∙ (before-others is-requirement (requirement-lines rs ++ rows) others ∙ (ap (λ (x : List (List ℕ)). front ++ x) end ∙ append-nil front))
 
-  behind-are : from-first requires (lines s) ≡ requirement-lines rs ++ rows
-  behind-are = ap (from-first requires) (w .cuts) ∙ (from-others requires (requirement-lines rs ++ rows) others ∙ begin)
+  behind-are : from-first is-requirement (lines s) ≡ requirement-lines rs ++ rows
+  behind-are = ap (from-first is-requirement) (w .cuts) ∙ (from-others is-requirement (requirement-lines rs ++ rows) others ∙ begin)
 
-  pub requirements-are : requirement-lines-of s ≡ requirement-lines rs
+  requirements-are : requirement-lines-of s ≡ requirement-lines rs
   requirements-are =
-      ap (before-first requires-nothing) behind-are
-      ∙ (before-others requires-nothing rows (all-require rs) ∙ (ap (λ (x : List (List ℕ)). requirement-lines rs ++ x) (none-left rows (w .over)) ∙ append-nil (requirement-lines rs)))
+      ap (before-first is-other) behind-are
+      ∙ (before-others is-other rows (all-require rs) ∙ (ap (λ (x : List (List ℕ)). requirement-lines rs ++ x) (none-left rows (w .over)) ∙ append-nil (requirement-lines rs)))
 
-  pub rows-are : row-lines-of s ≡ rows
-  rows-are = ap (from-first requires-nothing) behind-are ∙ (from-others requires-nothing rows (all-require rs) ∙ all-left rows (w .over))
+  rows-are : row-lines-of s ≡ rows
+  rows-are = ap (from-first is-other) behind-are ∙ (from-others is-other rows (all-require rs) ∙ all-left rows (w .over))
 
   module _ (k : ℕ) (l : k < length rs) where
     abbrev kept : List (List ℕ)
@@ -138,16 +138,12 @@ module _ {s : List ℕ} {h : Head} {rs rows : List (List ℕ)} (w : Written s h 
     fed : Each Fed (front ++ kept)
     fed = each-append (each-map (λ x y. y .fed) (head-lines (w .begins))) (also (each-at rs k l (requirement-lines-fed s (size front) rs rows (lines-behind front (requirement-lines rs ++ rows) s (w .cuts)))) none)
 
-    -- the rows are the lines of what follows the requirements
-    rows-again : lines (joined rows) ≡ rows
-    rows-again = let e = written-rows w in ap lines (ap joined (sym e) ∙ lines-joined _) ∙ e
-
     only-lines : lines (only k s) ≡ front ++ (requirement-lines (getD rs k [] ∷ []) ++ rows)
     unfolding requirement-lines
     only-lines =
         ap lines (only-is ∙ (ap joined (sym (append-assoc front kept rows)) ∙ joined-append (front ++ kept) rows))
         ∙ (joined-lines (joined rows) fed
-        ∙ (ap (λ (x : List (List ℕ)). (front ++ kept) ++ x) rows-again
+        ∙ (ap (λ (x : List (List ℕ)). (front ++ kept) ++ x) (joined-rows w)
         ∙ append-assoc front kept rows))
 
     only-short : length (only k s) ≤ length s
@@ -155,8 +151,7 @@ module _ {s : List ℕ} {h : Head} {rs rows : List (List ℕ)} (w : Written s h 
     only-short =
         let a : length (only k s) ≡ size (front ++ (requirement-line (getD rs k []) ∷ rows)) = ap length only-is ∙ joined-length _ in
         let b : size (front ++ (requirement-line (getD rs k []) ∷ rows)) ≡ size front + (length (requirement-line (getD rs k [])) + size rows) = size-append front (requirement-line (getD rs k []) ∷ rows) in
-        let c : length s ≡ size front + (size (requirement-lines rs) + size rows) =
-        sym (size-lines s) ∙ (ap size (w .cuts) ∙ (size-append front (requirement-lines rs ++ rows) ∙ ap (λ (n : ℕ). size front + n) (size-append (requirement-lines rs) rows))) in
+        let c = written-size w in
         let d = size-at rs k l in
         omega (arith, a, b, c, d)
 

@@ -1,4 +1,4 @@
--- The test of the rows behind the head: the part that is handed on is the text from there on.
+-- The test of the rows behind the requirements: the part that is handed on is the text from there on.
 -- Assumes nothing.
 use mathlib.Core.Path.{_≡_, refl}
 use mathlib.Core.List.{List}

@@ -1,4 +1,4 @@
--- Sheets and their numbers: document 01's example, texts that break the form in one place each, and texts that look broken and are not.
+-- Sheets and their numbers: document 01's example, texts that break the form in one place each, texts that look broken and are not, and texts with many requirements.
 -- Assumes nothing.
 use Prim.Native.Nat.{ℕ}
 use Prim.Native.String.{String}
@@ -75,13 +75,14 @@ accepted =
     ∷ parts "chan=2\n" "" "step=1\n" "drift=2\n" "req=p0\n" "t=9 src=f v0=-2147483647 v1=0\nt=4294967295 src=f v0=7 v1=2147483647\nt=0 src=m v0=1 v1=-1\n"
     ∷ []
 
--- sixteen `req=` lines; a seventeenth; one outside the grammar among seventeen; seventeen where rows are unread; seventeen and a row that breaks the form
+-- sixteen requirements, with more lines behind them
 abbrev pub eight : String
 eight = "req=p0\nreq=p1\nreq=p2\nreq=p3\nreq=p4\nreq=p5\nreq=p6\nreq=p7\n"
 
 abbrev pub with-sixteen : String → String → String → List ℕ
-with-sixteen chan more rows = parts chan "" "step=1\n" "drift=2\n" eight eight ++ bytes more ++ bytes rows
+with-sixteen chan more rows = bytes chan ++ bytes "step=1\n" ++ bytes "drift=2\n" ++ bytes eight ++ bytes eight ++ bytes more ++ bytes rows
 
+-- sixteen `req=` lines; a seventeenth; one outside the grammar among seventeen; seventeen where rows are unread; seventeen and a row that breaks the form
 abbrev pub crowded : List (List ℕ)
 crowded =
     with-sixteen "chan=1\n" "" "t=0 src=m v0=1\n"

@@ -25,6 +25,9 @@ pub record Written (text : List ℕ) (head : Head) (requirements rows : List (Li
   -- rows are read only where the channels are 1 to 8
   pub listed : channels-in-range (head .channels) ≡ true → AreRows (head .channels) rows
 
+abbrev pub IsWritten : List ℕ → Type 0
+IsWritten text = (head : Head) × (requirements : List (List ℕ)) × (rows : List (List ℕ)) × Written text head requirements rows
+
 -- a text of the form, and the sheet that it gives: the head, up to sixteen requirements by their places, and the place behind them
 pub record Form (text : List ℕ) (sheet : Sheet) : Type 0 where
   pub requirements : List (List ℕ)

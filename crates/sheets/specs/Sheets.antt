@@ -19,7 +19,7 @@ use Rattle.sheets.specs.Form.{blank}
 abbrev pub rows-kept : List ℕ → ℕ → ℕ → Bool
 rows-kept s at channels = not (channels-in-range channels && is-broken (rows-of channels (drop at s)))
 
--- there are requirements, and what follows them is in order
+-- each requirement's line has its line feed, there is one at least, and what follows them is in order
 abbrev pub lines-kept : List ℕ → Head → Requirements → Bool
 lines-kept s h rs = rs .ok && (leb 1 (rs .count) && rows-kept s (rs .next) (h .channels))
 

@@ -11,7 +11,7 @@ ghost use lib.ListN.{length};
 ghost use Rattle.sheets.specs.Form.{blank};
 ghost use Rattle.sheets.specs.Sheets.{rows-kept, lines-kept, sheet-refusal, behind-head, sheet-of};
 
-// Document 01's number, 0 where the text has the form, and the sheet's contents: requirement k is the bytes of place k, and the rows begin at `rows`.
+// The papers' number, 0 where the text has the form, and the sheet's contents: requirement k is the bytes of place k, and the rows begin at `rows`.
 pub struct Sheet {
     pub number: u64,
     pub head: Head,
@@ -34,7 +34,7 @@ fn keeps_rows(s: &[u8], at: usize, channels: usize) -> bool
     true
 }
 
-// Whether there are requirements, and what follows them is in order.
+// Whether each requirement's line has its line feed, there is one at least, and what follows them is in order.
 fn keeps_lines(s: &[u8], head: Head, found: Requirements) -> bool
     requires { ⌜ (found .ok ≡ true → found .next ≤ length (now s)) ⌝ }
     ensures { λ r. ⌜ r ≡ lines-kept (now (s .entry)) head found ⌝ }
@@ -105,11 +105,11 @@ pub fn read_sheet(s: &[u8]) -> Sheet
     if row_lines::LIMIT < s.len() {
         return refused(1);
     }
-    let lines = heads::read_head(s);
-    if !lines.ok {
+    let front = heads::read_head(s);
+    if !front.ok {
         return refused(1);
     }
-    let found = requirement_lines::read_requirements(s, lines.next);
-    let head = lines.head;
+    let found = requirement_lines::read_requirements(s, front.next);
+    let head = front.head;
     read_behind(s, head, found)
 }

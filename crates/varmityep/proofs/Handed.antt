@@ -1,11 +1,11 @@
--- What the readers write into slices with room stands in front of them, and is what the margin and the verdict take up: the table of the text, the predicates of the sheet. Under a refusal
--- every slice keeps what it held.
+-- What the readers write into slices with room stands in front of them, and is what the margin and the verdict take up: the table of the text, the predicates of the sheet;
+-- and a sheet's requirements stand between the places that are handed over. Under a refusal every slice keeps what it held.
 -- Assumes nothing.
 use mathlib.Core.Path.{_≡_, sym}
 use mathlib.Core.List.{List}
-use Prim.Native.Nat.{ℕ, _≤_}
+use Prim.Native.Nat.{ℕ, _+_, _*_, _≤_, _<_}
 use lib.IntN.{ℤ}
-use lib.ListN.{length}
+use lib.ListN.{length, getD}
 use lib.Seq.{take-all}
 use Rattle.building.specs.Nodes.{nodes-of}
 use Rattle.building.specs.Storing.{cells-of}
@@ -22,7 +22,10 @@ use Rattle.flat.specs.Written.{written}
 use Rattle.flat.specs.Tables.{table-from}
 use Rattle.flat.specs.Predicates.{ranges-of, ends-of, predicates-from}
 use Rattle.varmityep.specs.Places.{handed}
-use Rattle.flat.proofs.Back.{predicates-back, table-read-back}
+use Rattle.requirement_lines.specs.Form.{no-place}
+use Rattle.sheets.proofs.Behind.{places-long}
+use Rattle.flat.specs.Places.{places-of}
+use Rattle.flat.proofs.Back.{predicates-back, places-back, table-read-back}
 
 -- under a refusal a slice keeps what it held
 pub kept : {X : Type 0} (n : ℕ) (new old : List X) → (n ≡ 0 → ⊥) → old ≡ handed n new old
@@ -44,3 +47,10 @@ table-handed s h nodes r =
 pub predicates-handed : (s : List ℕ) → sheet-of s .number ≡ 0 → (ranges : List ℕ) (ends : List ℤ) → 32 ≤ length ranges → 32 ≤ length ends
     → predicates-from (handed (sheet-of s .number) (ranges-of (sheet-of s .head .predicates)) ranges) (handed (sheet-of s .number) (ends-of (sheet-of s .head .predicates)) ends) ≡ sheet-of s .head .predicates
 predicates-handed s h ranges ends wide long = rw h (predicates-back (sheet-of s .head .predicates) (lines-keep (sheet-sound s h .written .begins .predicates)) ranges ends wide long)
+
+-- requirement k stands in the text from number 2k up to number 2k + 1; behind the last, both are 0
+pub places-handed : (s : List ℕ) → sheet-of s .number ≡ 0 → (places : List ℕ) → 32 ≤ length places → (k : ℕ) → k < 16
+    → (getD (handed (sheet-of s .number) (places-of (sheet-of s .requirements)) places) (2 * k) 0 ≡ getD (sheet-of s .requirements) k no-place .from)
+    × (getD (handed (sheet-of s .number) (places-of (sheet-of s .requirements)) places) (2 * k + 1) 0 ≡ getD (sheet-of s .requirements) k no-place .to)
+places-handed s h places r k l =
+    rw h (places-back (sheet-of s .requirements) (places-long s (sheet-of s) (sheet-sound s h)) places r k l)

@@ -5,7 +5,7 @@ use mathlib.Core.List.{List}
 use Rattle.sheets.specs.declared.Sheet.{Sheet}
 use Rattle.sheets.specs.Sheets.{sheet-of}
 use Rattle.outcomes.specs.declared.Outcome.{Outcome}
-use Rattle.answers.specs.Answers.{no-entries, entries, Placed}
+use Rattle.answers.specs.Answers.{none-answered, all-answered, Placed}
 use Rattle.answers.proofs.Wholes.{answers-refused, answers-read, placed}
 use borrow.Author.Needs.{needs}
 use Rattle.answers.proofs.answers.Statement.{statement}
@@ -26,7 +26,7 @@ returns : tie.Need-returns
 returns c =
     let e = c .before .before .before .read-sheet .ensures in
     c .no-answers .ensures
-    ∙ (ap (λ (x : Sheet). record { number = x .number; count = 0; entries = no-entries }) e
+    ∙ (ap (λ (x : Sheet). none-answered (x .number)) e
     ∙ answers-refused _ (λ z. c .before .if1 .taken (ap (λ (x : Sheet). x .number) e ∙ z)))
 
 answer-all-requires : tie.Need-answer-all-requires
@@ -40,7 +40,7 @@ returns-2 c =
     let r = c .before .before .before .read-sheet in
     let e : r .result ≡ sheet-of t = r .ensures in
     ap (λ (all : List Outcome). record { number = 0; count = r .result .count; entries = all }) (c .answer-all .ensures)
-    ∙ (ap (λ (x : Sheet). record { number = 0; count = x .count; entries = entries t x }) e
+    ∙ (ap (all-answered t) e
     ∙ answers-read t (ap (λ (x : Sheet). x .number) (sym e) ∙ c .before .if1 .left))
 
 pub answers-spec : {M : Type 1} → statement M
