@@ -11,7 +11,8 @@
  *
  * A refusal is its number below, 0 for none. Of several that apply, the first in that list is
  * returned, whatever the size of its number. Under a refusal nothing is written: every slice keeps
- * its contents. (varmityep_answer alone returns no number: its lines say it.)
+ * its contents. varmityep_answer alone returns no number, and writes its lines under a refusal too:
+ * they say it.
  */
 #ifndef VARMITYEP_H
 #define VARMITYEP_H
@@ -90,9 +91,10 @@ enum {
  * The lines that the program prints for a sheet's text, their line feeds included. There is one for
  * each requirement, a refusal too; where there are several, `req=` and the requirement's number,
  * counted from 0, stand before each, they come by rising margin, equal margins in sheet order, and
- * the refused ones follow. A sheet refused by 1 or 12 gives one line. The lines stand in lines from
- * its first byte on, without a closing 0; bytes behind them keep their contents. Returns their
- * length together. Give VARMITYEP_LINES bytes. Its own arrays are on the stack: leave it 512 KiB.
+ * the refused ones follow, in sheet order. A sheet refused by 1 or 12 gives one line, without
+ * `req=`. The lines stand in lines from its first byte on, without a closing 0; bytes behind them
+ * keep their contents. Returns the length of all of them, whether or not lines has room for it:
+ * give VARMITYEP_LINES bytes. Its own arrays are on the stack: leave it 512 KiB.
  */
 size_t varmityep_answer(const uint8_t *text, size_t text_len, uint8_t *lines, size_t lines_len);
 

@@ -36,8 +36,8 @@ const LINES: usize = 2_688;
 /// refusal too.
 ///
 /// Where there are several, `req=` and the requirement's number, counted from 0, stand before each;
-/// they come by rising margin, equal margins in sheet order, and the refused ones follow. A sheet
-/// refused by 1 or 12 gives one line.
+/// they come by rising margin, equal margins in sheet order, and the refused ones follow, in sheet
+/// order. A sheet refused by 1 or 12 gives one line, without `req=`.
 pub fn answer(text: &[u8]) -> String {
     let mut lines = [0; LINES];
     let length = names::answer(text, &mut lines);
