@@ -183,7 +183,10 @@ fn every_refusal_of_margin_and_verdict() {
 #[test]
 fn every_refusal_of_the_readers() {
     assert_eq!(read_sheet(b"chan=1\n").err(), Some(Refusal::Text));
-    assert_eq!(read_sheet(several(&["p0"; 17]).as_bytes()).err(), Some(Refusal::Requirements));
+    assert_eq!(
+        read_sheet(several(&["p0"; 17]).as_bytes()).err(),
+        Some(Refusal::TooManyRequirements)
+    );
     assert_eq!(read_requirement(b"G[0,2] p0").err(), Some(Refusal::Requirement));
     let row = b"t=0 src=m v0=10\n";
     let (mut times, mut values) = ([7; 1], [7; 1]);

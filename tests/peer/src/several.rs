@@ -216,7 +216,7 @@ fn the_sheet_reader() {
     let texts: Vec<&str> = read.requirements.iter().map(|places| &text[places.clone()]).collect();
     assert_eq!(texts, ["p0", "", "G[0,2]p0"]);
     assert_eq!(&text[read.rows_from..], ROWS);
-    assert_eq!(read_sheet(sheet(&["p0"; 17]).as_bytes()), Err(Refusal::Requirements));
+    assert_eq!(read_sheet(sheet(&["p0"; 17]).as_bytes()), Err(Refusal::TooManyRequirements));
     assert_eq!(read_sheet(sheet(&[""; 16]).as_bytes()).unwrap().requirements.len(), 16);
-    assert_eq!(read_sheet(head(0, &["p0"; 17]).as_bytes()), Err(Refusal::Requirements));
+    assert_eq!(read_sheet(head(0, &["p0"; 17]).as_bytes()), Err(Refusal::TooManyRequirements));
 }

@@ -29,7 +29,7 @@ pub fn read_sheet(text: &[u8]) -> Result<Sheet, Refusal> {
     if !channels_broken(sheet.channels) {
         parse_rows(&text[sheet.rows_from..], sheet.channels)?;
     }
-    when(sheet.requirements.len() > MOST_REQUIREMENTS, Refusal::Requirements)?;
+    when(sheet.requirements.len() > MOST_REQUIREMENTS, Refusal::TooManyRequirements)?;
     Ok(sheet)
 }
 
