@@ -92,8 +92,8 @@ req=2 refused=2
 
 /// A sheet of so many rows, one second apart, none of which misses anything.
 fn long_sheet(requirement: &str, rows: usize) -> String {
-    let head = format!("chan=1\np=0 ch=0 lo=5 hi=*\nstep=1\ndrift=2\nreq={requirement}\n");
-    head + &(0..rows).map(|t| format!("t={t} src=m v0=10\n")).collect::<String>()
+    let front = format!("chan=1\np=0 ch=0 lo=5 hi=*\nstep=1\ndrift=2\nreq={requirement}\n");
+    front + &(0..rows).map(|t| format!("t={t} src=m v0=10\n")).collect::<String>()
 }
 
 #[test]

@@ -223,9 +223,9 @@ fn requirement_text(bench: &mut Bench, rng: &mut Prng) -> Result<(), Failure> {
 fn rows_text(bench: &mut Bench, rng: &mut Prng) -> Result<(), Failure> {
     let draft = sound(rng).draft;
     let text = if rng.once_in(4) { damaged(rng) } else { draft.text() };
-    // Damage may have moved the head's end; the rows' text is then some other text.
-    let head = draft.text().len() - rows_length(&draft.text(), draft.head_lines());
-    let rows = &text[head.min(text.len())..];
+    // Damage may have moved where the rows begin; their text is then some other text.
+    let front = draft.text().len() - rows_length(&draft.text(), draft.lines_before_rows());
+    let rows = &text[front.min(text.len())..];
     let channels = if rng.once_in(10) { rng.pick(&[0, 9, u64::MAX]) } else { draft.channels };
     let measured = draft.measured().len();
     let times = (measured + rng.below(4)).saturating_sub(rng.below(2));
@@ -235,8 +235,8 @@ fn rows_text(bench: &mut Bench, rng: &mut Prng) -> Result<(), Failure> {
     Ok(())
 }
 
-fn rows_length(text: &[u8], head_lines: usize) -> usize {
-    text.split_inclusive(|&byte| byte == b'\n').skip(head_lines).map(<[u8]>::len).sum()
+fn rows_length(text: &[u8], lines_before: usize) -> usize {
+    text.split_inclusive(|&byte| byte == b'\n').skip(lines_before).map(<[u8]>::len).sum()
 }
 
 /// Sheets at each limit: the same in every run, always put to the program too.
