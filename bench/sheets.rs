@@ -46,7 +46,7 @@ struct Case {
 
 /// Room for everything that the library hands back, used again in each call.
 struct Room {
-    lines: [u8; 2_688],
+    lines: [u8; names::LINES],
     numbers: [u64; 5],
     places: [u64; 32],
     ranges: [u64; 32],
@@ -61,7 +61,7 @@ struct Room {
 impl Room {
     fn new() -> Room {
         Room {
-            lines: [0; 2_688],
+            lines: [0; names::LINES],
             numbers: [0; 5],
             places: [0; 32],
             ranges: [0; 32],
