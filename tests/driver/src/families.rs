@@ -13,7 +13,9 @@ use peer::generate::limits::limits;
 use peer::generate::prng::Prng;
 use peer::generate::several::several;
 use peer::generate::sheets::{sound, tiny, Sound};
+use peer::recording::channels_broken;
 use peer::refusal::Refusal;
+use peer::sheet::read_sheet;
 use peer::verdict::Verdict;
 
 /// What a case needs: whom to ask, and where to count.
@@ -70,7 +72,12 @@ fn answered(bench: &mut Bench, text: &[u8]) -> Result<Result<Vec<Entry>, Refusal
         at(text, compare::program(bench.others, text, &lines))?;
     }
     match &judged {
-        Err(refusal) => bench.tally.add(format!("answer refused={}", refusal.number())),
+        Err(refusal) => {
+            bench.tally.add(format!("answer refused={}", refusal.number()));
+            if unended(text) {
+                bench.tally.add("several: the last unended");
+            }
+        }
         Ok(entries) => {
             entries.iter().for_each(|entry| bench.tally.add(kind_of_entry(entry)));
             if entries.len() > 1 {
@@ -79,6 +86,20 @@ fn answered(bench: &mut Bench, text: &[u8]) -> Result<Result<Vec<Entry>, Refusal
         }
     }
     Ok(judged)
+}
+
+/// Whether the text lacks nothing but the line feed of the last of several `req=` lines.
+fn unended(text: &[u8]) -> bool {
+    let ended = [text, b"\n"].concat();
+    text.last() != Some(&b'\n')
+        && read_sheet(&ended)
+            .is_ok_and(|sheet| sheet.requirements.len() > 1 && sheet.rows_from == ended.len())
+}
+
+/// Whether something stands where the rows are, and is unread.
+fn unread(text: &[u8]) -> bool {
+    read_sheet(text)
+        .is_ok_and(|sheet| channels_broken(sheet.channels) && sheet.rows_from < text.len())
 }
 
 /// The refusal or the verdict of a requirement.
@@ -110,6 +131,7 @@ fn each_alone(bench: &mut Bench, text: &[u8], printed: &[u8], count: usize) -> R
         ("all accepted", accepted == count),
         ("another order", lines.iter().enumerate().any(|(place, line)| line.k != place)),
         ("equal margins", equal),
+        ("unread rows", unread(text)),
     ] {
         if found {
             bench.tally.add(format!("several: {what}"));

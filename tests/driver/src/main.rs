@@ -188,6 +188,9 @@ fn wanted(thousands: u64) -> Vec<(String, u64)> {
         wanted.push((format!("several: {what}"), 5 * thousands));
     }
     wanted.push(("several: equal margins".to_string(), 20 * thousands));
+    for what in ["unread rows", "the last unended"] {
+        wanted.push((format!("several: {what}"), 2 * thousands));
+    }
     for histories in ["there is none", "all tried", "some tried", "a verdict tried on all"] {
         wanted.push((format!("histories: {histories}"), 10 * thousands));
     }
