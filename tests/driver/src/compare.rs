@@ -2,9 +2,9 @@
 
 use crate::flat::{flat_nodes, flat_predicates, Peer};
 use crate::library::{Library, COUNTS, ENDS, NODES, NUMBERS, PLACES, RANGES, RESULT};
-use crate::names::{Call, Sheet, LINES};
+use crate::names::{self, LINES};
 use crate::program::Program;
-use peer::generate::calls;
+use peer::generate::calls::Call;
 use std::fmt::Debug;
 
 /// What is compared with the peer.
@@ -77,7 +77,7 @@ pub fn sheets(others: &Others, text: &[u8], room: [usize; 4]) -> Result<(), Stri
     let read = |library: &dyn Library| {
         let (mut numbers, mut places) = ([NOISE; NUMBERS + BEHIND], [NOISE; PLACES + BEHIND]);
         let (mut ranges, mut ends) = ([NOISE; RANGES + BEHIND], [SIGNED_NOISE; ENDS + BEHIND]);
-        let lent = Sheet {
+        let lent = names::Sheet {
             numbers: &mut numbers[..room[0]],
             places: &mut places[..room[1]],
             ranges: &mut ranges[..room[2]],
@@ -118,7 +118,7 @@ pub fn rows(
 }
 
 /// Refusal numbers of the distances of values about each predicate's ends, and of a value given.
-pub fn distances(others: &Others, call: &calls::Call, value: i64) -> Result<Vec<u64>, String> {
+pub fn distances(others: &Others, call: &Call, value: i64) -> Result<Vec<u64>, String> {
     let (ranges, ends) = flat_predicates(&call.predicates);
     let mut numbers = Vec::new();
     for (p, (range, ends)) in ranges.chunks(2).zip(ends.chunks(2)).enumerate() {
@@ -140,11 +140,7 @@ pub fn distances(others: &Others, call: &calls::Call, value: i64) -> Result<Vec<
 pub const WHOLE_CALL: [usize; 4] = [NODES, RANGES, ENDS, RESULT];
 
 /// Refusal numbers of margin and verdict.
-pub fn calls(
-    others: &Others,
-    call: &calls::Call,
-    lengths: [usize; 4],
-) -> Result<(u64, u64), String> {
+pub fn calls(others: &Others, call: &Call, lengths: [usize; 4]) -> Result<(u64, u64), String> {
     let mut count = call.table.count() as u64;
     if count > 64 {
         // Any count beyond the nodes there are is refused alike.
@@ -155,7 +151,7 @@ pub fn calls(
     let nodes = [&flat_nodes(&call.table)[..], &[NOISE; BEHIND]].concat();
     let ranges = [&ranges[..], &[NOISE; BEHIND]].concat();
     let ends = [&ends[..], &[SIGNED_NOISE; BEHIND]].concat();
-    let flat = Call {
+    let flat = names::Call {
         nodes: &nodes[..lengths[0]],
         count,
         ranges: &ranges[..lengths[1]],

@@ -18,8 +18,8 @@ pub fn flat_nodes(table: &Table) -> [u64; NODES] {
     nodes
 }
 
-/// For each predicate its range (0 unset, 1 free, 2 at least, 3 at most, 4 between), its channel,
-/// lo and hi, 0 where the range has no such end.
+/// A predicate as its range (0 unset, 1 free, 2 at least, 3 at most, 4 between), its channel, lo
+/// and hi, 0 where the range has no such end.
 fn flat_predicate(predicate: &Predicate) -> (u64, u64, i64, i64) {
     let (range, lo, hi) = match predicate.range {
         Range::Unset => (0, 0, 0),
