@@ -166,7 +166,7 @@ fn requirements(mut text: &[u8]) -> Read<'_, ([&[u8]; REQUIREMENTS], usize)> {
     (count > 0).then_some(((requirements, count), text))
 }
 
-fn head(text: &[u8]) -> Option<Sheet<'_>> {
+fn front(text: &[u8]) -> Option<Sheet<'_>> {
     let (channels, rest) = line(text, b"chan=")?;
     let (predicates, rest) = predicates(rest)?;
     let (step, rest) = line(rest, b"step=")?;
@@ -180,7 +180,7 @@ pub fn sheet(text: &[u8]) -> Result<Sheet<'_>, u64> {
     if text.len() > LONGEST_TEXT {
         return Err(1);
     }
-    let sheet = head(text).ok_or(1u64)?;
+    let sheet = front(text).ok_or(1u64)?;
     if (1..=8).contains(&sheet.channels) {
         counted(sheet.rows, sheet.channels).ok_or(1u64)?;
     }

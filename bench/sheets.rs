@@ -46,7 +46,7 @@ struct Case {
 
 /// Room for everything that the library hands back, used again in each call.
 struct Room {
-    lines: [u8; 2_688],
+    lines: [u8; names::LINES],
     numbers: [u64; 5],
     places: [u64; 32],
     ranges: [u64; 32],
@@ -61,7 +61,7 @@ struct Room {
 impl Room {
     fn new() -> Room {
         Room {
-            lines: [0; 2_688],
+            lines: [0; names::LINES],
             numbers: [0; 5],
             places: [0; 32],
             ranges: [0; 32],
@@ -187,8 +187,8 @@ fn random_rows(random: &mut Random, rows: usize, channels: usize) -> String {
     text
 }
 
-/// A head with ten predicates, and a drift that any two values obey.
-fn head(channels: usize, requirement: &str) -> String {
+/// What stands before the rows: ten predicates, a drift that any two values obey, and the requirement.
+fn front(channels: usize, requirement: &str) -> String {
     let predicates: String = (0..10).map(|p| format!("p={p} ch={} lo=-{}00000000 hi={}\n", p % channels, p + 1, ["*", "900000000"][p % 2])).collect();
     format!("chan={channels}\n{predicates}step=1\ndrift=1000000000\nreq={requirement}\n")
 }
@@ -208,19 +208,19 @@ fn deep() -> String {
 fn cases() -> Vec<Case> {
     let random = &mut Random(12345);
     let rows = [("2,048 rows, 1 channel", random_rows(random, 2_048, 1), 1), ("500 rows, 8 channels", random_rows(random, 500, 8), 8)];
-    let broken = format!("{}{}t=9 src=m v0=-0\n", head(1, "G[0,600]p0"), random_rows(random, 1_000, 1));
+    let broken = format!("{}{}t=9 src=m v0=-0\n", front(1, "G[0,600]p0"), random_rows(random, 1_000, 1));
     let mut cases = Vec::new();
     let mut case = |what, name: &str, text: &[u8]| cases.push(Case { what, name: name.to_string(), text: text.to_vec(), best: (f64::MAX, f64::MAX) });
     for (name, text, begins) in EXAMPLES {
         case(What::Answer(begins), name, text);
     }
     for (name, text, channels) in &rows {
-        let sheet = head(*channels, "G[0,600]p0") + text;
+        let sheet = front(*channels, "G[0,600]p0") + text;
         case(What::Answer("rows="), name, sheet.as_bytes());
         case(What::Sheet, name, sheet.as_bytes());
         case(What::Rows(*channels), name, text.as_bytes());
     }
-    case(What::Answer("rows="), "63 nodes, 64 rows", (head(1, &broad()) + &random_rows(random, 64, 1)).as_bytes());
+    case(What::Answer("rows="), "63 nodes, 64 rows", (front(1, &broad()) + &random_rows(random, 64, 1)).as_bytes());
     case(What::Answer("refused=1\n"), "refused in the last row", broken.as_bytes());
     case(What::Requirement, "63 nodes", broad().as_bytes());
     case(What::Requirement, "32 enclosings", deep().as_bytes());
@@ -239,9 +239,9 @@ struct Sixteen {
 impl Sixteen {
     fn new() -> Sixteen {
         let rows = random_rows(&mut Random(54321), 2_048, 1);
-        let text = (head(1, &SIXTEEN.join("\nreq=")) + &rows).into_bytes();
+        let text = (front(1, &SIXTEEN.join("\nreq=")) + &rows).into_bytes();
         let together = Case { what: What::Answer("req="), name: "16 requirements, 2,048 rows".to_string(), text, best: (f64::MAX, f64::MAX) };
-        let apart = SIXTEEN.iter().map(|requirement| head(1, requirement) + &rows).collect();
+        let apart = SIXTEEN.iter().map(|requirement| front(1, requirement) + &rows).collect();
         Sixteen { together, apart, best: (f64::MAX, f64::MAX) }
     }
 

@@ -11,7 +11,8 @@
  *
  * A refusal is its number below, 0 for none. Of several that apply, the first in that list is
  * returned, whatever the size of its number. Under a refusal nothing is written: every slice keeps
- * its contents. (varmityep_answer alone returns no number: its lines say it.)
+ * its contents. varmityep_answer alone returns no number, and writes its lines under a refusal too:
+ * they say it.
  */
 #ifndef VARMITYEP_H
 #define VARMITYEP_H
@@ -51,18 +52,30 @@ extern "C" {
 /* Refusals, in the order in which they count: this list's, not that of the numbers. */
 enum {
     VARMITYEP_ACCEPTED = 0,
-    VARMITYEP_TEXT = 1,          /* a line breaks the form or is missing, or over 65,536 bytes */
-    VARMITYEP_REQUIREMENTS = 12, /* a seventeenth `req=` line */
-    VARMITYEP_REQUIREMENT = 2,   /* requirement text outside the grammar or its limits */
-    VARMITYEP_TABLE = 3,         /* a table rule broken, or a predicate named unset or above 15 */
-    VARMITYEP_PREDICATE = 4,     /* channels not 1 to 8, or a set predicate's channel or ends */
-    VARMITYEP_SAMPLES = 5,       /* no sample, over 4,096, or values not rows x channels long */
-    VARMITYEP_TIMES = 6,         /* times not rising, or one above 2,000,000,000 */
-    VARMITYEP_VALUES = 7,        /* a value beyond 1,000,000,000, either sign */
-    VARMITYEP_WORK = 8,          /* work too short */
-    VARMITYEP_STEP_DRIFT = 9,    /* step not 1 to 1,000,000,000, or drift above 1,000,000,000 */
-    VARMITYEP_GAP = 10,          /* two neighbouring times differ by more than the step */
-    VARMITYEP_JUMP = 11          /* two neighbouring values of a channel differ by over 2 x drift */
+    /* a line breaks the form or is missing, or over 65,536 bytes */
+    VARMITYEP_TEXT = 1,
+    /* a seventeenth `req=` line */
+    VARMITYEP_TOO_MANY_REQUIREMENTS = 12,
+    /* requirement text outside the grammar or its limits */
+    VARMITYEP_REQUIREMENT = 2,
+    /* a table rule broken, or a predicate named unset or above 15 */
+    VARMITYEP_TABLE = 3,
+    /* channels not 1 to 8, or a set predicate's channel or ends */
+    VARMITYEP_PREDICATE = 4,
+    /* no sample, over 4,096, or values not rows x channels long */
+    VARMITYEP_SAMPLES = 5,
+    /* times not rising, or one above 2,000,000,000 */
+    VARMITYEP_TIMES = 6,
+    /* a value beyond 1,000,000,000, either sign */
+    VARMITYEP_VALUES = 7,
+    /* work too short */
+    VARMITYEP_WORK = 8,
+    /* step not 1 to 1,000,000,000, or drift above 1,000,000,000 */
+    VARMITYEP_STEP_DRIFT = 9,
+    /* two neighbouring times differ by more than the step */
+    VARMITYEP_GAP = 10,
+    /* two neighbouring values of a channel differ by over 2 x drift */
+    VARMITYEP_JUMP = 11
 };
 
 /* Ranges of a predicate, at ranges[2p]; its channel is at ranges[2p + 1]. */
@@ -90,9 +103,10 @@ enum {
  * The lines that the program prints for a sheet's text, their line feeds included. There is one for
  * each requirement, a refusal too; where there are several, `req=` and the requirement's number,
  * counted from 0, stand before each, they come by rising margin, equal margins in sheet order, and
- * the refused ones follow. A sheet refused by 1 or 12 gives one line. The lines stand in lines from
- * its first byte on, without a closing 0; bytes behind them keep their contents. Returns their
- * length together. Give VARMITYEP_LINES bytes. Its own arrays are on the stack: leave it 512 KiB.
+ * the refused ones follow, in sheet order. A sheet refused by 1 or 12 gives one line, without
+ * `req=`. The lines stand in lines from its first byte on, without a closing 0; bytes behind them
+ * keep their contents. Returns the length of all of them, whether or not lines has room for it:
+ * give VARMITYEP_LINES bytes. Its own arrays are on the stack: leave it 512 KiB.
  */
 size_t varmityep_answer(const uint8_t *text, size_t text_len, uint8_t *lines, size_t lines_len);
 

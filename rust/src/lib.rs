@@ -29,17 +29,14 @@ pub const ANSWER_ROWS: usize = 2_048;
 /// Cells that [`answer`] has; a verdict that needs more is refused by 8.
 pub const ANSWER_CELLS: usize = 8_192;
 
-/// No answer is longer, in bytes.
-const LINES: usize = 2_688;
-
 /// The lines that are printed for a sheet, their line feeds included: one for each requirement, a
 /// refusal too.
 ///
 /// Where there are several, `req=` and the requirement's number, counted from 0, stand before each;
-/// they come by rising margin, equal margins in sheet order, and the refused ones follow. A sheet
-/// refused by 1 or 12 gives one line.
+/// they come by rising margin, equal margins in sheet order, and the refused ones follow, in sheet
+/// order. A sheet refused by 1 or 12 gives one line, without `req=`.
 pub fn answer(text: &[u8]) -> String {
-    let mut lines = [0; LINES];
+    let mut lines = [0; names::LINES];
     let length = names::answer(text, &mut lines);
     String::from_utf8_lossy(&lines[..length]).into_owned()
 }

@@ -95,6 +95,9 @@ extern "C" {
     ) -> u64;
 }
 
+/// No answer is longer, in bytes.
+pub const LINES: usize = 2_688;
+
 /// The length of the printed lines together.
 pub fn answer(text: &[u8], lines: &mut [u8]) -> usize {
     // SAFETY: the library asks nothing of its caller but slices that are live, of the lengths

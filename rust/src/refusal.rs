@@ -8,7 +8,7 @@ use std::fmt;
 #[derive(Clone, Copy, PartialEq, Eq, Hash, Debug)]
 pub enum Refusal {
     Text = 1,
-    Requirements = 12,
+    TooManyRequirements = 12,
     Requirement = 2,
     Table = 3,
     Predicates = 4,
@@ -25,7 +25,7 @@ impl Refusal {
     /// Every refusal, in the order in which they count.
     pub const ALL: [Refusal; 12] = [
         Refusal::Text,
-        Refusal::Requirements,
+        Refusal::TooManyRequirements,
         Refusal::Requirement,
         Refusal::Table,
         Refusal::Predicates,
@@ -62,7 +62,7 @@ impl fmt::Display for Refusal {
             Refusal::Text => {
                 "a line breaks the text form or is missing, or the text exceeds 65,536 bytes"
             }
-            Refusal::Requirements => "a seventeenth `req=` line",
+            Refusal::TooManyRequirements => "a seventeenth `req=` line",
             Refusal::Requirement => "requirement text outside the grammar or its limits",
             Refusal::Table => {
                 "a table rule broken, or a node names a predicate that is unset or above 15"

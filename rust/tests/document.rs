@@ -92,8 +92,8 @@ req=2 refused=2
 
 /// A sheet of so many rows, one second apart, none of which misses anything.
 fn long_sheet(requirement: &str, rows: usize) -> String {
-    let head = format!("chan=1\np=0 ch=0 lo=5 hi=*\nstep=1\ndrift=2\nreq={requirement}\n");
-    head + &(0..rows).map(|t| format!("t={t} src=m v0=10\n")).collect::<String>()
+    let front = format!("chan=1\np=0 ch=0 lo=5 hi=*\nstep=1\ndrift=2\nreq={requirement}\n");
+    front + &(0..rows).map(|t| format!("t={t} src=m v0=10\n")).collect::<String>()
 }
 
 #[test]
@@ -183,7 +183,10 @@ fn every_refusal_of_margin_and_verdict() {
 #[test]
 fn every_refusal_of_the_readers() {
     assert_eq!(read_sheet(b"chan=1\n").err(), Some(Refusal::Text));
-    assert_eq!(read_sheet(several(&["p0"; 17]).as_bytes()).err(), Some(Refusal::Requirements));
+    assert_eq!(
+        read_sheet(several(&["p0"; 17]).as_bytes()).err(),
+        Some(Refusal::TooManyRequirements)
+    );
     assert_eq!(read_requirement(b"G[0,2] p0").err(), Some(Refusal::Requirement));
     let row = b"t=0 src=m v0=10\n";
     let (mut times, mut values) = ([7; 1], [7; 1]);

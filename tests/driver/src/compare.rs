@@ -1,7 +1,8 @@
 //! One input put to each implementation at hand, and the answers compared.
 
-use crate::flat::{flat_predicates, flat_table, Peer};
-use crate::library::{FlatCall, FlatPredicates, FlatSheet, FlatTable, Library, LINES};
+use crate::flat::{flat_nodes, flat_predicates, Peer};
+use crate::library::{Library, COUNTS, ENDS, NODES, NUMBERS, PLACES, RANGES, RESULT};
+use crate::names::{self, LINES};
 use crate::program::Program;
 use peer::generate::calls::Call;
 use std::fmt::Debug;
@@ -12,6 +13,9 @@ pub struct Others {
     pub program: Option<Program>,
 }
 
+/// So many places follow the whole of what may be written, to see that they stay.
+const BEHIND: usize = 3;
+
 fn differ(what: &str, peer: impl Debug, other: impl Debug) -> String {
     format!("{what}\n  the peer:  {peer:?}\n  the other: {other:?}")
 }
@@ -20,15 +24,18 @@ fn lossy(bytes: &[u8]) -> String {
     String::from_utf8_lossy(bytes).into_owned()
 }
 
-pub fn answers(others: &Others, text: &[u8], printed: &[u8]) -> Result<(), String> {
+/// The printed lines, given so much room for them.
+pub fn answers(others: &Others, text: &[u8], printed: &[u8], room: usize) -> Result<(), String> {
     let Some(library) = &others.library else { return Ok(()) };
-    // What is behind the printed lines must stay.
-    let mut lines = [b'~'; LINES];
-    let length = library.answer(text, &mut lines);
-    let mut wanted = [b'~'; LINES];
-    wanted[..printed.len()].copy_from_slice(printed);
+    // What is behind the printed lines must stay, and so must what is behind the room.
+    let mut lines = [b'~'; LINES + BEHIND];
+    let length = library.answer(text, &mut lines[..room]);
+    let mut wanted = [b'~'; LINES + BEHIND];
+    let fitting = printed.len().min(room);
+    wanted[..fitting].copy_from_slice(&printed[..fitting]);
     if length != printed.len() || lines != wanted {
-        return Err(differ("answer of the library", lossy(printed), (length, lossy(&lines))));
+        let what = format!("answer of the library, with room for {room} bytes");
+        return Err(differ(&what, lossy(printed), (length, lossy(&lines))));
     }
     Ok(())
 }
@@ -63,34 +70,48 @@ fn same<T: PartialEq + Debug>(
     Ok(ours)
 }
 
-pub fn sheets(others: &Others, text: &[u8]) -> Result<(), String> {
+/// Room for numbers, places, ranges and ends of a sheet: what loses nothing.
+pub const WHOLE_SHEET: [usize; 4] = [NUMBERS, PLACES, RANGES, ENDS];
+
+pub fn sheets(others: &Others, text: &[u8], room: [usize; 4]) -> Result<(), String> {
     let read = |library: &dyn Library| {
-        let predicates = FlatPredicates { ranges: [NOISE; 32], ends: [SIGNED_NOISE; 32] };
-        let mut sheet = FlatSheet { numbers: [NOISE; 5], places: [NOISE; 32], predicates };
-        (library.sheet(text, &mut sheet), sheet)
+        let (mut numbers, mut places) = ([NOISE; NUMBERS + BEHIND], [NOISE; PLACES + BEHIND]);
+        let (mut ranges, mut ends) = ([NOISE; RANGES + BEHIND], [SIGNED_NOISE; ENDS + BEHIND]);
+        let lent = names::Sheet {
+            numbers: &mut numbers[..room[0]],
+            places: &mut places[..room[1]],
+            ranges: &mut ranges[..room[2]],
+            ends: &mut ends[..room[3]],
+        };
+        (library.sheet(text, lent), numbers, places, ranges, ends)
     };
     same(others, "sheet", read).map(|_| ())
 }
 
-pub fn requirements(others: &Others, text: &[u8]) -> Result<u64, String> {
+/// Room for nodes and their count: what loses nothing.
+pub const WHOLE_TABLE: [usize; 2] = [NODES, 1];
+
+pub fn requirements(others: &Others, text: &[u8], room: [usize; 2]) -> Result<u64, String> {
     let read = |library: &dyn Library| {
-        let mut table = FlatTable { count: NOISE, nodes: [NOISE; 320] };
-        (library.requirement(text, &mut table), table)
+        let (mut nodes, mut count) = ([NOISE; NODES + BEHIND], [NOISE; 1 + BEHIND]);
+        let number = library.requirement(text, &mut nodes[..room[0]], &mut count[..room[1]]);
+        (number, nodes, count)
     };
     Ok(same(others, "requirement", read)?.0)
 }
 
-/// The row reader, with slices of the given lengths.
+/// The row reader, with slices of the given lengths: times, values, counts.
 pub fn rows(
     others: &Others,
     text: &[u8],
     channels: u64,
-    lengths: (usize, usize),
+    lengths: [usize; 3],
 ) -> Result<u64, String> {
     let read = |library: &dyn Library| {
-        let (mut times, mut values) = (vec![NOISE; lengths.0], vec![SIGNED_NOISE; lengths.1]);
-        let mut counts = [NOISE; 2];
-        let number = library.rows(text, channels, &mut times, &mut values, &mut counts);
+        let (mut times, mut values) = (vec![NOISE; lengths[0]], vec![SIGNED_NOISE; lengths[1]]);
+        let mut counts = [NOISE; COUNTS + BEHIND];
+        let lent = &mut counts[..lengths[2]];
+        let number = library.rows(text, channels, &mut times, &mut values, lent);
         (number, counts, times, values)
     };
     Ok(same(others, "rows", read)?.0)
@@ -98,13 +119,16 @@ pub fn rows(
 
 /// Refusal numbers of the distances of values about each predicate's ends, and of a value given.
 pub fn distances(others: &Others, call: &Call, value: i64) -> Result<Vec<u64>, String> {
-    let flat = flat_predicates(&call.predicates);
+    let (ranges, ends) = flat_predicates(&call.predicates);
     let mut numbers = Vec::new();
-    for (p, ends) in flat.ends.chunks(2).enumerate() {
-        for value in ends.iter().flat_map(|&end| [end.saturating_sub(1), end]).chain([value]) {
+    for (p, (range, ends)) in ranges.chunks(2).zip(ends.chunks(2)).enumerate() {
+        let predicate = (range[0], range[1], ends[0], ends[1]);
+        let values = ends.iter().flat_map(|&end| [end.saturating_sub(1), end]);
+        // No place, one, or one more than is written.
+        for (value, room) in values.map(|value| (value, 1)).chain([(value, 1), (value, p % 3)]) {
             let (number, _) = same(others, "distance", |library| {
-                let mut result = [SIGNED_NOISE];
-                (library.distance(&flat, p, value, &mut result), result)
+                let mut result = [SIGNED_NOISE; 1 + BEHIND];
+                (library.distance(predicate, value, &mut result[..room]), result)
             })?;
             numbers.push(number);
         }
@@ -112,27 +136,39 @@ pub fn distances(others: &Others, call: &Call, value: i64) -> Result<Vec<u64>, S
     Ok(numbers)
 }
 
+/// How much is lent of nodes, ranges, ends and result: what loses nothing.
+pub const WHOLE_CALL: [usize; 4] = [NODES, RANGES, ENDS, RESULT];
+
 /// Refusal numbers of margin and verdict.
-pub fn calls(others: &Others, call: &Call) -> Result<(u64, u64), String> {
-    let mut table = flat_table(&call.table);
-    if table.count > 64 {
+pub fn calls(others: &Others, call: &Call, lengths: [usize; 4]) -> Result<(u64, u64), String> {
+    let mut count = call.table.count() as u64;
+    if count > 64 {
         // Any count beyond the nodes there are is refused alike.
-        table.count = [65, 1 << 32, u64::MAX][call.recording.rows() % 3];
+        count = [65, 1 << 32, u64::MAX][call.recording.rows() % 3];
     }
-    let flat = FlatCall {
-        table: &table,
-        predicates: &flat_predicates(&call.predicates),
+    // What is lent beyond the last place of all is not looked at.
+    let (ranges, ends) = flat_predicates(&call.predicates);
+    let nodes = [&flat_nodes(&call.table)[..], &[NOISE; BEHIND]].concat();
+    let ranges = [&ranges[..], &[NOISE; BEHIND]].concat();
+    let ends = [&ends[..], &[SIGNED_NOISE; BEHIND]].concat();
+    let flat = names::Call {
+        nodes: &nodes[..lengths[0]],
+        count,
+        ranges: &ranges[..lengths[1]],
+        ends: &ends[..lengths[2]],
         channels: call.recording.channels,
         times: &call.recording.times,
         values: &call.recording.values,
     };
+    let lent = ..lengths[3];
     let margin = same(others, "margin", |library| {
-        let (mut work, mut result) = (call.work.clone(), [SIGNED_NOISE]);
-        (library.margin(&flat, &mut work, &mut result), result, work)
+        let (mut work, mut result) = (call.work.clone(), [SIGNED_NOISE; RESULT + BEHIND]);
+        (library.margin(&flat, &mut work, &mut result[lent]), result, work)
     })?;
+    let (step, drift) = (call.step, call.drift);
     let verdict = same(others, "verdict", |library| {
-        let (mut work, mut result) = (call.work.clone(), [SIGNED_NOISE; 3]);
-        (library.verdict(&flat, call.step, call.drift, &mut work, &mut result), result, work)
+        let (mut work, mut result) = (call.work.clone(), [SIGNED_NOISE; RESULT + BEHIND]);
+        (library.verdict(&flat, step, drift, &mut work, &mut result[lent]), result, work)
     })?;
     Ok((margin.0, verdict.0))
 }

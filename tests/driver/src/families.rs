@@ -1,7 +1,9 @@
 //! Families of cases. Each case comes from its seed alone.
 
 use crate::checks::{self, Tried};
-use crate::compare::{self, Others};
+use crate::compare::{self, Others, WHOLE_CALL, WHOLE_SHEET, WHOLE_TABLE};
+use crate::library::COUNTS;
+use crate::names::LINES;
 use crate::tally::Tally;
 use peer::answer::{entry_line, judge_sheet, printed, Answer, Entry};
 use peer::generate::calls::{call, long, Foretold};
@@ -11,7 +13,9 @@ use peer::generate::limits::limits;
 use peer::generate::prng::Prng;
 use peer::generate::several::several;
 use peer::generate::sheets::{sound, tiny, Sound};
+use peer::recording::channels_broken;
 use peer::refusal::Refusal;
+use peer::sheet::read_sheet;
 use peer::verdict::Verdict;
 
 /// What a case needs: whom to ask, and where to count.
@@ -58,13 +62,22 @@ fn at<T>(input: &[u8], result: Result<T, String>) -> Result<T, Failure> {
 fn answered(bench: &mut Bench, text: &[u8]) -> Result<Result<Vec<Entry>, Refusal>, Failure> {
     let judged = judge_sheet(text);
     let lines = printed(&judged);
-    at(text, compare::answers(bench.others, text, &lines))?;
-    at(text, compare::sheets(bench.others, text))?;
+    at(text, compare::answers(bench.others, text, &lines, LINES))?;
+    at(text, compare::sheets(bench.others, text, WHOLE_SHEET))?;
+    // And with some other room, mostly too little.
+    let any = text.len();
+    at(text, compare::answers(bench.others, text, &lines, any % (lines.len() + 1)))?;
+    at(text, compare::sheets(bench.others, text, [any % 7, any % 35, any % 34, any % 33]))?;
     if bench.ask_program {
         at(text, compare::program(bench.others, text, &lines))?;
     }
     match &judged {
-        Err(refusal) => bench.tally.add(format!("answer refused={}", refusal.number())),
+        Err(refusal) => {
+            bench.tally.add(format!("answer refused={}", refusal.number()));
+            if unended(text) {
+                bench.tally.add("several: the last unended");
+            }
+        }
         Ok(entries) => {
             entries.iter().for_each(|entry| bench.tally.add(kind_of_entry(entry)));
             if entries.len() > 1 {
@@ -73,6 +86,20 @@ fn answered(bench: &mut Bench, text: &[u8]) -> Result<Result<Vec<Entry>, Refusal
         }
     }
     Ok(judged)
+}
+
+/// Whether the text lacks nothing but the line feed of the last of several `req=` lines.
+fn unended(text: &[u8]) -> bool {
+    let ended = [text, b"\n"].concat();
+    text.last() != Some(&b'\n')
+        && read_sheet(&ended)
+            .is_ok_and(|sheet| sheet.requirements.len() > 1 && sheet.rows_from == ended.len())
+}
+
+/// Whether something stands where the rows are, and is unread.
+fn unread(text: &[u8]) -> bool {
+    read_sheet(text)
+        .is_ok_and(|sheet| channels_broken(sheet.channels) && sheet.rows_from < text.len())
 }
 
 /// The refusal or the verdict of a requirement.
@@ -90,7 +117,7 @@ fn each_alone(bench: &mut Bench, text: &[u8], printed: &[u8], count: usize) -> R
     for line in &lines {
         at(text, checks::alone(text, line))?;
         let single = checks::only(text, line.k);
-        at(&single, compare::answers(bench.others, &single, &line.alone))?;
+        at(&single, compare::answers(bench.others, &single, &line.alone, LINES))?;
         if bench.ask_program && line.k == text.len() % count {
             at(&single, compare::program(bench.others, &single, &line.alone))?;
         }
@@ -104,6 +131,7 @@ fn each_alone(bench: &mut Bench, text: &[u8], printed: &[u8], count: usize) -> R
         ("all accepted", accepted == count),
         ("another order", lines.iter().enumerate().any(|(place, line)| line.k != place)),
         ("equal margins", equal),
+        ("unread rows", unread(text)),
     ] {
         if found {
             bench.tally.add(format!("several: {what}"));
@@ -190,7 +218,15 @@ fn library_call(bench: &mut Bench, rng: &mut Prng) -> Result<(), Failure> {
     for number in at(&shown, compare::distances(bench.others, &foretold.call, value))? {
         bench.tally.add(format!("distance refused={number}"));
     }
-    foretold_call(bench, &foretold)
+    foretold_call(bench, &foretold)?;
+    if rng.once_in(4) {
+        // What a slice does not have reads as 0: the table or a predicate may be another.
+        let nodes = (5 * foretold.call.table.count() + 3).min(WHOLE_CALL[0] + 3);
+        let lengths = [rng.below(nodes + 1), rng.below(36), rng.below(36), rng.below(5)];
+        let (_, verdict) = at(&shown, compare::calls(bench.others, &foretold.call, lengths))?;
+        bench.tally.add(format!("cut call refused={verdict}"));
+    }
+    Ok(())
 }
 
 fn long_call(bench: &mut Bench, rng: &mut Prng) -> Result<(), Failure> {
@@ -199,7 +235,7 @@ fn long_call(bench: &mut Bench, rng: &mut Prng) -> Result<(), Failure> {
 
 fn foretold_call(bench: &mut Bench, foretold: &Foretold) -> Result<(), Failure> {
     let shown = format!("{:?}\n", foretold.call).into_bytes();
-    let (margin, verdict) = at(&shown, compare::calls(bench.others, &foretold.call))?;
+    let (margin, verdict) = at(&shown, compare::calls(bench.others, &foretold.call, WHOLE_CALL))?;
     if (margin, verdict) != (foretold.margin, foretold.verdict) {
         let wanted = (foretold.margin, foretold.verdict);
         return at(&shown, Err(format!("refused by {:?}, foretold {wanted:?}", (margin, verdict))));
@@ -212,7 +248,9 @@ fn foretold_call(bench: &mut Bench, foretold: &Foretold) -> Result<(), Failure> 
 fn requirement_text(bench: &mut Bench, rng: &mut Prng) -> Result<(), Failure> {
     let broken = rng.once_in(5);
     let text = if broken { bad_requirement(rng) } else { damaged_requirement(rng) };
-    let refusal = at(&text, compare::requirements(bench.others, &text))?;
+    let refusal = at(&text, compare::requirements(bench.others, &text, WHOLE_TABLE))?;
+    let room = [rng.below(WHOLE_TABLE[0] + 4), rng.below(3)];
+    at(&text, compare::requirements(bench.others, &text, room))?;
     if broken && refusal != 2 {
         return at(&text, Err("a bad requirement was read".to_string()));
     }
@@ -223,20 +261,21 @@ fn requirement_text(bench: &mut Bench, rng: &mut Prng) -> Result<(), Failure> {
 fn rows_text(bench: &mut Bench, rng: &mut Prng) -> Result<(), Failure> {
     let draft = sound(rng).draft;
     let text = if rng.once_in(4) { damaged(rng) } else { draft.text() };
-    // Damage may have moved the head's end; the rows' text is then some other text.
-    let head = draft.text().len() - rows_length(&draft.text(), draft.head_lines());
-    let rows = &text[head.min(text.len())..];
+    // Damage may have moved where the rows begin; their text is then some other text.
+    let front = draft.text().len() - rows_length(&draft.text(), draft.lines_before_rows());
+    let rows = &text[front.min(text.len())..];
     let channels = if rng.once_in(10) { rng.pick(&[0, 9, u64::MAX]) } else { draft.channels };
     let measured = draft.measured().len();
     let times = (measured + rng.below(4)).saturating_sub(rng.below(2));
     let values = (measured * draft.channels as usize + rng.below(9)).saturating_sub(rng.below(3));
-    let refusal = at(rows, compare::rows(bench.others, rows, channels, (times, values)))?;
+    let lengths = [times, values, rng.pick(&[0, 1, COUNTS, COUNTS, COUNTS, COUNTS + 1])];
+    let refusal = at(rows, compare::rows(bench.others, rows, channels, lengths))?;
     bench.tally.add(format!("rows refused={refusal}"));
     Ok(())
 }
 
-fn rows_length(text: &[u8], head_lines: usize) -> usize {
-    text.split_inclusive(|&byte| byte == b'\n').skip(head_lines).map(<[u8]>::len).sum()
+fn rows_length(text: &[u8], lines_before: usize) -> usize {
+    text.split_inclusive(|&byte| byte == b'\n').skip(lines_before).map(<[u8]>::len).sum()
 }
 
 /// Sheets at each limit: the same in every run, always put to the program too.
@@ -247,6 +286,12 @@ pub fn limit_sheets(bench: &mut Bench) -> Result<(), Failure> {
             let lines = String::from_utf8_lossy(&lines).into_owned();
             let what = format!("{}: {lines:?}, not {:?}", limit.name, limit.printed);
             return at(&limit.text, Err(what));
+        }
+        for room in [0, 1, 60, lines.len() - 1, lines.len()] {
+            at(&limit.text, compare::answers(bench.others, &limit.text, &lines, room))?;
+        }
+        for room in [[0; 4], [4, 3, 32, 32], [5, 31, 1, 31], [6, 33, 33, 33]] {
+            at(&limit.text, compare::sheets(bench.others, &limit.text, room))?;
         }
         bench.tally.add("limits");
     }
@@ -267,6 +312,7 @@ fn limit_rows(bench: &mut Bench) -> Result<(), Failure> {
         (1, (9, 0), 5),
     ] {
         let text = row.repeat(count);
+        let lengths = [lengths.0, lengths.1, COUNTS];
         let refusal = at(&text, compare::rows(bench.others, &text, 1, lengths))?;
         if refusal != wanted {
             return at(&text, Err(format!("{count} rows: refused by {refusal}, not {wanted}")));

@@ -1,50 +1,70 @@
 //! The peer's types as flat numbers, and the peer in the library's place.
 
-use crate::library::{FlatCall, FlatPredicates, FlatSheet, FlatTable, Library};
+use crate::library::{Library, ENDS, NODES, NUMBERS, PLACES, RANGES};
+use crate::names::{self, Call};
 use peer::predicate::{Predicate, Predicates, Range, UNSET};
 use peer::recording::Recording;
 use peer::refusal::Refusal;
 use peer::sheet::Sheet;
 use peer::table::{Node, Table};
-use peer::verdict::{Judgement, Verdict};
+use peer::verdict::Verdict;
 
-pub fn flat_table(table: &Table) -> FlatTable {
-    let mut nodes = [0; 320];
+/// Five numbers for each of 64 nodes: kind, left, right, lo, hi. Places beyond the count are 0.
+pub fn flat_nodes(table: &Table) -> [u64; NODES] {
+    let mut nodes = [0; NODES];
     for (place, node) in nodes.chunks_mut(5).zip(&table.nodes) {
         place.copy_from_slice(&[node.kind, node.left, node.right, node.lo, node.hi]);
     }
-    FlatTable { count: table.nodes.len() as u64, nodes }
+    nodes
 }
 
-pub fn flat_predicates(predicates: &Predicates) -> FlatPredicates {
-    let mut flat = FlatPredicates { ranges: [0; 32], ends: [0; 32] };
-    for (number, predicate) in predicates.iter().enumerate() {
-        let (range, lo, hi) = match predicate.range {
-            Range::Unset => (0, 0, 0),
-            Range::Free => (1, 0, 0),
-            Range::AtLeast(lo) => (2, lo, 0),
-            Range::AtMost(hi) => (3, 0, hi),
-            Range::Between(lo, hi) => (4, lo, hi),
-        };
-        flat.ranges[2 * number] = range;
-        flat.ranges[2 * number + 1] = predicate.channel;
-        flat.ends[2 * number] = lo;
-        flat.ends[2 * number + 1] = hi;
+/// A predicate as its range (0 unset, 1 free, 2 at least, 3 at most, 4 between), its channel, lo
+/// and hi, 0 where the range has no such end.
+fn flat_predicate(predicate: &Predicate) -> (u64, u64, i64, i64) {
+    let (range, lo, hi) = match predicate.range {
+        Range::Unset => (0, 0, 0),
+        Range::Free => (1, 0, 0),
+        Range::AtLeast(lo) => (2, lo, 0),
+        Range::AtMost(hi) => (3, 0, hi),
+        Range::Between(lo, hi) => (4, lo, hi),
+    };
+    (range, predicate.channel, lo, hi)
+}
+
+/// Two numbers for each predicate, range and channel, and two, lo and hi.
+pub fn flat_predicates(predicates: &Predicates) -> ([u64; RANGES], [i64; ENDS]) {
+    let (mut ranges, mut ends) = ([0; RANGES], [0; ENDS]);
+    let places = ranges.chunks_mut(2).zip(ends.chunks_mut(2));
+    for (predicate, (own_range, own_ends)) in predicates.iter().zip(places) {
+        let (range, channel, lo, hi) = flat_predicate(predicate);
+        own_range.copy_from_slice(&[range, channel]);
+        own_ends.copy_from_slice(&[lo, hi]);
     }
-    flat
+    (ranges, ends)
 }
 
-pub fn flat_sheet(sheet: &Sheet) -> FlatSheet {
+/// Channels, step, drift, the rows' first place, the count of requirements.
+fn flat_numbers(sheet: &Sheet) -> [u64; NUMBERS] {
     let count = sheet.requirements.len() as u64;
-    let numbers = [sheet.channels, sheet.step, sheet.drift, sheet.rows_from as u64, count];
-    let mut places = [0; 32];
+    [sheet.channels, sheet.step, sheet.drift, sheet.rows_from as u64, count]
+}
+
+/// Two numbers for each requirement: its first place in the text and the place behind its last.
+/// Places beyond the count are 0.
+fn flat_places(sheet: &Sheet) -> [u64; PLACES] {
+    let mut places = [0; PLACES];
     for (place, requirement) in places.chunks_mut(2).zip(&sheet.requirements) {
         place.copy_from_slice(&[requirement.start as u64, requirement.end as u64]);
     }
-    FlatSheet { numbers, places, predicates: flat_predicates(&sheet.predicates) }
+    places
 }
 
-fn table(flat: &FlatTable) -> Table {
+/// The numbers of a lent slice, 0 for each that it does not have.
+fn padded<T: Copy + Default, const N: usize>(lent: &[T]) -> [T; N] {
+    std::array::from_fn(|place| lent.get(place).copied().unwrap_or_default())
+}
+
+fn table(call: &Call) -> Table {
     let node = |numbers: &[u64]| Node {
         kind: numbers[0],
         left: numbers[1],
@@ -52,37 +72,46 @@ fn table(flat: &FlatTable) -> Table {
         lo: numbers[3],
         hi: numbers[4],
     };
-    let mut nodes: Vec<Node> = flat.nodes.chunks(5).map(node).collect();
+    let mut nodes: Vec<Node> = padded::<_, NODES>(call.nodes).chunks(5).map(node).collect();
     // A count beyond 64 is refused whatever it is; one node too many stands for it.
-    nodes.resize(flat.count.min(65) as usize, Node::default());
+    nodes.resize(call.count.min(65) as usize, Node::default());
     Table { nodes }
 }
 
-fn predicates(flat: &FlatPredicates) -> Predicates {
+fn predicate((range, channel, lo, hi): (u64, u64, i64, i64)) -> Predicate {
+    let range = match range {
+        0 => Range::Unset,
+        1 => Range::Free,
+        2 => Range::AtLeast(lo),
+        3 => Range::AtMost(hi),
+        _ => Range::Between(lo, hi),
+    };
+    Predicate { channel, range }
+}
+
+fn predicates(call: &Call) -> Predicates {
+    let (ranges, ends) = (padded::<_, RANGES>(call.ranges), padded::<_, ENDS>(call.ends));
     let mut predicates = [UNSET; 16];
-    for (number, predicate) in predicates.iter_mut().enumerate() {
-        let (lo, hi) = (flat.ends[2 * number], flat.ends[2 * number + 1]);
-        let range = match flat.ranges[2 * number] {
-            0 => Range::Unset,
-            1 => Range::Free,
-            2 => Range::AtLeast(lo),
-            3 => Range::AtMost(hi),
-            _ => Range::Between(lo, hi),
-        };
-        *predicate = Predicate { channel: flat.ranges[2 * number + 1], range };
+    for (p, place) in predicates.iter_mut().enumerate() {
+        *place = predicate((ranges[2 * p], ranges[2 * p + 1], ends[2 * p], ends[2 * p + 1]));
     }
     predicates
 }
 
-fn recording(call: &FlatCall) -> Recording {
+fn recording(call: &Call) -> Recording {
     Recording { channels: call.channels, times: call.times.to_vec(), values: call.values.to_vec() }
 }
 
-/// The number of a refusal; where there is none, what was found is put in its place.
-fn hand<T, F>(found: Result<T, Refusal>, flat: impl Fn(T) -> F, place: &mut F) -> u64 {
+/// As much of the contents as there are places for.
+fn write<T: Copy>(contents: &[T], lent: &mut [T]) {
+    lent.iter_mut().zip(contents).for_each(|(place, number)| *place = *number);
+}
+
+/// The number of a refusal; where there is none, what was found is written.
+fn hand<T>(found: Result<T, Refusal>, write: impl FnOnce(T)) -> u64 {
     match found {
         Ok(found) => {
-            *place = flat(found);
+            write(found);
             0
         }
         Err(refusal) => refusal.number(),
@@ -95,16 +124,25 @@ pub struct Peer;
 impl Library for Peer {
     fn answer(&self, text: &[u8], lines: &mut [u8]) -> usize {
         let printed = peer::answer::answer(text);
-        lines[..printed.len()].copy_from_slice(&printed);
+        write(&printed, lines);
         printed.len()
     }
 
-    fn sheet(&self, text: &[u8], sheet: &mut FlatSheet) -> u64 {
-        hand(peer::sheet::read_sheet(text), |read| flat_sheet(&read), sheet)
+    fn sheet(&self, text: &[u8], sheet: names::Sheet) -> u64 {
+        hand(peer::sheet::read_sheet(text), |read| {
+            let (ranges, ends) = flat_predicates(&read.predicates);
+            write(&flat_numbers(&read), sheet.numbers);
+            write(&flat_places(&read), sheet.places);
+            write(&ranges, sheet.ranges);
+            write(&ends, sheet.ends);
+        })
     }
 
-    fn requirement(&self, text: &[u8], table: &mut FlatTable) -> u64 {
-        hand(peer::grammar::read_requirement(text), |read| flat_table(&read), table)
+    fn requirement(&self, text: &[u8], nodes: &mut [u64], count: &mut [u64]) -> u64 {
+        hand(peer::grammar::read_requirement(text), |read| {
+            write(&flat_nodes(&read), nodes);
+            write(&[read.count() as u64], count);
+        })
     }
 
     fn rows(
@@ -113,42 +151,41 @@ impl Library for Peer {
         channels: u64,
         times: &mut [u64],
         values: &mut [i64],
-        counts: &mut [u64; 2],
+        counts: &mut [u64],
     ) -> u64 {
-        let read = peer::rows::read_rows(text, channels, times, values);
-        hand(read, |read| [read.measured as u64, read.filled as u64], counts)
+        hand(peer::rows::read_rows(text, channels, times, values), |read| {
+            write(&[read.measured as u64, read.filled as u64], counts);
+        })
     }
 
-    fn distance(&self, flat: &FlatPredicates, p: usize, value: i64, result: &mut [i64; 1]) -> u64 {
-        let found = peer::predicate::judged_distance(&predicates(flat)[p], value);
-        hand(found, |distance| [distance], result)
+    fn distance(&self, flat: (u64, u64, i64, i64), value: i64, result: &mut [i64]) -> u64 {
+        let found = peer::predicate::judged_distance(&predicate(flat), value);
+        hand(found, |distance| write(&[distance], result))
     }
 
-    fn margin(&self, call: &FlatCall, work: &mut [i64], result: &mut [i64; 1]) -> u64 {
-        let (table, predicates) = (table(call.table), predicates(call.predicates));
-        let margin = peer::margin::margin(&table, &predicates, &recording(call), work);
-        hand(margin, |margin| [margin], result)
+    fn margin(&self, call: &Call, work: &mut [i64], result: &mut [i64]) -> u64 {
+        let found = peer::margin::margin(&table(call), &predicates(call), &recording(call), work);
+        hand(found, |margin| write(&[margin], result))
     }
 
     fn verdict(
         &self,
-        call: &FlatCall,
+        call: &Call,
         step: u64,
         drift: u64,
         work: &mut [i64],
-        result: &mut [i64; 3],
+        result: &mut [i64],
     ) -> u64 {
-        let (table, predicates) = (table(call.table), predicates(call.predicates));
-        let judgement =
+        let (table, predicates) = (table(call), predicates(call));
+        let judged =
             peer::verdict::verdict(&table, &predicates, &recording(call), step, drift, work);
-        let flat = |judgement: Judgement| {
+        hand(judged, |judgement| {
             let verdict = match judgement.verdict {
                 Verdict::NotShown => 0,
                 Verdict::Holds => 1,
                 Verdict::Fails => 2,
             };
-            [verdict, judgement.hold, judgement.fail]
-        };
-        hand(judgement, flat, result)
+            write(&[verdict, judgement.hold, judgement.fail], result);
+        })
     }
 }

@@ -6,7 +6,13 @@ mod checks;
 mod compare;
 mod families;
 mod flat;
+#[cfg(test)]
+mod header;
 mod library;
+// Without a library the functions are unused, the forms of what is lent are not.
+#[cfg_attr(not(any(feature = "proved", test)), allow(dead_code))]
+#[path = "../../../rust/src/names.rs"]
+mod names;
 mod program;
 #[cfg(any(feature = "proved", test))]
 mod proved;
@@ -169,6 +175,7 @@ fn wanted(thousands: u64) -> Vec<(String, u64)> {
     each("answer refused=", &ORDER, 5);
     each("margin call refused=", &[0, 3, 4, 5, 6, 7, 8], 3);
     each("verdict call refused=", &[0, 3, 4, 5, 6, 7, 8, 9, 10, 11], 2);
+    each("cut call refused=", &[0, 3], 2);
     each("distance refused=", &[0, 4, 7], 20);
     each("requirement refused=", &[0, 2], 10);
     each("rows refused=", &[0, 1, 4, 5], 2);
@@ -181,6 +188,9 @@ fn wanted(thousands: u64) -> Vec<(String, u64)> {
         wanted.push((format!("several: {what}"), 5 * thousands));
     }
     wanted.push(("several: equal margins".to_string(), 20 * thousands));
+    for what in ["unread rows", "the last unended"] {
+        wanted.push((format!("several: {what}"), 2 * thousands));
+    }
     for histories in ["there is none", "all tried", "some tried", "a verdict tried on all"] {
         wanted.push((format!("histories: {histories}"), 10 * thousands));
     }

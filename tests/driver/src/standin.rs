@@ -1,15 +1,10 @@
 //! The peer behind the proved library's C names: so that the declarations and the flat numbers
-//! are tried where no proved library is at hand. It takes slices of the whole lengths alone, where
-//! the proved library takes any.
+//! are tried where no proved library is at hand.
 
 use crate::flat::Peer;
-use crate::library::{FlatCall, FlatPredicates, FlatSheet, FlatTable, Library};
+use crate::library::Library;
+use crate::names::{Call, Sheet};
 use std::slice::{from_raw_parts, from_raw_parts_mut};
-
-/// A slice that is lent whole, as an array in its place.
-unsafe fn whole<'a, T, const N: usize>(place: *mut T, len: usize) -> &'a mut [T; N] {
-    from_raw_parts_mut(place, len).try_into().expect("a slice of the whole length")
-}
 
 #[no_mangle]
 unsafe extern "C" fn varmityep_answer(
@@ -34,14 +29,13 @@ unsafe extern "C" fn varmityep_sheet(
     ends: *mut i64,
     ends_len: usize,
 ) -> u64 {
-    let (numbers, places) = (whole(numbers, numbers_len), whole(places, places_len));
-    let (ranges, ends) = (whole(ranges, ranges_len), whole(ends, ends_len));
-    let predicates = FlatPredicates { ranges: *ranges, ends: *ends };
-    let mut sheet = FlatSheet { numbers: *numbers, places: *places, predicates };
-    let refusal = Peer.sheet(from_raw_parts(text, text_len), &mut sheet);
-    (*numbers, *places) = (sheet.numbers, sheet.places);
-    (*ranges, *ends) = (sheet.predicates.ranges, sheet.predicates.ends);
-    refusal
+    let sheet = Sheet {
+        numbers: from_raw_parts_mut(numbers, numbers_len),
+        places: from_raw_parts_mut(places, places_len),
+        ranges: from_raw_parts_mut(ranges, ranges_len),
+        ends: from_raw_parts_mut(ends, ends_len),
+    };
+    Peer.sheet(from_raw_parts(text, text_len), sheet)
 }
 
 #[no_mangle]
@@ -53,11 +47,9 @@ unsafe extern "C" fn varmityep_requirement(
     count: *mut u64,
     count_len: usize,
 ) -> u64 {
-    let (nodes, [count]) = (whole(nodes, nodes_len), whole(count, count_len));
-    let mut table = FlatTable { count: *count, nodes: *nodes };
-    let refusal = Peer.requirement(from_raw_parts(text, text_len), &mut table);
-    (*count, *nodes) = (table.count, table.nodes);
-    refusal
+    let nodes = from_raw_parts_mut(nodes, nodes_len);
+    let count = from_raw_parts_mut(count, count_len);
+    Peer.requirement(from_raw_parts(text, text_len), nodes, count)
 }
 
 #[no_mangle]
@@ -74,7 +66,7 @@ unsafe extern "C" fn varmityep_rows(
 ) -> u64 {
     let times = from_raw_parts_mut(times, times_len);
     let values = from_raw_parts_mut(values, values_len);
-    let counts = whole(counts, counts_len);
+    let counts = from_raw_parts_mut(counts, counts_len);
     Peer.rows(from_raw_parts(text, text_len), channels, times, values, counts)
 }
 
@@ -88,10 +80,7 @@ unsafe extern "C" fn varmityep_distance(
     result: *mut i64,
     result_len: usize,
 ) -> u64 {
-    let mut predicates = FlatPredicates { ranges: [0; 32], ends: [0; 32] };
-    predicates.ranges[..2].copy_from_slice(&[range, channel]);
-    predicates.ends[..2].copy_from_slice(&[lo, hi]);
-    Peer.distance(&predicates, 0, value, whole(result, result_len))
+    Peer.distance((range, channel, lo, hi), value, from_raw_parts_mut(result, result_len))
 }
 
 /// Margin and verdict are handed the same; the verdict its step and drift, too.
@@ -117,18 +106,17 @@ macro_rules! judging {
             result: *mut i64,
             result_len: usize,
         ) -> u64 {
-            let nodes = from_raw_parts(nodes, nodes_len).try_into().expect("320 numbers");
-            let ranges = from_raw_parts(ranges, ranges_len).try_into().expect("32 numbers");
-            let ends = from_raw_parts(ends, ends_len).try_into().expect("32 numbers");
-            let call = FlatCall {
-                table: &FlatTable { count, nodes },
-                predicates: &FlatPredicates { ranges, ends },
+            let call = Call {
+                nodes: from_raw_parts(nodes, nodes_len),
+                count,
+                ranges: from_raw_parts(ranges, ranges_len),
+                ends: from_raw_parts(ends, ends_len),
                 channels,
                 times: from_raw_parts(times, times_len),
                 values: from_raw_parts(values, values_len),
             };
             let work = from_raw_parts_mut(work, work_len);
-            Peer.$ask(&call, $($number,)* work, whole(result, result_len))
+            Peer.$ask(&call, $($number,)* work, from_raw_parts_mut(result, result_len))
         }
     };
 }

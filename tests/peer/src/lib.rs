@@ -1,8 +1,8 @@
-//! Document 01 as literal definitions.
+//! Document 01 and Change 1 of document 02 as literal definitions.
 //!
 //! Nothing here is fast and nothing is shared with the proved library: each definition is read
-//! from the paper anew, each largest and smallest is taken afresh, so that an agreement of the
-//! two says something. The order of the modules is the paper's.
+//! from the papers anew, each largest and smallest is taken afresh, so that an agreement of the
+//! two says something. The order of the modules is that of document 01.
 
 pub mod limits;
 pub mod refusal;

@@ -1,4 +1,4 @@
-//! Every number that document 01 gives as a limit.
+//! Every number that document 01, or Change 1 of document 02, gives as a limit.
 
 /// The margin of what cannot be missed.
 pub const TOP: i64 = 4_000_000_000;

@@ -3,7 +3,7 @@
 #[derive(Clone, Copy, PartialEq, Eq, Debug)]
 pub enum Refusal {
     Text,
-    Requirements,
+    TooManyRequirements,
     Requirement,
     Table,
     Predicates,
@@ -20,7 +20,7 @@ impl Refusal {
     pub fn number(self) -> u64 {
         match self {
             Refusal::Text => 1,
-            Refusal::Requirements => 12,
+            Refusal::TooManyRequirements => 12,
             Refusal::Requirement => 2,
             Refusal::Table => 3,
             Refusal::Predicates => 4,

@@ -45,7 +45,8 @@ pub fn parse_rows(mut text: &[u8], channels: u64) -> Read<Vec<Row>> {
     Ok(rows)
 }
 
-/// Entry point: refusals 1, 4 and 5, the text being the part of the sheet behind its head.
+/// Entry point: refusals 1, 4 and 5, the text being the part of the sheet behind its
+/// requirements.
 /// "It fills times and values in sheet order; places beyond the measured rows keep their
 /// contents."
 pub fn read_rows(

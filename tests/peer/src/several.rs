@@ -16,13 +16,14 @@ const P: (&str, &str) = ("p0", "rows=5 filled=0 margin=6 hold=6 fail=-6 verdict=
 const T: (&str, &str) =
     ("T", "rows=5 filled=0 margin=4000000000 hold=4000000000 fail=-4000000000 verdict=holds");
 
-fn head(channels: u64, requirements: &[&str]) -> String {
+/// All that stands before the rows.
+fn front(channels: u64, requirements: &[&str]) -> String {
     let lines: String = requirements.iter().map(|text| format!("req={text}\n")).collect();
     format!("chan={channels}\np=0 ch=0 lo=5 hi=*\nstep=1\ndrift=2\n{lines}")
 }
 
 fn sheet(requirements: &[&str]) -> String {
-    head(1, requirements) + ROWS
+    front(1, requirements) + ROWS
 }
 
 fn says(text: &str, lines: &[&str]) {
@@ -48,7 +49,7 @@ fn one_requirement_keeps_the_old_form() {
     }
     refuses(&sheet(&[""]), 2);
     refuses(&sheet(&["p1"]), 3);
-    refuses(&head(1, &["p0"]), 5);
+    refuses(&front(1, &["p0"]), 5);
 }
 
 #[test]
@@ -112,7 +113,7 @@ fn sixteen_and_seventeen() {
     one_bad[3] = "p1";
     refuses(&sheet(&one_bad), 12);
     refuses(&sheet(&["p0"; 17]).replace("step=1", "step=0"), 12);
-    refuses(&head(1, &["p0"; 17]), 12);
+    refuses(&front(1, &["p0"; 17]), 12);
     // A tenth number has two digits: 10 stands behind 9 and not behind 1.
     let mut last = ["p0"; 16];
     last[10] = "!p0";
@@ -136,41 +137,41 @@ fn refusal_1_comes_before_12() {
 #[test]
 fn where_the_requirements_begin_and_end() {
     refuses(&sheet(&[]), 1);
-    refuses(&head(1, &[]), 1);
+    refuses(&front(1, &[]), 1);
     // A row in front, or between: the rows have begun.
-    refuses(&(head(1, &[]) + "t=0 src=m v0=10\nreq=p0\n"), 1);
-    refuses(&(head(1, &["p0"]) + "t=0 src=m v0=10\nreq=p0\nt=1 src=m v0=10\n"), 1);
-    refuses(&(head(1, &["p0"]) + "\nreq=p0\n" + ROWS), 1);
+    refuses(&(front(1, &[]) + "t=0 src=m v0=10\nreq=p0\n"), 1);
+    refuses(&(front(1, &["p0"]) + "t=0 src=m v0=10\nreq=p0\nt=1 src=m v0=10\n"), 1);
+    refuses(&(front(1, &["p0"]) + "\nreq=p0\n" + ROWS), 1);
     // A key that is another, or cut short, is no requirement.
     for line in ["req\n", "re=p0\n", "Req=p0\n", " req=p0\n", "req =p0\n"] {
-        refuses(&(head(1, &["p0"]) + line + ROWS), 1);
+        refuses(&(front(1, &["p0"]) + line + ROWS), 1);
     }
     // What follows the equals sign is the requirement, a key and the rest included.
-    refuses_each(&(head(1, &["req=p0", "p0\r", "chan=1"]) + ROWS), &[2, 2, 2]);
+    refuses_each(&(front(1, &["req=p0", "p0\r", "chan=1"]) + ROWS), &[2, 2, 2]);
 }
 
 #[test]
 fn a_requirement_without_its_line_feed() {
     for channels in [0, 1, 8, 9] {
         for requirements in [&["p0"][..], &["p0", "T"], &["T"; 16], &["T"; 17], &["T", ""]] {
-            let text = head(channels, requirements);
+            let text = front(channels, requirements);
             refuses(text.strip_suffix('\n').unwrap(), 1);
         }
     }
     // Cut in the key it is a row, unread or broken.
-    refuses_each(&(head(0, &["T", "p1"]) + "req"), &[4, 3]);
-    refuses(&(head(1, &["T", "p1"]) + "req"), 1);
+    refuses_each(&(front(0, &["T", "p1"]) + "req"), &[4, 3]);
+    refuses(&(front(1, &["T", "p1"]) + "req"), 1);
 }
 
 #[test]
 fn rows_of_no_width_are_unread() {
     let junk = "junk\r\nreq=p0\n\0 no line feed";
     for channels in [0, 9, 4_294_967_295] {
-        refuses_each(&(head(channels, &["T", "p1", "", "p0"]) + junk), &[4, 3, 2, 4]);
-        refuses(&(head(channels, &["T"]) + junk), 4);
-        refuses(&(head(channels, &["T"; 17]) + junk), 12);
-        refuses(&(head(channels, &[]) + junk), 1);
-        refuses_each(&(head(channels, &["T"; 16]) + "\n" + &"req=T\n".repeat(3)), &[4; 16]);
+        refuses_each(&(front(channels, &["T", "p1", "", "p0"]) + junk), &[4, 3, 2, 4]);
+        refuses(&(front(channels, &["T"]) + junk), 4);
+        refuses(&(front(channels, &["T"; 17]) + junk), 12);
+        refuses(&(front(channels, &[]) + junk), 1);
+        refuses_each(&(front(channels, &["T"; 16]) + "\n" + &"req=T\n".repeat(3)), &[4; 16]);
     }
 }
 
@@ -197,7 +198,7 @@ fn cells_are_counted_for_each_requirement() {
     let rows: String = (0..1_366).map(|t| format!("t={t} src=m v0=10\n")).collect();
     let line = "rows=1366 filled=0 margin=6 hold=6 fail=-6 verdict=holds";
     let wanted = [format!("req=1 {line}"), format!("req=3 {line}"), "req=0 refused=8".to_string()];
-    let text = head(1, &["!p0|!p0", "p0", "p1", "p0"]) + &rows;
+    let text = front(1, &["!p0|!p0", "p0", "p1", "p0"]) + &rows;
     let with_3 = [&wanted[0][..], &wanted[1], &wanted[2], "req=2 refused=3"];
     says(&text, &with_3);
     // 8 comes before 9, 10 and 11, which refuse the others.
@@ -216,7 +217,7 @@ fn the_sheet_reader() {
     let texts: Vec<&str> = read.requirements.iter().map(|places| &text[places.clone()]).collect();
     assert_eq!(texts, ["p0", "", "G[0,2]p0"]);
     assert_eq!(&text[read.rows_from..], ROWS);
-    assert_eq!(read_sheet(sheet(&["p0"; 17]).as_bytes()), Err(Refusal::Requirements));
+    assert_eq!(read_sheet(sheet(&["p0"; 17]).as_bytes()), Err(Refusal::TooManyRequirements));
     assert_eq!(read_sheet(sheet(&[""; 16]).as_bytes()).unwrap().requirements.len(), 16);
-    assert_eq!(read_sheet(head(0, &["p0"; 17]).as_bytes()), Err(Refusal::Requirements));
+    assert_eq!(read_sheet(front(0, &["p0"; 17]).as_bytes()), Err(Refusal::TooManyRequirements));
 }

@@ -25,15 +25,16 @@ pub struct Sheet {
 /// unknown: "12 (no sheet), a seventeenth `req=` line, after 1 and before 2".
 pub fn read_sheet(text: &[u8]) -> Result<Sheet, Refusal> {
     when(text.len() > MOST_BYTES, Refusal::Text)?;
-    let sheet = read_head(text)?;
+    let sheet = read_front(text)?;
     if !channels_broken(sheet.channels) {
         parse_rows(&text[sheet.rows_from..], sheet.channels)?;
     }
-    when(sheet.requirements.len() > MOST_REQUIREMENTS, Refusal::Requirements)?;
+    when(sheet.requirements.len() > MOST_REQUIREMENTS, Refusal::TooManyRequirements)?;
     Ok(sheet)
 }
 
-fn read_head(text: &[u8]) -> Read<Sheet> {
+/// All that stands before the rows.
+fn read_front(text: &[u8]) -> Read<Sheet> {
     let (channels, rest) = number_line(text, "chan=")?;
     let (predicates, rest) = predicate_lines(rest)?;
     let (step, rest) = number_line(rest, "step=")?;

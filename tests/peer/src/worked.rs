@@ -300,11 +300,11 @@ fn refusals_2_to_11_by_meaning() {
     ] {
         refuses(&with(old, new), number);
     }
-    let head = &EXAMPLE[..EXAMPLE.find("t=0").unwrap()];
-    refuses(head, 5);
-    refuses(&format!("{head}t=0 src=f v0=1\n"), 5);
+    let front = &EXAMPLE[..EXAMPLE.find("t=0").unwrap()];
+    refuses(front, 5);
+    refuses(&format!("{front}t=0 src=f v0=1\n"), 5);
     says(
-        &format!("{head}t=0 src=m v0=10\n"),
+        &format!("{front}t=0 src=m v0=10\n"),
         "rows=1 filled=0 margin=6 hold=6 fail=-4000000000 verdict=holds",
     );
 }
@@ -317,8 +317,8 @@ fn the_order_over_the_whole_program() {
     {
         refuses(&broken_row(with(old, new)), 1);
     }
-    // Rows of a bad width are unread, whatever stands there; the head isn't.
-    let unread = |head: &str| format!("{head}junk\r\nreq=T\nno line feed");
+    // Rows of a bad width are unread, whatever stands there; what is before them isn't.
+    let unread = |front: &str| format!("{front}junk\r\nreq=T\nno line feed");
     refuses(&unread("chan=9\nstep=0\ndrift=0\nreq=T\n"), 4);
     refuses(&unread("chan=0\nstep=0\ndrift=0\nreq=p0\n"), 3);
     refuses(&unread("chan=0\nstep=0\ndrift=0\nreq=p0 \n"), 2);
@@ -326,12 +326,13 @@ fn the_order_over_the_whole_program() {
     refuses("chan=0\nstep=0\ndrift=0\nreq=T", 1);
     // More measured rows than room: 1, 2, 3 and 4 still come first.
     let many: String = (0..2049).map(|t| format!("t={t} src=m v0=0\n")).collect();
-    let head = |chan, req| format!("chan={chan}\np=0 ch=0 lo=5 hi=*\nstep=0\ndrift=0\nreq={req}\n");
-    refuses(&format!("{}{many}", head(1, "T")), 5);
-    refuses(&format!("{}{many}", head(1, "p1")), 3);
-    refuses(&format!("{}{many}", head(1, "")), 2);
-    refuses(&format!("{}{many}junk\n", head(1, "T")), 1);
-    let bad = head(1, "T").replace("ch=0", "ch=1");
+    let front =
+        |chan, req| format!("chan={chan}\np=0 ch=0 lo=5 hi=*\nstep=0\ndrift=0\nreq={req}\n");
+    refuses(&format!("{}{many}", front(1, "T")), 5);
+    refuses(&format!("{}{many}", front(1, "p1")), 3);
+    refuses(&format!("{}{many}", front(1, "")), 2);
+    refuses(&format!("{}{many}junk\n", front(1, "T")), 1);
+    let bad = front(1, "T").replace("ch=0", "ch=1");
     refuses(&format!("{bad}{many}"), 4);
 }
 
@@ -356,8 +357,8 @@ fn limits_of_the_program() {
         &(sheet("T", 3) + &filled),
         "rows=3 filled=2500 margin=4000000000 hold=4000000000 fail=-4000000000 verdict=holds",
     );
-    let head = "chan=0\nstep=1\ndrift=0\nreq=T\n";
-    let padded = |length: usize| format!("{head}{}", "x".repeat(length - head.len()));
+    let front = "chan=0\nstep=1\ndrift=0\nreq=T\n";
+    let padded = |length: usize| format!("{front}{}", "x".repeat(length - front.len()));
     refuses(&padded(65_536), 4);
     refuses(&padded(65_537), 1);
 }

@@ -41,7 +41,7 @@ impl Draft {
     }
 
     /// How many lines stand before the rows.
-    pub fn head_lines(&self) -> usize {
+    pub fn lines_before_rows(&self) -> usize {
         self.lines_before_requirements() + self.requirements.len()
     }
 

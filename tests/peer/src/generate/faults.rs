@@ -264,13 +264,13 @@ fn jump(rng: &mut Prng, draft: &mut Draft) {
 /// A fault of the text form, put into the written sheet.
 fn broken_text(rng: &mut Prng, draft: &Draft) -> Vec<u8> {
     let lines = draft.lines();
-    let (first, head) = (draft.lines_before_requirements(), draft.head_lines());
+    let (first, rows) = (draft.lines_before_requirements(), draft.lines_before_rows());
     let rows_are_read = (1..=8).contains(&draft.channels);
     // A requirement's line is judged by its key alone, so most faults go elsewhere.
     let judged = if rows_are_read { lines.len() } else { first };
     let place = loop {
         let place = rng.below(judged);
-        if !(first..head).contains(&place) {
+        if !(first..rows).contains(&place) {
             break place;
         }
     };
@@ -287,7 +287,7 @@ fn broken_text(rng: &mut Prng, draft: &Draft) -> Vec<u8> {
             let fits = |key: &str| lines[place].starts_with(key.as_bytes()) && !key.is_empty();
             let kept: Vec<&&str> = keys
                 .iter()
-                .filter(|&&key| !fits(key) && (key != "req=" || place != head))
+                .filter(|&&key| !fits(key) && (key != "req=" || place != rows))
                 .collect();
             let value = lines[place].iter().position(|&byte| byte == b'=').map_or(0, |at| at + 1);
             // A `p=` line may stand where `step=` is due; with step's value it has too few fields.
@@ -299,7 +299,7 @@ fn broken_text(rng: &mut Prng, draft: &Draft) -> Vec<u8> {
 
 /// The text ends in its last `req=` line, before the line feed.
 pub fn unended(draft: &Draft) -> Vec<u8> {
-    let mut text = joined(&draft.lines()[..draft.head_lines()]);
+    let mut text = joined(&draft.lines()[..draft.lines_before_rows()]);
     text.pop();
     text
 }
@@ -349,7 +349,7 @@ fn broken_field(rng: &mut Prng, line: &[u8]) -> Vec<u8> {
 
 /// A line missing, twice, or out of its place.
 fn broken_order(rng: &mut Prng, draft: &Draft, mut lines: Vec<Vec<u8>>) -> Vec<u8> {
-    let (first, head) = (draft.lines_before_requirements(), draft.head_lines());
+    let (first, rows) = (draft.lines_before_requirements(), draft.lines_before_rows());
     let (step, drift) = (first - 2, first - 1);
     match rng.below(7) {
         0 => {
@@ -368,18 +368,18 @@ fn broken_order(rng: &mut Prng, draft: &Draft, mut lines: Vec<Vec<u8>>) -> Vec<u
             lines.insert(1 + rng.below(first - 3), twice);
         }
         // No `req=` line is left.
-        5 => drop(lines.drain(first..head)),
+        5 => drop(lines.drain(first..rows)),
         // Behind the first `req=` line it might stand where nothing is read.
         _ => lines.insert(rng.below(first + 1), Vec::new()),
     }
     joined(&lines)
 }
 
-/// A fault behind the head, of a sheet whose rows are read.
+/// A fault behind the requirements, of a sheet whose rows are read.
 fn broken_tail(rng: &mut Prng, draft: &Draft, mut lines: Vec<Vec<u8>>) -> Vec<u8> {
-    let (first, head) = (draft.lines_before_requirements(), draft.head_lines());
+    let (first, rows) = (draft.lines_before_requirements(), draft.lines_before_rows());
     let mut row =
-        Draft { rows: vec![filled(rng, draft.channels)], ..draft.clone() }.lines().remove(head);
+        Draft { rows: vec![filled(rng, draft.channels)], ..draft.clone() }.lines().remove(rows);
     match rng.below(7) {
         0 => row.extend(format!(" v{}=0", draft.channels).bytes()),
         1 => {
@@ -390,9 +390,9 @@ fn broken_tail(rng: &mut Prng, draft: &Draft, mut lines: Vec<Vec<u8>>) -> Vec<u8
         3 => row = lines[rng.below(first)].clone(),
         4 => {
             // A requirement behind a row.
-            lines.insert(head, row);
+            lines.insert(rows, row);
             row = requirement_line(b"T");
-            lines.insert(head + 1 + rng.below(lines.len() - head), row);
+            lines.insert(rows + 1 + rng.below(lines.len() - rows), row);
             return joined(&lines);
         }
         5 => {
@@ -408,7 +408,7 @@ fn broken_tail(rng: &mut Prng, draft: &Draft, mut lines: Vec<Vec<u8>>) -> Vec<u8
             return text;
         }
     }
-    lines.insert(head + rng.below(lines.len() - head + 1), row);
+    lines.insert(rows + rng.below(lines.len() - rows + 1), row);
     joined(&lines)
 }
 
@@ -417,7 +417,7 @@ fn too_long(rng: &mut Prng, draft: &Draft) -> Vec<u8> {
     let mut text = draft.text();
     while text.len() <= MOST_BYTES {
         let long = Draft { rows: vec![filled(rng, draft.channels.min(8))], ..draft.clone() };
-        text.extend(long.lines().remove(draft.head_lines()));
+        text.extend(long.lines().remove(draft.lines_before_rows()));
         text.push(b'\n');
     }
     text

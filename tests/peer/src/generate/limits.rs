@@ -165,7 +165,7 @@ fn requirement_counts() -> Vec<Limit> {
         limit("17 requirements, unread rows", unread(17), refused(12)),
         limit("16 long lines", longest, each(16, |_| missed.to_string())),
         limit(
-            "16 requirements of 4,096 bytes",
+            "16 requirements of 4,032 bytes",
             many(16, &format!("{}p0", "!".repeat(4_030))),
             each(16, |_| refused(2)),
         ),

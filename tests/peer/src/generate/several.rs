@@ -64,12 +64,12 @@ fn ended(rng: &mut Prng, mut draft: Draft, mut numbers: Vec<u64>) -> (Vec<u8>, N
             (behind(draft.text(), rng.pick(&bad)), Err(1))
         }
         _ if unread => {
-            let head = joined(&draft.lines()[..draft.head_lines()]);
+            let front = joined(&draft.lines()[..draft.lines_before_rows()]);
             let junk = [
                 "", "\n", "junk", "re", "req", "req:T\n", "Req=T\n", " req=T\n", "x\nreq=T\n",
                 "\nreq=T", "t=0 src=m\n", "chan=1\n", "\r\n", "\0",
             ];
-            (behind(head, rng.pick(&junk)), Ok(numbers))
+            (behind(front, rng.pick(&junk)), Ok(numbers))
         }
         4 => {
             // The same number for every requirement that has none before it.
