@@ -25,6 +25,7 @@ pub record Written (text : List ℕ) (head : Head) (requirements rows : List (Li
   -- rows are read only where the channels are 1 to 8
   pub listed : channels-in-range (head .channels) ≡ true → AreRows (head .channels) rows
 
+-- a text is written as a sheet, whatever it says
 abbrev pub IsWritten : List ℕ → Type 0
 IsWritten text = (head : Head) × (requirements : List (List ℕ)) × (rows : List (List ℕ)) × Written text head requirements rows
 
