@@ -9,7 +9,7 @@ use native.Mathlib.Decide.{decLt}
 use mathlib.Core.List.{List, [], _∷_, _++_}
 use lib.ListN.{length, getD, set, take, length-set, length-take, length-drop}
 use borrow.Rule.Slice.PartMut.{midOf, postOf, putMid, put-same}
-use lib.Seq.{set-append-left, getD-set-same, getD-set-other, length-take-le}
+use lib.Seq.{set-append-left, set-comm, getD-set-same, getD-set-other, length-take-le}
 use Rattle.lists.specs.Fill.{fill, fill-rows}
 
 module _ {X : Type 0} where
@@ -58,6 +58,22 @@ module _ {X : Type 0} where
 
   pub fill-to : (b : ℕ) (f : ℕ → X) (w : List X) {i n : ℕ} {l : List X} → i ≡ n → l ≡ fill b i f w → l ≡ fill b n f w
   fill-to b f w p e = rw (← p) e
+
+  -- ---- a loop that fills downward, from place j of the run up to place n: one place more in front
+  fill-front : (b n : ℕ) (f g : ℕ → X) (w : List X) → ((i : ℕ) → i < n → f i ≡ g (suc i)) → set (fill (suc b) n f w) b (g 0) ≡ fill b (suc n) g w
+  unfolding fill
+  fill-front b zero f g w h = let e : b + 0 ≡ b = omega arith in rw e refl
+  fill-front b (suc n) f g w h =
+      let e : suc b + n ≡ b + suc n = omega arith in
+      set-comm (fill (suc b) n f w) (suc b + n) b (f n) (g 0) (λ (p : suc b + n ≡ b). omega arith)
+      ∙ (rw (fill-front b n f g w (λ i p. h i (omega arith)), h n (omega arith), e) refl)
+
+  pub fill-down : (b j n : ℕ) (f : ℕ → X) (w : List X) {l : List X} {v : X} → 0 < j → j ≤ n → l ≡ fill (b + j) (n - j) (λ m. f (j + m)) w → v ≡ f (j - 1) → set l (b + (j - 1)) v ≡ fill (b + (j - 1)) (n - (j - 1)) (λ m. f (j - 1 + m)) w
+  fill-down b j n f w h k e q =
+      let x : b + j ≡ suc (b + (j - 1)) = omega arith in
+      let y : n - (j - 1) ≡ suc (n - j) = omega arith in
+      let z : j - 1 ≡ j - 1 + 0 = omega arith in
+      rw (e, x, y, q, ap f z) (fill-front (b + (j - 1)) (n - j) (λ m. f (j + m)) (λ m. f (j - 1 + m)) w (λ i p. ap f (omega arith)))
 
   -- a place before the run is as it was, so rows of earlier nodes may be read while a later row is filled
   pub fill-before : (b n : ℕ) (f : ℕ → X) (w : List X) {l : List X} (m : ℕ) (d : X) → l ≡ fill b n f w → m < b → getD l m d ≡ getD w m d
