@@ -12,3 +12,4 @@ pub mod Line
 pub mod Crossing
 pub mod Margins
 pub mod Beaten
+pub mod Extremes
