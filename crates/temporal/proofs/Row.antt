@@ -1,49 +1,65 @@
--- Both operands' rows stand before the row that is filled, so they lie in the cells and are as they were; with them, and with the window's edges, the value
--- found among places is the reading over times.
+-- The row before place i: the places before it are filled. Both operands' rows stand before the row, so they lie in the cells and are as they were, whatever
+-- stands meanwhile in the row's own places.
 -- Assumes nothing.
 use mathlib.Core.Path.{_≡_, refl}
 use mathlib.Core.List.{List}
-use Prim.Native.Nat.{ℕ, _+_, _*_, _-_, _≤_, _<_}
+use Prim.Native.Nat.{ℕ, _+_, _*_, _-_, _≤_, _<_, max}
 use native.Mathlib.Omega.{arith}
-use lib.IntN.{ℤ}
+use lib.IntN.{ℤ, pos}
 use lib.ListN.{length}
 use Rattle.lists.specs.Fill.{fill}
 use Rattle.lists.proofs.Filled.{earlier-row}
+use Rattle.lists.proofs.Reused.{Reused, reused-none, reused-before, reused-all}
 use Rattle.logic.specs.declared.Stop.the-variants.{Before}
 use Rattle.logic.specs.declared.Window.{Window}
 use Rattle.logic.specs.declared.Extremum.{Extremum}
-use Rattle.logic.specs.Formula.{future}
-use Rattle.logic.specs.Reading.{along, margins}
-use Rattle.logic.proofs.Steps.{along-cong}
-use Rattle.recordings.specs.Distance.{TOP}
-use Rattle.rows.specs.Cells.{cell, Bounded}
-use Rattle.rows.proofs.Kept.{child-kept}
+use Rattle.logic.specs.Formula.{dual, future}
+use Rattle.rows.specs.Cells.{cell}
+use Rattle.sliding.specs.declared.Slide.{Slide}
+use Rattle.sliding.specs.Run.{at-start}
+use Rattle.sliding.specs.Asks.{Sliding}
+use Rattle.sliding.proofs.Moves.{sliding-start}
 use Rattle.temporal.specs.declared.Left.{Left}
 use Rattle.temporal.specs.declared.Left.the-variants.{Row, Absent}
 use Rattle.temporal.specs.Reading.{places, left-at, temporal-at, LeftInside, LeftEarlier}
-use Rattle.temporal.specs.Edges.{Edge}
-use Rattle.temporal.specs.Asks.{TemporalAsks}
-use Rattle.temporal.proofs.Along.{between}
-use Rattle.temporal.proofs.Edges.{edges-inside}
+use Rattle.temporal.specs.Edges.{Reached}
+use Rattle.temporal.specs.Slid.{either, slid-operand}
+use Rattle.temporal.proofs.Edges.{reached-none}
+use Rattle.temporal.proofs.Slid.{either-same}
 
 pub left-inside : (left : Left) (cells n row : ℕ) → LeftEarlier row left → row * n + n ≤ cells → LeftInside cells n left
 left-inside (Row r) cells n row h k = omega (arith, earlier-row r row n h)
 left-inside Absent cells n row h k = tt
 
-module _ (w : List ℤ) {l : List ℤ} (n row m : ℕ) (f : ℕ → ℤ) (room : row * n + n ≤ length w) (e : l ≡ fill (row * n) m f w) where
-  left-kept : (x : Extremum) (left : Left) → LeftEarlier row left → (i : ℕ) → i < n → left-at x l n left i ≡ left-at x w n left i
-  left-kept x (Row r) h i q = child-kept n r row m f (record { earlier = h; room = room }) e i q
-  left-kept x Absent h i q = refl
+pub left-kept : (x : Extremum) (left : Left) (w l : List ℤ) (n row : ℕ) → ((q : ℕ) → q < row → (j : ℕ) → j < n → cell l n q j ≡ cell w n q j) → LeftEarlier row left → (i : ℕ) → i < n → left-at x l n left i ≡ left-at x w n left i
+left-kept x (Row r) w l n row kept h i q = kept r h i q
+left-kept x Absent w l n row kept h i q = refl
 
-  right-kept : (right : ℕ) → right < row → (i : ℕ) → i < n → cell l n right i ≡ cell w n right i
-  right-kept right h i q = child-kept n right row m f (record { earlier = h; room = room }) e i q
+module _ (x : Extremum) (v : Window) (times : List ℕ) (left : Left) (right row : ℕ) (w : List ℤ) where
+  -- the row's values
+  abbrev pub value : ℕ → ℤ
+  value = temporal-at future x v (places times) (left-at x w (length times) left) (cell w (length times) right)
 
-  pub bounded-kept : (right : ℕ) → right < row → Bounded w n right → Bounded l n right
-  bounded-kept right h b = record { bounded = λ i q. rw (right-kept right h i q) (b .bounded i q) }
+  -- before place i: the places before it are filled, the edges are those of the place before, and so is what slides along
+  pub record SoFar (l : List ℤ) (s : Slide) (first end i : ℕ) : Type 0 where
+    pub reused : Reused (row * length times) (length times) value (pos 0) w l i
+    pub begun : Reached times (Before (v .from)) i first
+    pub ended : Reached times (v .stop) i end
+    pub high-is : s .high ≡ either left first end
+    pub sliding : Sliding (either left (dual x) x) (cell w (length times) (slid-operand left right)) (cell l (length times) row) s (either left i (max i first))
 
-pub place-value : {w l : List ℤ} {times : List ℕ} (x : Extremum) (v : Window) (left : Left) (right row i m first end : ℕ) (f : ℕ → ℤ) → TemporalAsks w times left right row → l ≡ fill (row * length times) m f w → Edge times (Before (v .from)) i first → Edge times (v .stop) i end → along (margins TOP) x (between first end) (λ k. i + k) (λ k. left-at x l (length times) left (i + k)) (λ k. cell l (length times) right (i + k)) (length times - i) ≡ temporal-at future x v (places times) (left-at x w (length times) left) (cell w (length times) right) i
-place-value {w} {l} {times} x v left right row i m first end f a e F E =
-    along-cong (margins TOP) x (between first end) v _ _ _ _ _ _ (length times - i)
-    (λ k q. edges-inside v i first end F E (i + k) (omega arith) (omega arith))
-    (λ k q. left-kept w (length times) row m f (a .room) e x left (a .left-earlier) (i + k) (omega arith))
-    (λ k q. right-kept w (length times) row m f (a .room) e right (a .right-earlier) (i + k) (omega arith))
+  pub none-so-far : SoFar w (at-start (either left (dual x) x)) 0 0 0
+  none-so-far = record {
+    reused = reused-none (row * length times) (length times) value (pos 0) w;
+    begun = reached-none (Before (v .from));
+    ended = reached-none (v .stop);
+    high-is = either-same left 0;
+    sliding = sliding-start (either left (dual x) x) (cell w (length times) (slid-operand left right)) (cell w (length times) row) (either left 0 0);
+  }
+
+  -- earlier rows are as they were
+  pub kept : {l : List ℤ} {i : ℕ} → Reused (row * length times) (length times) value (pos 0) w l i → (q : ℕ) → q < row → (j : ℕ) → j < length times → cell l (length times) q j ≡ cell w (length times) q j
+  kept R q h j k = reused-before (row * length times) (length times) value R (q * length times + j) (omega (arith, earlier-row q row (length times) h))
+
+  pub all-so-far : {l : List ℤ} {s : Slide} {first end i : ℕ} → SoFar l s first end i → length times ≤ i → l ≡ fill (row * length times) (length times) value w
+  all-so-far S h = reused-all (row * length times) (length times) value (S .reused) h

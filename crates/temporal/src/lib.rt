@@ -1,17 +1,19 @@
 // The row of until and release, eventually and always, from the rows of its operands. The places of a window are found from those of the place before.
-// Until and release share one loop over them, which carries left's running least (largest) along and stops where nothing later can change the answer;
-// eventually and always share another, which takes right's extremum over the window's places.
+// What an operator takes of one operand alone slides along with the window: right's extremum over it for eventually and always, left's before it for until and
+// release. These two then share one loop over the window, which carries left's extremum along and stops where nothing later can change the answer.
 ghost use mathlib.Core.Path.{_≡_};
 ghost use mathlib.Core.Bool.{true};
-ghost use Prim.Native.Nat.{ℕ, _+_, _*_, _-_, _≤_, _<_, max};
-ghost use lib.ListN.{length, getD};
+ghost use Prim.Native.Nat.{_+_, _*_, _-_, _≤_, _<_, max};
+ghost use lib.ListN.{length};
 ghost use Rattle.lists.specs.Fill.{fill};
 ghost use Rattle.logic.specs.declared.Stop.the-variants.{Before};
 ghost use Rattle.logic.specs.Formula.{dual, future};
-ghost use Rattle.logic.specs.Reading.{extremum, along, margins, margin-extreme};
+ghost use Rattle.logic.specs.Reading.{along, margins, margin-extreme};
 ghost use Rattle.recordings.specs.Distance.{TOP};
 ghost use Rattle.rows.specs.Cells.{cell, Bounded};
-ghost use Rattle.temporal.specs.Reading.{places, left-at, temporal-at, Rising, LeftInside, LeftEarlier};
+ghost use Rattle.sliding.specs.Run.{over};
+ghost use Rattle.temporal.specs.Reading.{places, left-at, temporal-at, Rising, LeftInside};
+ghost use Rattle.temporal.specs.Slid.{either, slid-operand, slid-at};
 ghost use Rattle.temporal.specs.Edges.{Reached, Edge};
 ghost use Rattle.temporal.specs.Asks.{PlaceAsks, TemporalAsks};
 use logic::Extremum;
@@ -60,21 +62,6 @@ fn edge(times: &[u64], i: usize, at: usize, stop: Stop) -> usize
     }
 }
 
-// The largest (least) of a row over the places from `first` up to, not including, `end`.
-fn over_places(rows: usize, e: Extremum, cells: &[i64], row: usize, first: usize, end: usize) -> i64
-    requires { ⌜ (row * rows + rows ≤ length (now cells)) × (end ≤ rows) ⌝ }
-    ensures { λ r. ⌜ r ≡ extremum (margins TOP) e (λ m. cell (now (cells .entry)) rows row (first + m)) (end - first) ⌝ }
-{
-    let mut best = rows::over_nothing(e);
-    let mut j = first;
-    while j < end {
-        let value = rows::cell_at(rows, cells, row, j);
-        best = rows::extreme(e, best, value);
-        j += 1;
-    }
-    best
-}
-
 // Whether the best so far stays the best, `run` being the carried value.
 fn settled(e: Extremum, best: i64, run: i64) -> bool
     ensures { λ r. ⌜ (r ≡ true → margin-extreme e best run ≡ best) ⌝ }
@@ -85,7 +72,7 @@ fn settled(e: Extremum, best: i64, run: i64) -> bool
     }
 }
 
-// Until, or release, at place i, the places of its window being those from `first` up to, not including, `end`.
+// Until, or release, at place i, the places of its window being those from `first` up to, not including, `end`, and `carried` left's extremum before them.
 fn bound_at(
     rows: usize,
     e: Extremum,
@@ -95,16 +82,15 @@ fn bound_at(
     i: usize,
     first: usize,
     end: usize,
+    carried: i64,
 ) -> i64
     requires { ⌜ PlaceAsks (now cells) rows right i first end × (left * rows + rows ≤ length (now cells)) ⌝ }
+    requires { ⌜ carried ≡ over (dual e) (cell (now cells) rows left) i first ⌝ }
     ensures { λ r. ⌜ r ≡ along (margins TOP) e (record { from = first; stop = Before end }) (λ m. i + m) (λ m. cell (now (cells .entry)) rows left (i + m)) (λ m. cell (now (cells .entry)) rows right (i + m)) (rows - i) ⌝ }
 {
     let other = logic::dual(e);
     let mut best = rows::over_nothing(e);
-    if end <= first {
-        return best;
-    }
-    let mut run = over_places(rows, other, cells, left, i, first);
+    let mut run = carried;
     let mut j = first;
     while j < end {
         let r = rows::cell_at(rows, cells, right, j);
@@ -119,7 +105,7 @@ fn bound_at(
     best
 }
 
-// The operator at place i: with no left operand, its extremum over the window's places.
+// The operator at place i: with no left operand, what slides along.
 fn at_place(
     rows: usize,
     e: Extremum,
@@ -129,14 +115,45 @@ fn at_place(
     i: usize,
     first: usize,
     end: usize,
+    slid: i64,
 ) -> i64
     requires { ⌜ PlaceAsks (now cells) rows right i first end × LeftInside (length (now cells)) rows left ⌝ }
-    requires { ⌜ Bounded (now cells) rows right ⌝ }
+    requires { ⌜ Bounded (now cells) rows right × (slid ≡ slid-at e (now cells) rows left right i first end) ⌝ }
     ensures { λ r. ⌜ r ≡ along (margins TOP) e (record { from = first; stop = Before end }) (λ m. i + m) (λ m. left-at e (now (cells .entry)) rows left (i + m)) (λ m. cell (now (cells .entry)) rows right (i + m)) (rows - i) ⌝ }
 {
     match left {
-        Left::Row(operand) => bound_at(rows, e, cells, operand, right, i, first, end),
-        Left::Absent => over_places(rows, e, cells, right, first, end),
+        Left::Row(operand) => bound_at(rows, e, cells, operand, right, i, first, end, slid),
+        Left::Absent => slid,
+    }
+}
+
+// Of two places, the one for until and release, or the one for eventually and always.
+fn either_place(left: Left, bound: usize, lone: usize) -> usize
+    ensures { λ r. ⌜ r ≡ either left bound lone ⌝ }
+{
+    match left {
+        Left::Row(_) => bound,
+        Left::Absent => lone,
+    }
+}
+
+// The operand that slides along: left, or right where there is no left.
+fn slid_operand(left: Left, right: usize) -> usize
+    ensures { λ r. ⌜ r ≡ slid-operand left right ⌝ }
+{
+    match left {
+        Left::Row(operand) => operand,
+        Left::Absent => right,
+    }
+}
+
+// How it is joined: left by the dual.
+fn slid_by(left: Left, e: Extremum) -> Extremum
+    ensures { λ r. ⌜ r ≡ either left (dual e) e ⌝ }
+{
+    match left {
+        Left::Row(_) => logic::dual(e),
+        Left::Absent => e,
     }
 }
 
@@ -158,13 +175,19 @@ pub fn temporal_row(
     let from = window.from;
     let begin = Stop::Before(from);
     let stop = window.stop;
+    let operand = slid_operand(left, right);
+    let by = slid_by(left, e);
+    let mut slide = sliding::start(by);
     let mut first = 0;
     let mut end = 0;
     let mut i = 0;
     while i < rows {
         first = edge(times, i, first, begin);
         end = edge(times, i, end, stop);
-        work[base + i] = at_place(rows, e, work, left, right, i, first, end);
+        let low = either_place(left, i, first);
+        let high = either_place(left, first, end);
+        slide = sliding::moved(rows, by, work, operand, row, slide, low, high);
+        work[base + i] = at_place(rows, e, work, left, right, i, first, end, slide.value);
         i += 1;
     }
 }

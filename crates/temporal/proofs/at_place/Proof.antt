@@ -1,38 +1,41 @@
--- Each operand by itself: until and release of two rows, or the extremum of one.
+-- Each operand by itself: until and release of two rows, or what slides along of one.
 -- Assumes nothing.
 use mathlib.Core.Path.{sym, ap, _∙_, subst}
 use Prim.Native.Nat.{_+_, _-_}
 use borrow.Author.Needs.{needs}
 use lib.IntN.{ℤ}
 use lib.ListN.{length}
-use Rattle.numbers.proofs.Bits.{back-ok}
+use Rattle.numbers.proofs.Bits.{back-ok, back-is}
 use Rattle.logic.specs.Reading.{along, margins}
 use Rattle.recordings.specs.Distance.{TOP}
 use Rattle.rows.specs.Cells.{cell}
 use Rattle.temporal.specs.declared.Left.{Left}
 use Rattle.temporal.specs.Reading.{left-at, LeftInside}
+use Rattle.temporal.specs.Slid.{slid-at}
 use Rattle.temporal.proofs.Along.{between, lone}
 use Rattle.temporal.proofs.at_place.Statement.{statement}
 use Rattle.temporal.proofs.at_place.Tie as tie
 
--- the reading with a given left operand
+-- the reading with a given left operand, and what slides along with it
 abbrev reading : tie.Start → Left → ℤ
 reading s x =
     along (margins TOP) (s .args .e) (between (s .args .first) (s .args .end)) (λ m. s .args .i + m) (λ m. left-at (s .args .e) (s .args .cells .now) (s .args .rows) x (s .args .i + m)) (λ m. cell (s .args .cells .now) (s .args .rows) (s .args .right) (s .args .i + m)) (s .args .rows - s .args .i)
+
+abbrev sliding : tie.Start → Left → ℤ
+sliding s x = slid-at (s .args .e) (s .args .cells .now) (s .args .rows) x (s .args .right) (s .args .i) (s .args .first) (s .args .end)
 
 enum-known-left : tie.Need-enum-known-left
 enum-known-left c = search needs
 
 bound-at-requires : tie.Need-bound-at-requires
 bound-at-requires c κs =
-    let s = c .before .before .before in
-    (s .pre .0 .0, subst (LeftInside (length (s .args .cells .now)) (s .args .rows)) (c .before .left .given .1) (s .pre .0 .1))
+    let s = c .before .before .before in (
+      (s .pre .0 .0, subst (LeftInside (length (s .args .cells .now)) (s .args .rows)) (c .before .left .given .1) (s .pre .0 .1)),
+      back-is (s .fits .slid) ∙ s .pre .1 .1 ∙ ap (sliding s) (c .before .left .given .1),
+    )
 
 enum-told : tie.Need-enum-told
 enum-told c = search needs
-
-over-places-requires : tie.Need-over-places-requires
-over-places-requires c κs = let s = c .before .before in (s .pre .0 .0 .right-inside, s .pre .0 .0 .end-inside)
 
 returns : tie.Need-returns
 returns c =
@@ -41,13 +44,11 @@ returns c =
 
 returns-2 : tie.Need-returns-2
 returns-2 c =
-    let s = c .before .before .before in
+    let s = c .before .before in
     let p = s .pre .0 .0 in
-    back-ok (c .over-places .result) (c .over-places .ok) ∙ c .over-places .ensures
-    ∙ sym (lone (s .args .first) (s .args .end) TOP (s .args .e) (cell (s .args .cells .now) (s .args .rows) (s .args .right)) (s .args .i) (s .args .rows) (s .pre .1 .bounded) (p .from) (p .end-inside) (p .first-inside))
-    ∙ sym (ap (reading s) (c .before .enum-told .given .1))
+    back-is (s .fits .slid) ∙ s .pre .1 .1 ∙ ap (sliding s) (c .enum-told .given .1)
+    ∙ sym (lone (s .args .first) (s .args .end) (s .args .e) (cell (s .args .cells .now) (s .args .rows) (s .args .right)) (s .args .i) (s .args .rows) (s .pre .1 .0 .bounded) (p .from) (p .end-inside) (p .first-inside))
+    ∙ sym (ap (reading s) (c .enum-told .given .1))
 
 pub at-place-spec : {M : Type 1} → statement M
-at-place-spec =
-    tie.close
-    (tie.spec enum-known-left bound-at-requires enum-told over-places-requires returns returns-2)
+at-place-spec = tie.close (tie.spec enum-known-left bound-at-requires enum-told returns returns-2)

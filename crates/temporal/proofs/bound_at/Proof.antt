@@ -1,40 +1,40 @@
 -- The loop's invariant: `best` and `run` are what the places from i up to j give. Before the window there is nothing, after it nothing is added, and
 -- where the carried value is beaten nothing later counts.
 -- Assumes nothing.
-use mathlib.Core.Path.{_≡_, sym, ap, ap₂, _∙_}
-use Prim.Native.Nat.{ℕ, _+_, _-_, _≤_}
+use mathlib.Core.Path.{_≡_, sym, ap₂, _∙_}
+use Prim.Native.Nat.{ℕ, _+_, _-_, _≤_, max}
 use native.Mathlib.Omega.{arith}
 use borrow.Author.Needs.{needs}
 use mathlib.Core.List.{List}
 use lib.IntN.{ℤ}
 use mir.Syntax.{w64}
 use mir.Val.{toZ}
-use Rattle.numbers.proofs.Bits.{back, back-ok}
+use Rattle.numbers.proofs.Bits.{back, back-ok, back-is}
 use Rattle.recordings.specs.Distance.{TOP}
 use Rattle.rows.specs.Cells.{cell}
 use Rattle.logic.specs.declared.Extremum.{Extremum}
 use Rattle.logic.specs.Formula.{dual}
-use Rattle.logic.specs.Reading.{extremum, margins, margin-extreme, margin-nothing}
-use Rattle.temporal.proofs.Along.{best, run as carry, best-first, best-empty, best-end, best-settled, turn-run, turn-best}
+use Rattle.logic.specs.Reading.{margin-extreme, margin-nothing}
+use Rattle.temporal.proofs.Along.{best, run as carry, best-first, best-end, best-settled, turn-run, turn-best}
 use Rattle.temporal.proofs.bound_at.Statement.{statement}
 use Rattle.temporal.proofs.bound_at.Tie as tie
 
 abbrev best-at : ℕ → Extremum → List ℤ → ℕ → ℕ → ℕ → ℕ → ℕ → ℕ → ℤ
-best-at rows e cells left right i first end j = best first end TOP e (cell cells rows left) (cell cells rows right) i j
+best-at rows e cells left right i first end j = best first end e (cell cells rows left) (cell cells rows right) i j
 
 abbrev run-at : ℕ → Extremum → List ℤ → ℕ → ℕ → ℕ → ℕ → ℕ → ℕ → ℤ
-run-at rows e cells left right i first end j = carry first end TOP e (cell cells rows left) (cell cells rows right) i j
+run-at rows e cells left right i first end j = carry first end e (cell cells rows left) (cell cells rows right) i j
 
 abbrev Inv-loop : tie.InvT-loop
-Inv-loop rows e cells left right i first end other best₀ run₀ j₀ best run j =
+Inv-loop rows e cells left right i first end carried other best₀ run₀ j₀ best run j =
     (i ≤ j)
     × (first ≤ j)
-    × (j ≤ end)
+    × (j ≤ max first end)
     × (toZ w64 best ≡ best-at rows e cells left right i first end j)
     × (toZ w64 run ≡ run-at rows e cells left right i first end j)
 
 abbrev μ-loop : tie.MeasureT-loop
-μ-loop rows e cells left right i first end other best₀ run₀ j₀ best run j = end - j
+μ-loop rows e cells left right i first end carried other best₀ run₀ j₀ best run j = end - j
 
 abbrev left : tie.Start Inv-loop μ-loop → ℕ → ℤ
 left s = cell (s .args .cells .now) (s .args .rows) (s .args .left)
@@ -49,10 +49,10 @@ abbrev run-to : tie.Start Inv-loop μ-loop → ℕ → ℤ
 run-to s j = run-at (s .args .rows) (s .args .e) (s .args .cells .now) (s .args .left) (s .args .right) (s .args .i) (s .args .first) (s .args .end) j
 
 abbrev start : tie.At-loop Inv-loop μ-loop → tie.Start Inv-loop μ-loop
-start c = c .before .before .before .before .before
+start c = c .before .before .before
 
-other-dual : (c : tie.At-loop Inv-loop μ-loop) → c .before .before .before .before .dual .result ≡ dual (start c .args .e)
-other-dual c = c .before .before .before .before .dual .ensures
+other-dual : (c : tie.At-loop Inv-loop μ-loop) → c .before .before .dual .result ≡ dual (start c .args .e)
+other-dual c = c .before .before .dual .ensures
 
 -- what a turn leaves
 turned-best : (c : tie.After-extreme3 Inv-loop μ-loop) → back (c .before .extreme2 .result) ≡ best-to (start (c .before .before .before .before .before .before)) (c .before .before .before .before .before .before .loop .j + 1)
@@ -63,7 +63,7 @@ turned-best c =
     let x = c .before .before .before .before .cell-at in
     let u = c .before .before .extreme in
     let v = c .before .extreme2 in
-    turn-best (s .args .first) (s .args .end) TOP (s .args .e) (left s) (right s) (s .args .i) (l .loop .j) (other-dual l) (h .0) (h .1) (c .before .before .before .before .before .loop-test .taken) (h .3) (h .4) (back-ok (x .result) (x .ok) ∙ x .ensures) (u .ensures) (back-ok (u .result) (u .ok)) (v .ensures) (back-ok (v .result) (v .ok))
+    turn-best (s .args .first) (s .args .end) (s .args .e) (left s) (right s) (s .args .i) (l .loop .j) (other-dual l) (h .0) (h .1) (c .before .before .before .before .before .loop-test .taken) (h .3) (h .4) (back-ok (x .result) (x .ok) ∙ x .ensures) (u .ensures) (back-ok (u .result) (u .ok)) (v .ensures) (back-ok (v .result) (v .ok))
 
 turned-run : (c : tie.After-extreme3 Inv-loop μ-loop) → back (c .extreme3 .result) ≡ run-to (start (c .before .before .before .before .before .before)) (c .before .before .before .before .before .before .loop .j + 1)
 turned-run c =
@@ -71,7 +71,7 @@ turned-run c =
     let s = start l in
     let h = l .loop .inv in
     let x = c .before .before .before .cell-at2 in
-    turn-run TOP (s .args .e) (left s) (s .args .i) (l .loop .j) (other-dual l) (h .0) (h .4) (back-ok (x .result) (x .ok) ∙ x .ensures) (c .extreme3 .ensures) (back-ok (c .extreme3 .result) (c .extreme3 .ok))
+    turn-run (s .args .e) (left s) (s .args .i) (l .loop .j) (other-dual l) (h .0) (h .4) (back-ok (x .result) (x .ok) ∙ x .ensures) (c .extreme3 .ensures) (back-ok (c .extreme3 .result) (c .extreme3 .ok))
 
 dual-requires : tie.Need-dual-requires Inv-loop μ-loop
 dual-requires c κs = search needs
@@ -79,27 +79,17 @@ dual-requires c κs = search needs
 over-nothing-requires : tie.Need-over-nothing-requires Inv-loop μ-loop
 over-nothing-requires c κs = search needs
 
-returns : tie.Need-returns Inv-loop μ-loop
-returns c =
-    let s = c .before .before .before in
-    let v = c .before .over-nothing in
-    back-ok (v .result) (v .ok) ∙ v .ensures ∙ sym (best-empty (s .args .first) (s .args .end) TOP (s .args .e) (left s) (right s) (s .args .i) (s .args .rows) (c .if1 .taken))
-
-over-places-requires : tie.Need-over-places-requires Inv-loop μ-loop
-over-places-requires c κs = let s = c .before .before .before in (s .pre .1, s .pre .0 .first-inside)
-
 loop-holds : tie.Need-loop-holds Inv-loop μ-loop
 loop-holds c =
-    let s = c .before .before .before .before in
-    let v = c .before .before .over-nothing in
-    let n : best-to s (s .args .first) ≡ margin-nothing TOP (s .args .e) = best-first (s .args .first) (s .args .end) TOP (s .args .e) (left s) (right s) (s .args .i) (s .args .first) (omega arith) in
-    (s .pre .0 .from, omega arith, omega arith, back-ok (v .result) (v .ok) ∙ v .ensures ∙ sym n, back-ok (c .over-places .result) (c .over-places .ok) ∙ c .over-places .ensures ∙ ap (λ (x : Extremum). extremum (margins TOP) x (λ m. left s (s .args .i + m)) (s .args .first - s .args .i)) (c .before .before .before .dual .ensures))
+    let s = c .before .before in
+    let n : best-to s (s .args .first) ≡ margin-nothing TOP (s .args .e) = best-first (s .args .first) (s .args .end) (s .args .e) (left s) (right s) (s .args .i) (s .args .first) (omega arith) in
+    (s .pre .0 .0 .from, omega arith, omega arith, back-ok (c .over-nothing .result) (c .over-nothing .ok) ∙ c .over-nothing .ensures ∙ sym n, back-is (s .fits .carried) ∙ s .pre .1)
 
 cell-at-requires : tie.Need-cell-at-requires Inv-loop μ-loop
-cell-at-requires c κs = let s = c .before .before .before .before .before .before in omega (arith, s .pre .0 .right-inside, s .pre .0 .end-inside)
+cell-at-requires c κs = let s = start (c .before) in omega (arith, s .pre .0 .0 .right-inside, s .pre .0 .0 .end-inside)
 
 cell-at-requires-2 : tie.Need-cell-at-requires-2 Inv-loop μ-loop
-cell-at-requires-2 c κs = let s = c .before .before .before .before .before .before .before in omega (arith, s .pre .1, s .pre .0 .end-inside)
+cell-at-requires-2 c κs = let s = start (c .before .before) in omega (arith, s .pre .0 .1, s .pre .0 .0 .end-inside)
 
 extreme-requires : tie.Need-extreme-requires Inv-loop μ-loop
 extreme-requires c κs = search needs
@@ -113,8 +103,8 @@ extreme-requires-3 c κs = search needs
 settled-requires : tie.Need-settled-requires Inv-loop μ-loop
 settled-requires c κs = search needs
 
-returns-2 : tie.Need-returns-2 Inv-loop μ-loop
-returns-2 c =
+returns : tie.Need-returns Inv-loop μ-loop
+returns c =
     let t = c .before .before in
     let l = t .before .before .before .before .before .before in
     let s = start l in
@@ -122,8 +112,8 @@ returns-2 c =
     let p = turned-best t in
     let q = turned-run t in
     p
-    ∙ sym (best-settled (s .args .first) (s .args .end) TOP (s .args .e) (left s) (right s) (s .args .i) (l .loop .j + 1) (s .args .rows) (omega arith) (omega (arith, s .pre .0 .end-inside))
-    (sym (ap₂ (margin-extreme (s .args .e)) p q) ∙ c .before .settled .ensures (c .if2 .taken) ∙ p))
+    ∙ sym (best-settled (s .args .first) (s .args .end) (s .args .e) (left s) (right s) (s .args .i) (l .loop .j + 1) (s .args .rows) (omega arith) (omega (arith, s .pre .0 .0 .end-inside))
+    (sym (ap₂ (margin-extreme (s .args .e)) p q) ∙ c .before .settled .ensures (c .if1 .taken) ∙ p))
 
 add-j : tie.Need-add-j Inv-loop μ-loop
 add-j c = omega arith
@@ -134,11 +124,11 @@ loop-less c = omega arith
 loop-again : tie.Need-loop-again Inv-loop μ-loop
 loop-again c = (omega arith, omega arith, omega arith, turned-best (c .before .before), turned-run (c .before .before))
 
-returns-3 : tie.Need-returns-3 Inv-loop μ-loop
-returns-3 c =
+returns-2 : tie.Need-returns-2 Inv-loop μ-loop
+returns-2 c =
     let s = start (c .before) in
     let h = c .before .loop .inv in
-    h .3 ∙ sym (best-end (s .args .first) (s .args .end) TOP (s .args .e) (left s) (right s) (s .args .i) (c .before .loop .j) (s .args .rows) (h .0) (omega (arith, s .pre .0 .end-inside)) (c .loop-test .left))
+    h .3 ∙ sym (best-end (s .args .first) (s .args .end) (s .args .e) (left s) (right s) (s .args .i) (c .before .loop .j) (s .args .rows) (h .0) (omega (arith, s .pre .0 .0 .end-inside)) (c .loop-test .left))
 
 pub bound-at-spec : {M : Type 1} → statement M
 bound-at-spec =
@@ -148,8 +138,6 @@ bound-at-spec =
     μ-loop
     dual-requires
     over-nothing-requires
-    returns
-    over-places-requires
     loop-holds
     cell-at-requires
     cell-at-requires-2
@@ -157,8 +145,8 @@ bound-at-spec =
     extreme-requires-2
     extreme-requires-3
     settled-requires
-    returns-2
+    returns
     add-j
     loop-less
     loop-again
-    returns-3)
+    returns-2)

@@ -1,96 +1,140 @@
--- The loop's invariant is the contract for the first i places, and the edges found for the place before are reached from place i too.
+-- The loop's invariant is `SoFar`: the first i places are filled, and the edges and what slides along are those of the place before.
 -- Assumes nothing.
 use mathlib.Core.Path.{_≡_, refl, _∙_}
-use Prim.Native.Nat.{_*_, _-_, _≤_}
+use Prim.Native.Nat.{_-_, _≤_}
 use native.Mathlib.Omega.{arith}
+use borrow.Author.Needs.{needs}
 use lib.ListN.{length, length-set}
-use Rattle.numbers.proofs.Bits.{back-ok}
-use Rattle.lists.specs.Fill.{fill}
-use Rattle.lists.proofs.Filled.{fill-none, fill-next, fill-to, earlier-row}
-use Rattle.logic.specs.declared.Stop.the-variants.{Before}
-use Rattle.logic.specs.Formula.{future}
-use Rattle.rows.specs.Cells.{cell}
-use Rattle.temporal.specs.Reading.{places, left-at, temporal-at}
-use Rattle.temporal.specs.Edges.{Reached}
-use Rattle.temporal.proofs.Edges.{reached-none, reached-next}
-use Rattle.temporal.proofs.Row.{left-inside, bounded-kept, place-value}
+use mir.Syntax.{w64}
+use mir.Val.{SFits}
+use Rattle.numbers.proofs.Bits.{back-ok, back-is}
+use Rattle.temporal.proofs.Row.{SoFar, none-so-far, all-so-far}
+use Rattle.temporal.proofs.Turn.{Turn, move-asks, moved-length, place-asks, right-bounded, slid-value, place-value, next-so-far}
 use Rattle.temporal.proofs.temporal_row.Statement.{statement}
 use Rattle.temporal.proofs.temporal_row.Tie as tie
 
 abbrev Inv-loop : tie.InvT-loop
-Inv-loop times e work₀ left right row rows base from begin stop first₀ end₀ i₀ work first end i =
+Inv-loop times e work₀ left right row rows base from begin stop operand by slide₀ first₀ end₀ i₀ work slide first end i =
     (i ≤ rows)
-    × (work ≡ fill (row * rows) i (temporal-at future e (record { from = from; stop = stop }) (places times) (left-at e work₀ rows left) (cell work₀ rows right)) work₀)
     × (length work ≡ length work₀)
-    × Reached times (Before from) i first
-    × Reached times stop i end
+    × SoFar e (record { from = from; stop = stop }) times left right row work₀ work slide first end i
 
 abbrev μ-loop : tie.MeasureT-loop
-μ-loop times e work₀ left right row rows base from begin stop first₀ end₀ i₀ work first end i = rows - i
+μ-loop times e work₀ left right row rows base from begin stop operand by slide₀ first₀ end₀ i₀ work slide first end i = rows - i
+
+abbrev entry : tie.At-loop Inv-loop μ-loop → tie.Start Inv-loop μ-loop
+entry c = c .before .before .before .before .before
 
 mul-base : tie.Need-mul-base Inv-loop μ-loop
 mul-base c = omega (arith, c .before .pre .room)
 
+slid-operand-requires : tie.Need-slid-operand-requires Inv-loop μ-loop
+slid-operand-requires c κs = search needs
+
+slid-by-requires : tie.Need-slid-by-requires Inv-loop μ-loop
+slid-by-requires c κs = search needs
+
+start-requires : tie.Need-start-requires Inv-loop μ-loop
+start-requires c κs = search needs
+
 loop-holds : tie.Need-loop-holds Inv-loop μ-loop
-loop-holds c = (omega arith, fill-none _ _ _, refl, reached-none _, reached-none _)
+loop-holds c =
+    let s = c .before .before .before .before in
+    (omega arith, refl, rw (c .start .ensures, c .before .slid-by .ensures) (none-so-far (s .args .e) _ (s .args .times .now) (s .args .left) (s .args .right) (s .args .row) (s .args .work .now)))
 
 edge-requires : tie.Need-edge-requires Inv-loop μ-loop
-edge-requires c κs = let s = c .before .before .before in (s .pre .times-rise, (c .loop-test .taken, c .before .loop .inv .3))
+edge-requires c κs = let s = entry (c .before) in (s .pre .times-rise, (c .loop-test .taken, c .before .loop .inv .2 .begun))
 
 edge-requires-2 : tie.Need-edge-requires-2 Inv-loop μ-loop
-edge-requires-2 c κs = let s = c .before .before .before .before in (s .pre .times-rise, (c .before .loop-test .taken, c .before .before .loop .inv .4))
+edge-requires-2 c κs = let s = entry (c .before .before) in (s .pre .times-rise, (c .before .loop-test .taken, c .before .before .loop .inv .2 .ended))
+
+either-place-requires : tie.Need-either-place-requires Inv-loop μ-loop
+either-place-requires c κs = search needs
+
+either-place-requires-2 : tie.Need-either-place-requires-2 Inv-loop μ-loop
+either-place-requires-2 c κs = search needs
+
+-- a turn up to its move
+abbrev loop : tie.After-either-place2 Inv-loop μ-loop → tie.At-loop Inv-loop μ-loop
+loop t = t .before .before .before .before .before
+
+turn : (t : tie.After-either-place2 Inv-loop μ-loop) → let l = loop t in let s = entry l in Turn (s .args .e) (s .args .window) (s .args .times .now) (s .args .left) (s .args .right) (s .args .row) (s .args .work .now) (l .loop .work) (l .loop .slide) (l .loop .i) (t .before .before .before .edge .result) (t .before .before .edge2 .result) (l .before .before .before .slid-operand .result) (l .before .before .slid-by .result) (t .before .either-place .result) (t .either-place2 .result)
+turn t =
+    let l = loop t in
+    record {
+      first-before = l .loop .first;
+      end-before = l .loop .end;
+      so-far = l .loop .inv .2;
+      inside = t .before .before .before .before .loop-test .taken;
+      first-edge = t .before .before .before .edge .ensures;
+      end-edge = t .before .before .edge2 .ensures;
+      operand-is = l .before .before .before .slid-operand .ensures;
+      by-is = l .before .before .slid-by .ensures;
+      low-is = t .before .either-place .ensures;
+      high-is = t .either-place2 .ensures;
+    }
+
+moved-requires : tie.Need-moved-requires Inv-loop μ-loop
+moved-requires c κs = move-asks (entry (loop (c .before)) .pre) (turn (c .before))
 
 at-place-requires : tie.Need-at-place-requires Inv-loop μ-loop
 at-place-requires c κs =
-    let s = c .before .before .before .before .before .before in
-    let l : length (c .before .before .before .before .loop .work) ≡ length (s .args .work .now) = c .before .before .before .before .loop .inv .2 in
-    let h = c .before .before .before .before .loop .inv in
-    let n = length (s .args .times .now) in (
-      (
-        record {
-          right-inside = omega (arith, s .pre .room, earlier-row (s .args .right) (s .args .row) n (s .pre .right-earlier));
-          from = c .before .before .edge .ensures .from;
-          first-inside = c .before .before .edge .ensures .short .in-times;
-          end-inside = c .before .edge2 .ensures .short .in-times;
-        },
-        left-inside (s .args .left) _ n (s .args .row) (s .pre .left-earlier) (omega (arith, s .pre .room)),
-      ),
-      bounded-kept (s .args .work .now) n (s .args .row) _ _ (s .pre .room) (h .1) (s .args .right) (s .pre .right-earlier) (s .pre .right-bounded),
+    let m = c .before .before .before in
+    let t = m .before .before in
+    let a = entry (loop t) .pre in
+    let e = m .moved .ensures in
+    let f : SFits w64 (m .moved .result .value) = record { sfits = c .struct-told .given .1 .1 .1 .0 .1 } in (
+      place-asks a (turn t) (e .0) (e .1),
+      (right-bounded a (turn t) (e .0) (e .1), back-is f ∙ slid-value a (turn t) (e .0) (e .1)),
     )
 
-add-t20 : tie.Need-add-t20 Inv-loop μ-loop
-add-t20 c = omega arith
+-- a turn up to its store: place i of the row lies in the cells, whose count fits
+abbrev move : tie.After-at-place Inv-loop μ-loop → tie.After-moved Inv-loop μ-loop
+move c = c .before .before .before .before
 
-mul-t21 : tie.Need-mul-t21 Inv-loop μ-loop
-mul-t21 c = omega arith
+add-t27 : tie.Need-add-t27 Inv-loop μ-loop
+add-t27 c =
+    let t = move c .before .before in
+    let s = entry (loop t) in
+    omega (arith, s .pre .room, s .good .1 .1 .1 .0, turn t .inside)
+
+mul-t28 : tie.Need-mul-t28 Inv-loop μ-loop
+mul-t28 c =
+    let t = move c .before .before in
+    let s = entry (loop t) in
+    omega (arith, s .pre .room, s .good .1 .1 .1 .0, turn t .inside)
 
 slice-set-from-work : tie.Need-slice-set-from-work Inv-loop μ-loop
-slice-set-from-work c = omega arith
+slice-set-from-work c =
+    let t = move c .before .before in
+    let s = entry (loop t) in
+    let e = move c .moved .ensures in
+    omega (arith, s .pre .room, moved-length (s .pre) (turn t) (e .0) (e .1), turn t .inside)
 
 add-i : tie.Need-add-i Inv-loop μ-loop
-add-i c = omega arith
+add-i c = let t = move c .before .before in omega (arith, entry (loop t) .good .0, turn t .inside)
 
 loop-less : tie.Need-loop-less Inv-loop μ-loop
 loop-less c = omega arith
 
 loop-again : tie.Need-loop-again Inv-loop μ-loop
 loop-again c =
-    let s = c .before .before .before .before .before .before .before in
-    let h = c .before .before .before .before .before .loop .inv in
-    let F = c .before .before .before .edge .ensures in
-    let E = c .before .before .edge2 .ensures in (
-      omega arith,
-      fill-next _ _ _ _ (h .1) (back-ok (c .at-place .result) (c .at-place .ok) ∙ c .at-place .ensures ∙ place-value (s .args .e) _ (s .args .left) (s .args .right) (s .args .row) _ _ _ _ _ (s .pre) (h .1) F E),
-      simp length-set (h .2),
-      reached-next (s .pre .times-rise) _ _ _ (F .short),
-      reached-next (s .pre .times-rise) _ _ _ (E .short),
+    let t = move c .before .before in
+    let a = entry (loop t) .pre in
+    let e = move c .moved .ensures in
+    let v = c .at-place in (
+      omega (arith, turn t .inside),
+      simp length-set (moved-length a (turn t) (e .0) (e .1)),
+      next-so-far a (turn t) (e .0) (e .1) (back-ok (v .result) (v .ok) ∙ v .ensures ∙ place-value a (turn t) (e .0) (e .1)),
     )
 
 same-length : tie.Need-same-length Inv-loop μ-loop
 same-length c = omega arith
 
 returns : tie.Need-returns Inv-loop μ-loop
-returns c = let e : c .before .loop .i ≡ length (c .before .before .before .args .times .now) = omega arith in fill-to _ _ _ e (c .before .loop .inv .1)
+returns c =
+    let s = entry (c .before) in
+    all-so-far (s .args .e) _ (s .args .times .now) (s .args .left) (s .args .right) (s .args .row) (s .args .work .now) (c .before .loop .inv .2) (c .loop-test .left)
 
 pub temporal-row-spec : {M : Type 1} → statement M
 temporal-row-spec =
@@ -99,12 +143,18 @@ temporal-row-spec =
     Inv-loop
     μ-loop
     mul-base
+    slid-operand-requires
+    slid-by-requires
+    start-requires
     loop-holds
     edge-requires
     edge-requires-2
+    either-place-requires
+    either-place-requires-2
+    moved-requires
     at-place-requires
-    add-t20
-    mul-t21
+    add-t27
+    mul-t28
     slice-set-from-work
     add-i
     loop-less
