@@ -1,4 +1,4 @@
-//! Times the proved margin and verdict against plain Rust of the same algorithm, checks that every cell is equal, and prints the ratios.
+//! Times the proved margin and verdict beside plain Rust of the same algorithm, checks that every result and every cell is equal, and prints the ratios.
 
 #[path = "../rust/src/names.rs"]
 #[allow(dead_code)]
@@ -10,7 +10,12 @@ mod timing;
 use flat::{flat_nodes, flat_predicates};
 use names::Call;
 use plain::{Card, Node, Predicate, Range, NO_END};
+use std::fmt;
 use timing::{seconds, Random};
+
+const STEP: u64 = 3;
+/// Any two values obey it.
+const DRIFT: u64 = 1_000_000_000;
 
 /// A table and its predicates as flat numbers.
 struct Flat {
@@ -36,62 +41,133 @@ fn call<'a>(f: &'a Flat, count: usize, card: &Card<'a>) -> Call<'a> {
     }
 }
 
-fn proved(f: &Flat, count: usize, card: &Card, work: &mut [i64]) -> Option<i64> {
-    let mut result = [0; 1];
-    let number = names::margin(&call(f, count, card), work, &mut result);
-    (number == 0).then_some(result[0])
-}
+/// A margin, or hold and fail.
+type Found = Option<(i64, i64)>;
 
-fn proved_verdict(f: &Flat, count: usize, card: &Card, step: u64, drift: u64, work: &mut [i64]) -> Option<(i64, i64)> {
+fn proved(verdict: bool, f: &Flat, count: usize, card: &Card, work: &mut [i64]) -> Found {
+    let call = call(f, count, card);
     let mut result = [0; 3];
-    let number = names::verdict(&call(f, count, card), step, drift, work, &mut result);
-    (number == 0).then_some((result[1], result[2]))
-}
-
-/// Best times of two functions, taken in turn, that must answer the same and leave the same cells.
-fn compare<T: PartialEq>(cells: usize, mut ours: impl FnMut(&mut [i64]) -> Option<T>, mut theirs: impl FnMut(&mut [i64]) -> Option<T>) -> (f64, f64) {
-    let mut a = vec![0; cells + 3];
-    let mut b = a.clone();
-    let (mut best, mut plain) = (f64::MAX, f64::MAX);
-    for _ in 0..9 {
-        let (mut x, mut y) = (None, None);
-        best = best.min(seconds(|| x = ours(&mut a)));
-        plain = plain.min(seconds(|| y = theirs(&mut b)));
-        assert!(x.is_some() && x == y && a == b, "results differ");
+    if verdict {
+        (names::verdict(&call, STEP, DRIFT, work, &mut result) == 0).then_some((result[1], result[2]))
+    } else {
+        (names::margin(&call, work, &mut result) == 0).then_some((result[0], 0))
     }
-    (best, plain)
 }
 
-/// What is timed: a table's margin or its verdict over a recording.
+/// Plain Rust of the library's algorithm.
+fn plain(verdict: bool, nodes: &[Node], card: &Card, work: &mut [i64]) -> Found {
+    if verdict {
+        plain::verdict(nodes, card, STEP, DRIFT, work)
+    } else {
+        plain::margin(nodes, card, work).map(|margin| (margin, 0))
+    }
+}
+
+/// The plain loop.
+fn afresh(verdict: bool, nodes: &[Node], card: &Card, work: &mut [i64]) -> Found {
+    if verdict {
+        plain::verdict_afresh(nodes, card, STEP, DRIFT, work)
+    } else {
+        plain::margin_afresh(nodes, card, work).map(|margin| (margin, 0))
+    }
+}
+
+/// What a recording's values are, row by row.
+#[derive(Clone, Copy)]
+enum Values {
+    Equal(i64),
+    Rising,
+    Falling,
+    Random,
+    /// Random, ever closer to 0.
+    Narrowing,
+}
+
+impl Values {
+    fn at(self, row: usize, rows: usize, random: &mut Random) -> i64 {
+        match self {
+            Values::Equal(value) => value,
+            Values::Rising => row as i64 * 1_000 - 2_000_000,
+            Values::Falling => 2_000_000 - row as i64 * 1_000,
+            Values::Random => random.value(),
+            Values::Narrowing => random.value() / rows as i64 * (rows - row) as i64,
+        }
+    }
+}
+
+impl fmt::Display for Values {
+    fn fmt(&self, f: &mut fmt::Formatter) -> fmt::Result {
+        match self {
+            Values::Equal(value) => write!(f, "all values {value}"),
+            Values::Rising => write!(f, "rising values"),
+            Values::Falling => write!(f, "falling values"),
+            Values::Random => write!(f, "random values"),
+            Values::Narrowing => write!(f, "narrowing values"),
+        }
+    }
+}
+
+/// Best times in seconds, each without end until it is measured.
+struct Best {
+    proved: f64,
+    plain: f64,
+    afresh: f64,
+}
+
+/// What is timed: a table's margin or its verdict over a recording of two channels.
 struct Case {
     name: String,
     nodes: Vec<Node>,
     times: Vec<u64>,
     values: Vec<i64>,
     verdict: bool,
-    best: (f64, f64),
+    /// Whether the plain loop is timed too.
+    beside_afresh: bool,
+    best: Best,
 }
 
 impl Case {
-    fn new(name: String, nodes: &[Node], rows: usize, mut value: impl FnMut() -> i64, verdict: bool) -> Case {
-        let (times, values) = ((0..rows as u64).collect(), (0..2 * rows).map(|_| value()).collect());
-        Case { name, nodes: nodes.to_vec(), times, values, verdict, best: (f64::MAX, f64::MAX) }
+    fn new(what: &str, nodes: &[Node], rows: usize, kind: Values, random: &mut Random) -> Case {
+        let values = (0..2 * rows).map(|place| kind.at(place / 2, rows, random)).collect();
+        Case {
+            name: format!("{what}, {kind}"),
+            nodes: nodes.to_vec(),
+            times: (0..rows as u64).collect(),
+            values,
+            verdict: false,
+            beside_afresh: false,
+            best: Best { proved: f64::INFINITY, plain: f64::INFINITY, afresh: f64::INFINITY },
+        }
     }
 
+    /// One round: the library and plain Rust in turn, several times. They must answer the same and leave the same cells.
     fn time(&mut self, predicates: &[Predicate; 16]) {
-        let (nodes, f) = (&self.nodes, flat(&self.nodes, predicates));
+        let (nodes, f) = (&self.nodes[..], flat(&self.nodes, predicates));
         let card = Card { predicates, channels: 2, times: &self.times, values: &self.values };
-        let (n, rows) = (nodes.len(), card.times.len());
-        let (ours, theirs) = if self.verdict {
-            compare(2 * n * rows, |w| proved_verdict(&f, n, &card, 3, 1_000_000_000, w), |w| plain::verdict(nodes, &card, 3, 1_000_000_000, w))
-        } else {
-            compare(n * rows, |w| proved(&f, n, &card, w), |w| plain::margin(nodes, &card, w))
-        };
-        self.best = (self.best.0.min(ours), self.best.1.min(theirs));
+        let (n, verdict, best) = (nodes.len(), self.verdict, &mut self.best);
+        let mut a = vec![0; (1 + usize::from(verdict)) * n * card.times.len() + 3];
+        let mut b = a.clone();
+        for _ in 0..9 {
+            let (mut x, mut y) = (None, None);
+            best.proved = best.proved.min(seconds(|| x = proved(verdict, &f, n, &card, &mut a)));
+            best.plain = best.plain.min(seconds(|| y = plain(verdict, nodes, &card, &mut b)));
+            assert!(x.is_some() && x == y && a == b, "results differ: {}", self.name);
+        }
+        if self.beside_afresh {
+            // once: it is slow
+            let (mut y, mut b) = (None, vec![0; a.len()]);
+            best.afresh = best.afresh.min(seconds(|| y = afresh(verdict, nodes, &card, &mut b)));
+            assert!(y == plain(verdict, nodes, &card, &mut a) && a == b, "results of the plain loop differ: {}", self.name);
+        }
     }
 
     fn ratio(&self) -> f64 {
-        self.best.0 / self.best.1
+        self.best.proved / self.best.plain
+    }
+
+    fn print(&self) {
+        let (ours, theirs) = (self.best.proved * 1e3, self.best.plain * 1e3);
+        println!("{:<44} {:>5} rows: {ours:>9.3} ms, plain Rust {theirs:>9.3} ms, ratio {:.2}", self.name, self.times.len(), self.ratio());
     }
 }
 
@@ -99,8 +175,20 @@ fn node(kind: u64, left: usize, right: usize, lo: u64, hi: u64) -> Node {
     Node { kind, left, right, lo, hi }
 }
 
+/// Two predicates and one operator with a window over them: until or release of both, eventually or always of the second.
+fn one_operator(kind: u64, (lo, hi): (u64, u64)) -> (String, [Node; 3]) {
+    let (letter, left, right) = match kind {
+        5 => ("p0U", 0, 1),
+        6 => ("p0R", 0, 1),
+        7 => ("F", 1, 0),
+        _ => ("G", 1, 0),
+    };
+    let end = if hi == NO_END { "*".to_string() } else { hi.to_string() };
+    (format!("{letter}[{lo},{end}]p1"), [node(1, 0, 0, 0, 0), node(1, 1, 0, 0, 0), node(kind, left, right, lo, hi)])
+}
+
 /// 64 nodes: four predicates, and over them every kind in turn with random children and short windows.
-fn large_table(random: &mut Random) -> Vec<Node> {
+fn mixed_table(random: &mut Random) -> Vec<Node> {
     let mut nodes: Vec<Node> = (0..4).map(|p| node(1, p, 0, 0, 0)).collect();
     for k in 4..64 {
         let (kind, left, right) = (2 + k as u64 % 7, random.next(k as u64) as usize, random.next(k as u64) as usize);
@@ -115,47 +203,107 @@ fn large_table(random: &mut Random) -> Vec<Node> {
     nodes
 }
 
-fn cases(random: &mut Random) -> Vec<Case> {
+/// 64 nodes: a predicate, and over it by turns `F[0,*]` and `G[0,*]`. Each over the one before would be the same number everywhere from the third node on.
+fn endless_table() -> Vec<Node> {
+    (0..64).map(|k| if k == 0 { node(1, 0, 0, 0, 0) } else { node(7 + k % 2, 0, 0, 0, NO_END) }).collect()
+}
+
+const UNTIL_WINDOWS: [(u64, u64); 5] = [(0, NO_END), (10, 600), (1_800, 3_600), (1_800, NO_END), (0, 0)];
+const EVENTUALLY_WINDOWS: [(u64, u64); 4] = [(0, NO_END), (10, 600), (1_800, 3_600), (0, 0)];
+/// With 7 everywhere left is 5 and right is -1, so that until never settles and release at once; with 2 everywhere it is the other way round.
+const UNTIL_VALUES: [Values; 3] = [Values::Equal(7), Values::Equal(2), Values::Random];
+const EVENTUALLY_VALUES: [Values; 4] = [Values::Equal(7), Values::Rising, Values::Falling, Values::Random];
+
+/// One operator over 2,048 rows and then over 4,096.
+fn operator_cases(kinds: [u64; 2], windows: &[(u64, u64)], values: &[Values], random: &mut Random) -> Vec<Case> {
     let mut cases = Vec::new();
-    for equal in [true, false] {
-        for (kind, letter) in [(5, "p0U"), (6, "p0R"), (7, "F"), (8, "G")] {
-            for (lo, hi) in [(0, NO_END), (10, 600), (0, 0)] {
-                let (left, right) = if kind <= 6 { (0, 1) } else { (1, 0) };
-                let nodes = [node(1, 0, 0, 0, 0), node(1, 1, 0, 0, 0), node(kind, left, right, lo, hi)];
-                let end = if hi == NO_END { "*".to_string() } else { hi.to_string() };
-                let name = format!("{letter}[{lo},{end}]p1, {} values", if equal { "equal" } else { "random" });
-                for rows in [2048, 4096] {
-                    cases.push(Case::new(name.clone(), &nodes, rows, || if equal { 7 } else { random.value() }, false));
-                }
+    for kind in kinds {
+        for &window in windows {
+            for &values in values {
+                let (what, nodes) = one_operator(kind, window);
+                cases.extend([2_048, 4_096].map(|rows| Case::new(&what, &nodes, rows, values, random)));
             }
         }
-    }
-    let large = large_table(random);
-    for rows in [2048, 4096] {
-        cases.push(Case::new("64 nodes, margin".into(), &large, rows, || random.value(), false));
-        cases.push(Case::new("64 nodes, verdict".into(), &large, rows, || random.value(), true));
     }
     cases
 }
 
-fn main() {
+/// Margin and verdict of 64 nodes.
+fn table_cases(random: &mut Random) -> Vec<Case> {
+    let (mixed, endless) = (mixed_table(random), endless_table());
+    let mut cases = Vec::new();
+    for verdict in [false, true] {
+        let what = if verdict { "verdict" } else { "margin" };
+        for rows in [2_048, 4_096] {
+            cases.push(Case { verdict, ..Case::new(&format!("64 mixed nodes, {what}"), &mixed, rows, Values::Random, random) });
+        }
+        // with random values the extremum up to the end would hardly change
+        let case = Case::new(&format!("64 endless nodes, {what}"), &endless, 4_096, Values::Narrowing, random);
+        cases.push(Case { verdict, beside_afresh: true, ..case });
+    }
+    cases
+}
+
+fn predicates() -> [Predicate; 16] {
     let mut predicates = [Predicate { channel: 0, range: Range::Unset }; 16];
     predicates[0] = Predicate { channel: 0, range: Range::AtLeast(3) };
     predicates[1] = Predicate { channel: 1, range: Range::AtMost(6) };
     predicates[2] = Predicate { channel: 0, range: Range::Between(-400_000_000, 400_000_000) };
     predicates[3] = Predicate { channel: 1, range: Range::Free };
-    let mut cases = cases(&mut Random(12345));
+    predicates
+}
+
+/// How many times as long 4,096 rows take as 2,048, by name.
+fn growths(cases: &[Case]) -> Vec<(&str, f64)> {
+    let pairs = cases.chunks_exact(2);
+    pairs.map(|pair| (pair[0].name.as_str(), pair[1].best.proved / pair[0].best.proved)).collect()
+}
+
+fn print_growth_of_until(cases: &[Case]) {
+    for (name, growth) in growths(cases) {
+        if name.contains("[0,*]") && name.contains("all values") {
+            println!("{name}: 4096 rows take {growth:.2} times as long as 2048 (at most 6; 4.2 wanted)");
+        }
+    }
+}
+
+fn print_growth_of_eventually(cases: &[Case]) {
+    let growths = growths(cases);
+    let largest = |of: &str| growths.iter().filter(|(name, _)| name.contains(of)).max_by(|a, b| a.1.total_cmp(&b.1)).expect("it is among the cases");
+    for window in ["[0,*]", "[10,600]", "[1800,3600]", "[0,0]"] {
+        let (name, growth) = largest(window);
+        println!("F and G, {window}: 4096 rows take at most {growth:.2} times as long as 2048, {name}");
+    }
+    let (name, growth) = largest("");
+    println!("F and G: 4096 rows take at most {growth:.2} times as long as 2048 (2.4 wanted), {name}");
+}
+
+fn print_tables(cases: &[Case]) {
+    for c in cases.iter().filter(|c| c.times.len() == 4_096) {
+        print!("{}, 4096 rows: {:.2} times plain Rust (at most 1.1 wanted)", c.name, c.ratio());
+        if c.beside_afresh {
+            print!("; the plain loop takes {:.0} times as long as the library (at least 50 wanted)", c.best.afresh / c.best.proved);
+        }
+        println!();
+    }
+}
+
+fn main() {
+    let (random, predicates) = (&mut Random(12345), predicates());
+    let mut untils = operator_cases([5, 6], &UNTIL_WINDOWS, &UNTIL_VALUES, random);
+    let mut eventuallies = operator_cases([7, 8], &EVENTUALLY_WINDOWS, &EVENTUALLY_VALUES, random);
+    let mut tables = table_cases(random);
     // rounds over all cases, so that a slow spell of the machine does not fall on one of them alone
     for _ in 0..5 {
-        for case in &mut cases {
+        for case in untils.iter_mut().chain(&mut eventuallies).chain(&mut tables) {
             case.time(&predicates);
         }
     }
-    for c in &cases {
-        println!("{:<30} {:>5} rows: {:>9.3} ms, plain Rust {:>9.3} ms, ratio {:.2}", c.name, c.times.len(), c.best.0 * 1e3, c.best.1 * 1e3, c.ratio());
-    }
-    for pair in cases.windows(2).filter(|p| p[0].name == p[1].name && p[0].name.contains("[0,*]p1, equal") && p[0].name.starts_with("p0")) {
-        println!("{}: 4096 rows take {:.2} times as long as 2048 (at most 4.5 wanted)", pair[0].name, pair[1].best.0 / pair[0].best.0);
-    }
-    println!("largest ratio to plain Rust: {:.2} (at most 1.1 wanted)", cases.iter().map(Case::ratio).fold(0.0, f64::max));
+    let all = || untils.iter().chain(&eventuallies).chain(&tables);
+    all().for_each(Case::print);
+    print_growth_of_until(&untils);
+    print_growth_of_eventually(&eventuallies);
+    print_tables(&tables);
+    let largest = all().max_by(|a, b| a.ratio().total_cmp(&b.ratio())).expect("there are cases");
+    println!("largest ratio to plain Rust: {:.2} (at most 1.1 wanted), {}, {} rows", largest.ratio(), largest.name, largest.times.len());
 }

@@ -58,16 +58,55 @@ fn nothing(largest: bool) -> i64 {
     if largest { -TOP } else { TOP }
 }
 
-fn over_places(row: &[i64], largest: bool) -> i64 {
-    row.iter().fold(nothing(largest), |best, &v| extreme(largest, best, v))
+/// The extreme of a value and of those at some places.
+fn joined(row: &[i64], largest: bool, value: i64) -> i64 {
+    row.iter().fold(value, |best, &v| extreme(largest, best, v))
 }
 
-fn bound_at(l: &[i64], r: &[i64], largest: bool, i: usize, first: usize, end: usize) -> i64 {
+/// The extremum over a source row's places from `low` up to, not including, `high`, which both only move forward.
+/// Cell j of the node's own row, `low` ≤ j < `mid`, holds the extremum over j up to `mid`, and `tail` is that over `mid` up to `high`.
+struct Slide {
+    mid: usize,
+    high: usize,
+    tail: i64,
+    value: i64,
+}
+
+/// Own cells as the extrema from each of their places up to `high`; the one from `low`.
+fn fill_back(source: &[i64], own: &mut [i64], largest: bool, low: usize, high: usize) -> i64 {
+    // an empty window may end before it starts
+    let places = low..high.max(low);
+    let mut run = nothing(largest);
+    for (cell, &v) in own[places.clone()].iter_mut().zip(&source[places]).rev() {
+        run = extreme(largest, run, v);
+        *cell = run;
+    }
+    run
+}
+
+impl Slide {
+    fn new(largest: bool) -> Slide {
+        Slide { mid: 0, high: 0, tail: nothing(largest), value: nothing(largest) }
+    }
+
+    fn advance(&mut self, source: &[i64], own: &mut [i64], largest: bool, low: usize, high: usize) {
+        if low < self.mid {
+            self.tail = joined(&source[self.high..high], largest, self.tail);
+            self.value = extreme(largest, own[low], self.tail);
+        } else {
+            self.value = fill_back(source, own, largest, low, high);
+            (self.mid, self.tail) = (high, nothing(largest));
+        }
+        self.high = high;
+    }
+}
+
+/// Until or release, `run` being left's extremum up to `first`.
+fn bound_at(l: &[i64], r: &[i64], largest: bool, mut run: i64, first: usize, end: usize) -> i64 {
     let mut best = nothing(largest);
     if end <= first {
         return best;
     }
-    let mut run = over_places(&l[i..first], !largest);
     for (&r, &l) in r[first..end].iter().zip(&l[first..end]) {
         best = extreme(largest, best, extreme(!largest, r, run));
         run = extreme(!largest, run, l);
@@ -78,25 +117,49 @@ fn bound_at(l: &[i64], r: &[i64], largest: bool, i: usize, first: usize, end: us
     best
 }
 
-fn temporal_row(
-    before: &[i64],
-    own: &mut [i64],
-    times: &[u64],
+/// From how many seconds on, and before how many.
+type Window = (u64, Option<u64>);
+
+/// An operator with a window. Eventually and always have no left row.
+struct Temporal {
     largest: bool,
-    from: u64,
-    stop: Option<u64>,
+    window: Window,
     left: Option<usize>,
     right: usize,
-) {
-    let n = times.len();
-    let r = &before[right * n..right * n + n];
+}
+
+/// Fills the own row of an operator with a window from the rows before it.
+type TemporalRow = fn(before: &[i64], own: &mut [i64], times: &[u64], operator: Temporal);
+
+fn temporal_row(before: &[i64], own: &mut [i64], times: &[u64], operator: Temporal) {
+    let Temporal { largest, window: (from, stop), left, right } = operator;
+    let row = |q: usize| &before[q * times.len()..(q + 1) * times.len()];
+    let r = row(right);
+    // until and release slide over left, from each place up to its window
+    let (source, of_source) = left.map_or((r, largest), |l| (row(l), !largest));
+    let mut slide = Slide::new(of_source);
     let (mut first, mut end) = (0, 0);
-    for i in 0..n {
+    for i in 0..times.len() {
         first = edge(times, i, first, Some(from));
         end = edge(times, i, end, stop);
-        own[i] = match left {
-            Some(l) => bound_at(&before[l * n..l * n + n], r, largest, i, first, end),
-            None if first < end => over_places(&r[first..end], largest),
+        let (low, high) = if left.is_some() { (i, first) } else { (first, end) };
+        slide.advance(source, own, of_source, low, high);
+        own[i] = if left.is_some() { bound_at(source, r, largest, slide.value, first, end) } else { slide.value };
+    }
+}
+
+/// The plain loop, which is not the library's algorithm: each extremum is taken afresh for each i.
+fn temporal_row_afresh(before: &[i64], own: &mut [i64], times: &[u64], operator: Temporal) {
+    let Temporal { largest, window: (from, stop), left, right } = operator;
+    let row = |q: usize| &before[q * times.len()..(q + 1) * times.len()];
+    let r = row(right);
+    let (mut first, mut end) = (0, 0);
+    for i in 0..times.len() {
+        first = edge(times, i, first, Some(from));
+        end = edge(times, i, end, stop);
+        own[i] = match left.map(row) {
+            Some(l) => bound_at(l, r, largest, joined(&l[i..first], !largest, nothing(!largest)), first, end),
+            None if first < end => joined(&r[first..end], largest, nothing(largest)),
             None => nothing(largest),
         };
     }
@@ -146,10 +209,17 @@ pub struct Card<'a> {
     pub values: &'a [i64],
 }
 
-type Window = (u64, Option<u64>);
+/// How a node's row is filled: as the node or its negation, with which window, from which rows.
+struct Reading {
+    affirmed: bool,
+    window: Window,
+    left: usize,
+    right: usize,
+}
 
 /// The row of any kind but "not", or of its negation, from the rows before it.
-fn node_row(card: &Card, node: &Node, affirmed: bool, window: Window, left: usize, right: usize, before: &[i64], own: &mut [i64]) {
+fn node_row(card: &Card, node: &Node, reading: Reading, temporal: TemporalRow, before: &[i64], own: &mut [i64]) {
+    let Reading { affirmed, window, left, right } = reading;
     let n = card.times.len();
     let row = |q: usize| &before[q * n..q * n + n];
     let largest = affirmed == matches!(node.kind, 4 | 5 | 7);
@@ -169,8 +239,8 @@ fn node_row(card: &Card, node: &Node, affirmed: bool, window: Window, left: usiz
                 own[i] = extreme(largest, l[i], r[i]);
             }
         }
-        5 | 6 => temporal_row(before, own, card.times, largest, window.0, window.1, Some(left), right),
-        _ => temporal_row(before, own, card.times, largest, window.0, window.1, None, left),
+        5 | 6 => temporal(before, own, card.times, Temporal { largest, window, left: Some(left), right }),
+        _ => temporal(before, own, card.times, Temporal { largest, window, left: None, right: left }),
     }
 }
 
@@ -187,6 +257,15 @@ fn strengthened(contracts: bool, step: u64, (from, stop): Window) -> Window {
 }
 
 pub fn margin(nodes: &[Node], card: &Card, work: &mut [i64]) -> Option<i64> {
+    margin_by(temporal_row, nodes, card, work)
+}
+
+/// By the plain loop.
+pub fn margin_afresh(nodes: &[Node], card: &Card, work: &mut [i64]) -> Option<i64> {
+    margin_by(temporal_row_afresh, nodes, card, work)
+}
+
+fn margin_by(temporal: TemporalRow, nodes: &[Node], card: &Card, work: &mut [i64]) -> Option<i64> {
     let n = card.times.len();
     if !accepted(nodes, card.predicates, card.channels, card.times, card.values) || work.len() < nodes.len() * n {
         return None;
@@ -197,7 +276,8 @@ pub fn margin(nodes: &[Node], card: &Card, work: &mut [i64]) -> Option<i64> {
         if node.kind == 2 {
             own.iter_mut().zip(&before[node.left * n..node.left * n + n]).for_each(|(o, &v)| *o = -v);
         } else {
-            node_row(card, node, true, window(node), node.left, node.right, before, own);
+            let reading = Reading { affirmed: true, window: window(node), left: node.left, right: node.right };
+            node_row(card, node, reading, temporal, before, own);
         }
     }
     Some(work[(nodes.len() - 1) * n])
@@ -213,6 +293,15 @@ fn sampled(card: &Card, step: u64, drift: u64) -> bool {
 
 /// Hold and fail.
 pub fn verdict(nodes: &[Node], card: &Card, step: u64, drift: u64, work: &mut [i64]) -> Option<(i64, i64)> {
+    verdict_by(temporal_row, nodes, card, (step, drift), work)
+}
+
+/// Hold and fail by the plain loop.
+pub fn verdict_afresh(nodes: &[Node], card: &Card, step: u64, drift: u64, work: &mut [i64]) -> Option<(i64, i64)> {
+    verdict_by(temporal_row_afresh, nodes, card, (step, drift), work)
+}
+
+fn verdict_by(temporal: TemporalRow, nodes: &[Node], card: &Card, (step, drift): (u64, u64), work: &mut [i64]) -> Option<(i64, i64)> {
     let n = card.times.len();
     if !accepted(nodes, card.predicates, card.channels, card.times, card.values) || work.len() < 2 * nodes.len() * n || !sampled(card, step, drift) {
         return None;
@@ -220,9 +309,10 @@ pub fn verdict(nodes: &[Node], card: &Card, step: u64, drift: u64, work: &mut [i
     for row in 0..2 * nodes.len() {
         let (node, affirmed) = (&nodes[row / 2], row % 2 == 0);
         let (before, own) = work.split_at_mut(row * n);
-        let w = strengthened(affirmed == matches!(node.kind, 5 | 7), step, window(node));
+        let window = strengthened(affirmed == matches!(node.kind, 5 | 7), step, window(node));
         let left = 2 * node.left + usize::from(affirmed == (node.kind == 2));
-        node_row(card, node, affirmed, w, left, 2 * node.right + row % 2, before, &mut own[..n]);
+        let reading = Reading { affirmed, window, left, right: 2 * node.right + row % 2 };
+        node_row(card, node, reading, temporal, before, &mut own[..n]);
     }
     let root = 2 * (nodes.len() - 1) * n;
     Some((work[root], work[root + n]))
