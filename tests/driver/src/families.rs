@@ -4,15 +4,17 @@ use crate::checks::{self, Tried};
 use crate::compare::{self, Others, WHOLE_CALL, WHOLE_SHEET, WHOLE_TABLE};
 use crate::library::COUNTS;
 use crate::names::LINES;
+use crate::shapes;
 use crate::tally::Tally;
 use peer::answer::{entry_line, judge_sheet, printed, Answer, Entry};
-use peer::generate::calls::{call, long, Foretold};
+use peer::generate::calls::{call, Foretold};
 use peer::generate::damage::{damaged, damaged_requirement};
 use peer::generate::faults::{bad_requirement, faulty, Numbers};
 use peer::generate::limits::limits;
 use peer::generate::prng::Prng;
 use peer::generate::several::several;
 use peer::generate::sheets::{sound, tiny, Sound};
+use peer::generate::windows::{long, windows, Shaped};
 use peer::recording::channels_broken;
 use peer::refusal::Refusal;
 use peer::sheet::read_sheet;
@@ -40,19 +42,22 @@ pub struct Family {
     pub run: Run,
 }
 
-pub const FAMILIES: [Family; 8] = [
+/// A family's place gives its seeds, so a new one goes to the end.
+pub const FAMILIES: [Family; 9] = [
     Family { name: "sound", share: 180, run: sound_sheet },
     Family { name: "tiny", share: 90, run: tiny_sheet },
-    Family { name: "faulty", share: 230, run: faulty_sheet },
-    Family { name: "damaged", share: 180, run: damaged_sheet },
+    Family { name: "faulty", share: 220, run: faulty_sheet },
+    Family { name: "damaged", share: 160, run: damaged_sheet },
     Family { name: "several", share: 70, run: several_sheet },
     Family { name: "calls", share: 150, run: library_call },
     Family { name: "requirements", share: 50, run: requirement_text },
     Family { name: "rows", share: 50, run: rows_text },
+    Family { name: WINDOWS, share: 30, run: windows_call },
 ];
 
+pub const WINDOWS: &str = "windows";
 /// Recordings as long as the library takes: slow by the literal definitions, so for long runs.
-pub const LONG: Family = Family { name: "long", share: 0, run: long_call };
+pub const LONG: &str = "long";
 
 fn at<T>(input: &[u8], result: Result<T, String>) -> Result<T, Failure> {
     result.map_err(|what| Failure { input: input.to_vec(), what })
@@ -219,6 +224,8 @@ fn library_call(bench: &mut Bench, rng: &mut Prng) -> Result<(), Failure> {
         bench.tally.add(format!("distance refused={number}"));
     }
     foretold_call(bench, &foretold)?;
+    bench.tally.add(format!("margin call refused={}", foretold.margin));
+    bench.tally.add(format!("verdict call refused={}", foretold.verdict));
     if rng.once_in(4) {
         // What a slice does not have reads as 0: the table or a predicate may be another.
         let nodes = (5 * foretold.call.table.count() + 3).min(WHOLE_CALL[0] + 3);
@@ -229,19 +236,37 @@ fn library_call(bench: &mut Bench, rng: &mut Prng) -> Result<(), Failure> {
     Ok(())
 }
 
-fn long_call(bench: &mut Bench, rng: &mut Prng) -> Result<(), Failure> {
-    foretold_call(bench, &long(rng))
+fn windows_call(bench: &mut Bench, rng: &mut Prng) -> Result<(), Failure> {
+    shaped_call(bench, WINDOWS, &windows(rng))
 }
 
-fn foretold_call(bench: &mut Bench, foretold: &Foretold) -> Result<(), Failure> {
+/// The long call of that number.
+pub fn long_call(bench: &mut Bench, number: u64) -> Result<(), Failure> {
+    let mut shaped = long(number);
+    shaped_call(bench, LONG, &shaped)?;
+    // One row more is one too many.
+    let recording = &mut shaped.foretold.call.recording;
+    recording.times.push(recording.times[recording.rows() - 1] + 1);
+    recording.values.extend_from_within(..recording.channels as usize);
+    foretold_call(bench, &Foretold { margin: 5, verdict: 5, ..shaped.foretold })
+}
+
+/// A call whose windows are counted.
+fn shaped_call(bench: &mut Bench, family: &str, shaped: &Shaped) -> Result<(), Failure> {
+    foretold_call(bench, &shaped.foretold)?;
+    for read in shapes::read_by(shaped) {
+        bench.tally.add(format!("{family}: {read}"));
+    }
+    Ok(())
+}
+
+fn foretold_call(bench: &Bench, foretold: &Foretold) -> Result<(), Failure> {
     let shown = format!("{:?}\n", foretold.call).into_bytes();
     let (margin, verdict) = at(&shown, compare::calls(bench.others, &foretold.call, WHOLE_CALL))?;
     if (margin, verdict) != (foretold.margin, foretold.verdict) {
         let wanted = (foretold.margin, foretold.verdict);
         return at(&shown, Err(format!("refused by {:?}, foretold {wanted:?}", (margin, verdict))));
     }
-    bench.tally.add(format!("margin call refused={margin}"));
-    bench.tally.add(format!("verdict call refused={verdict}"));
     Ok(())
 }
 

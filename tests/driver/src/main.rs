@@ -16,14 +16,16 @@ mod names;
 mod program;
 #[cfg(any(feature = "proved", test))]
 mod proved;
+mod shapes;
 #[cfg(all(test, not(feature = "proved")))]
 mod standin;
 mod tally;
 
 use arguments::Arguments;
 use compare::Others;
-use families::{limit_sheets, Bench, Failure, Family, FAMILIES, LONG};
+use families::{limit_sheets, long_call, Bench, Failure, Family, FAMILIES, LONG, WINDOWS};
 use peer::generate::prng::{case_seed, Prng};
+use peer::generate::windows::LONG_CASES;
 use peer::refusal::ORDER;
 use program::Program;
 use std::ops::Range;
@@ -34,8 +36,6 @@ use tally::Tally;
 /// Thousands of cases of a run.
 const THOUSANDS: u64 = 100;
 const LONG_THOUSANDS: u64 = 2_000;
-/// Calls with recordings of 4,096 rows.
-const LONG_CASES: u64 = 12;
 /// The cases that are the same in every run.
 const LIMITS: &str = "limits";
 /// Of so many cases one is put to the program too.
@@ -90,10 +90,11 @@ fn report(family: &str, seed: u64, failure: &Failure) {
 fn only(others: &Others, name: &str, seed: u64) -> ExitCode {
     let mut tally = Tally::default();
     let mut bench = Bench { others, tally: &mut tally, ask_program: true };
-    let family = FAMILIES.iter().chain([&LONG]).find(|family| family.name == name);
+    let family = FAMILIES.iter().find(|family| family.name == name);
     let outcome = match family {
         Some(family) => (family.run)(&mut bench, &mut Prng::new(seed)),
         None if name == LIMITS => limit_sheets(&mut bench),
+        None if name == LONG => long_call(&mut bench, seed),
         None => {
             eprintln!("no family {name}");
             return ExitCode::from(2);
@@ -131,13 +132,13 @@ fn whole_run(others: &Others, arguments: &Arguments) -> ExitCode {
             }
         }
     }
-    if arguments.long && !run_family(others, &mut tally, &LONG, arguments.seed, 0..LONG_CASES) {
+    if arguments.long && !run_long(others, &mut tally, arguments.seed) {
         return ExitCode::FAILURE;
     }
     if arguments.histogram {
         tally.print();
     }
-    let missing = tally.missing(&wanted(thousands));
+    let missing = tally.missing(&wanted(thousands, arguments.long));
     if !missing.is_empty() {
         println!("FAILED: too rare to say anything: {missing:?}");
         return ExitCode::FAILURE;
@@ -166,8 +167,23 @@ fn run_family(
     true
 }
 
-/// What must come up, and how often: every refusal and every verdict, of every entry point.
-fn wanted(thousands: u64) -> Vec<(String, u64)> {
+/// The long calls of a run: their number takes the place of a seed, so that together they have
+/// every shape.
+fn run_long(others: &Others, tally: &mut Tally, run: u64) -> bool {
+    for case in 0..LONG_CASES {
+        let number = run.wrapping_mul(LONG_CASES).wrapping_add(case);
+        let mut bench = Bench { others, tally, ask_program: false };
+        if let Err(failure) = long_call(&mut bench, number) {
+            report(LONG, number, &failure);
+            return false;
+        }
+    }
+    true
+}
+
+/// What must come up, and how often: every refusal and every verdict, of every entry point, and
+/// every shape of window.
+fn wanted(thousands: u64, long: bool) -> Vec<(String, u64)> {
     let mut wanted = Vec::new();
     let mut each = |what: &str, numbers: &[u64], least: u64| {
         wanted.extend(numbers.iter().map(|number| (format!("{what}{number}"), least * thousands)));
@@ -193,6 +209,10 @@ fn wanted(thousands: u64) -> Vec<(String, u64)> {
     }
     for histories in ["there is none", "all tried", "some tried", "a verdict tried on all"] {
         wanted.push((format!("histories: {histories}"), 10 * thousands));
+    }
+    for shape in shapes::all() {
+        wanted.push((format!("{WINDOWS}: {shape}"), thousands / 5));
+        wanted.extend(long.then(|| (format!("{LONG}: {shape}"), 1)));
     }
     wanted
 }

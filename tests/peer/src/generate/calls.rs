@@ -57,29 +57,6 @@ pub fn call(rng: &mut Prng) -> Foretold {
     }
 }
 
-/// A call with 4,096 rows, a nested pair of windows among them; sometimes one row too many.
-pub fn long(rng: &mut Prng) -> Foretold {
-    let mut call = sound(rng);
-    let rows = if rng.once_in(6) { 4_097 } else { 4_096 };
-    let channels = call.recording.channels;
-    let value = |rng: &mut Prng| rng.between(-(call.drift as i64), call.drift as i64);
-    call.recording.times = (1..=rows).map(|row| row * call.step).collect();
-    call.recording.values = (0..rows * channels).map(|_| value(rng)).collect();
-    let taste = Taste { predicates: vec![0], unit: call.step as i64, reach: 100 };
-    let windows = [taste.window(rng), taste.window(rng)].map(|window| window.numbers());
-    let [(lo, hi), (inner_lo, inner_hi)] = windows;
-    let leaf = Node { kind: kind::PREDICATE, ..Node::default() };
-    let kind = rng.pick(&[kind::UNTIL, kind::RELEASE]);
-    // Endless windows are for the outer operators, whose left side costs nothing.
-    let inner = Node { kind, left: 0, right: 0, lo: inner_lo, hi: inner_hi.min(inner_lo + 200) };
-    let outer =
-        Node { kind: rng.pick(&[kind::EVENTUALLY, kind::ALWAYS]), left: 1, right: 0, lo, hi };
-    call.table = Table { nodes: vec![leaf, inner, outer] };
-    call.work = vec![-7; 2 * 3 * rows as usize + 1];
-    let refusal = if rows > 4_096 { 5 } else { 0 };
-    Foretold { call, margin: refusal, verdict: refusal }
-}
-
 /// Lengths about what margin and verdict need.
 fn lent(rng: &mut Prng, cells: usize) -> usize {
     let about = rng.pick(&[cells, 2 * cells, 2 * cells, 2 * cells + 9]);

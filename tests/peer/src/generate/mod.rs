@@ -10,3 +10,4 @@ pub mod prng;
 pub mod requirements;
 pub mod several;
 pub mod sheets;
+pub mod windows;
