@@ -10,9 +10,9 @@ pub record Semilattice {X : Type 0} (o : X → X → X) : Type 0 where
   pub commutative : (a b : X) → o a b ≡ o b a
   pub idempotent : (a : X) → o a a ≡ a
 
--- an operation that is such a one seen through "not"
-pub mirrored : {X : Type 0} {o p : X → X → X} (n : X → X) → ((a : X) → n (n a) ≡ a) → ((a b : X) → n (p a b) ≡ o (n a) (n b)) → Semilattice o → Semilattice p
-mirrored {X} {o} {p} n twice through S = record {
+-- the dual of such an operation under "not"
+pub dual-semilattice : {X : Type 0} {o p : X → X → X} (n : X → X) → ((a : X) → n (n a) ≡ a) → ((a b : X) → n (p a b) ≡ o (n a) (n b)) → Semilattice o → Semilattice p
+dual-semilattice {X} {o} {p} n twice through S = record {
   associative = λ a b c. back (rw (through (p a b) c, through a b, through a (p b c), through b c) (S .associative (n a) (n b) (n c)));
   commutative = λ a b. back (rw (through a b, through b a) (S .commutative (n a) (n b)));
   idempotent = λ a. back (rw (through a a) (S .idempotent (n a)));
@@ -20,10 +20,6 @@ mirrored {X} {o} {p} n twice through S = record {
   where
     back : {a b : X} → n a ≡ n b → a ≡ b
     back {a} {b} e = sym (twice a) ∙ ap n e ∙ twice b
-
-pub fold-cong : {X : Type 0} (o : X → X → X) (u : X) (f g : ℕ → X) (n : ℕ) → ((k : ℕ) → k < n → f k ≡ g k) → fold o u f n ≡ fold o u g n
-fold-cong o u f g zero h = refl
-fold-cong o u f g (suc n) h = ap₂ o (fold-cong o u f g n (λ k p. h k (omega arith))) (h n (omega arith))
 
 -- a run goes on where another one ended; g is f from place m on
 pub fold-on : {X : Type 0} (o : X → X → X) (u : X) (f g : ℕ → X) (m n : ℕ) → ((k : ℕ) → k < n → f (m + k) ≡ g k) → fold o u f (m + n) ≡ fold o (fold o u f m) g n

@@ -11,7 +11,7 @@ use lib.Seq.{set-comm, set-set, set-getD, getD-set-same, getD-set-other}
 use Rattle.lists.specs.Fill.{fill}
 use Rattle.lists.proofs.Filled.{length-fill, fill-before}
 
-module _ {X : Type 0} (b n : ℕ) (f : ℕ → X) where
+module _ {X : Type 0} (b : ℕ) (f : ℕ → X) where
   fill-past : (w : List X) (p : ℕ) (v : X) (m : ℕ) → b + m ≤ p → fill b m f (set w p v) ≡ set (fill b m f w) p v
   unfolding fill
   fill-past w p v zero h = refl
@@ -30,39 +30,40 @@ module _ {X : Type 0} (b n : ℕ) (f : ℕ → X) where
             rw (e, fill-past w (b + m) v m (omega arith)) (set-set (fill b m f w) (b + m) v (f m))
       ]
 
-  fill-twice : (w : List X) (c m : ℕ) (g : ℕ → X) → b ≤ c → c + m ≤ b + n → fill b n f (fill c m g w) ≡ fill b n f w
-  unfolding fill
-  fill-twice w c zero g h k = refl
-  fill-twice w c (suc m) g h k = fill-over (fill c m g w) (c + m) (g m) n (omega arith) (omega arith) ∙ fill-twice w c m g h (omega arith)
-
   -- what stands there already
   pub fill-same : (w : List X) (d : X) (m : ℕ) → ((i : ℕ) → i < m → getD w (b + i) d ≡ f i) → fill b m f w ≡ w
   unfolding fill
   fill-same w d zero h = refl
   fill-same w d (suc m) h = rw (fill-same w d m (λ i p. h i (omega arith)), ← h m (omega arith)) (set-getD w (b + m) d)
 
+module _ {X : Type 0} (b n : ℕ) (f : ℕ → X) where
+  fill-twice : (w : List X) (c m : ℕ) (g : ℕ → X) → b ≤ c → c + m ≤ b + n → fill b n f (fill c m g w) ≡ fill b n f w
+  unfolding fill
+  fill-twice w c zero g h k = refl
+  fill-twice w c (suc m) g h k = fill-over b f (fill c m g w) (c + m) (g m) n (omega arith) (omega arith) ∙ fill-twice w c m g h (omega arith)
+
   -- the first i of the n places are filled; w was u
   pub record Reused (d : X) (u w : List X) (i : ℕ) : Type 0 where
-    pub the-same : fill b n f w ≡ fill b n f u
+    pub elsewhere-same : fill b n f w ≡ fill b n f u
     pub filled : (j : ℕ) → j < i → getD w (b + j) d ≡ f j
 
   module _ {d : X} {u w : List X} where
     pub reused-length : {i : ℕ} → Reused d u w i → length w ≡ length u
-    reused-length R = sym (length-fill b n f w) ∙ ap length (R .the-same) ∙ length-fill b n f u
+    reused-length R = sym (length-fill b n f w) ∙ ap length (R .elsewhere-same) ∙ length-fill b n f u
 
     pub reused-before : {i : ℕ} → Reused d u w i → (m : ℕ) → m < b → getD w m d ≡ getD u m d
-    reused-before R m h = sym (fill-before b n f w m d refl h) ∙ ap (λ (l : List X). getD l m d) (R .the-same) ∙ fill-before b n f u m d refl h
+    reused-before R m h = sym (fill-before b n f w m d refl h) ∙ ap (λ (l : List X). getD l m d) (R .elsewhere-same) ∙ fill-before b n f u m d refl h
 
     -- places that are still to be filled may be written
     pub reused-else : {l : List X} (i c m : ℕ) (g : ℕ → X) → Reused d u w i → b + i ≤ c → c + m ≤ b + n → l ≡ fill c m g w → Reused d u l i
     reused-else i c m g R h k e = record {
-      the-same = rw e (fill-twice w c m g (omega arith) k ∙ R .the-same);
+      elsewhere-same = rw e (fill-twice w c m g (omega arith) k ∙ R .elsewhere-same);
       filled = λ j p. fill-before c m g w (b + j) d e (omega arith) ∙ R .filled j p;
     }
 
     pub reused-next : {v : X} (i : ℕ) → Reused d u w i → i < n → b + n ≤ length w → v ≡ f i → Reused d u (set w (b + i) v) (i + 1)
     reused-next {v} i R h k e = record {
-      the-same = fill-over w (b + i) v n (omega arith) (omega arith) ∙ R .the-same;
+      elsewhere-same = fill-over b f w (b + i) v n (omega arith) (omega arith) ∙ R .elsewhere-same;
       filled = λ j p. elim (decLt j i) [
         | yes q ↦ getD-set-other w (b + i) (b + j) v d (λ (x : b + j ≡ b + i). omega arith) ∙ R .filled j q
         | no q ↦ let x : j ≡ i = omega arith in rw x (getD-set-same w (b + i) v d (omega arith) ∙ e)
@@ -70,7 +71,7 @@ module _ {X : Type 0} (b n : ℕ) (f : ℕ → X) where
     }
 
     pub reused-all : {i : ℕ} → Reused d u w i → n ≤ i → w ≡ fill b n f u
-    reused-all R h = sym (fill-same w d n (λ i p. R .filled i (omega arith))) ∙ R .the-same
+    reused-all R h = sym (fill-same b f w d n (λ i p. R .filled i (omega arith))) ∙ R .elsewhere-same
 
 pub reused-none : {X : Type 0} (b n : ℕ) (f : ℕ → X) (d : X) (u : List X) → Reused b n f d u u 0
-reused-none b n f d u = record { the-same = refl; filled = λ j p. absurd (omega arith) }
+reused-none b n f d u = record { elsewhere-same = refl; filled = λ j p. absurd (omega arith) }

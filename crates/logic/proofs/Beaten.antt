@@ -10,12 +10,14 @@ use lib.IntN.{ℤ, pos, negℤ}
 use lib.Signed.{ltZ}
 use Rattle.numbers.specs.Order.{Within}
 use Rattle.numbers.proofs.Parts.{plus, minus, parts-nlt, not-taken, plus-neg, minus-neg, abs-parts, Smaller, Larger, smaller-parts, larger-parts}
+use Rattle.lists.proofs.Folds.{fold-nothing}
 use Rattle.logic.specs.declared.Window.{Window}
 use Rattle.logic.specs.Window.{inside}
 use Rattle.logic.specs.declared.Extremum.{Extremum}
 use Rattle.logic.specs.declared.Extremum.the-variants.{Largest, Smallest}
 use Rattle.logic.specs.Formula.{dual}
 use Rattle.logic.specs.Reading.{extremum, along, margins, margin-extreme, margin-nothing}
+use Rattle.logic.proofs.Extremes.{extremes}
 
 abbrev AtMost : ℤ → ℤ → Type 0
 AtMost a b = plus a + minus b ≤ plus b + minus a
@@ -32,15 +34,6 @@ beaten-stays Smallest b a h = not-taken (ltZ a b) b a (parts-nlt a b h)
 stays-beaten : (e : Extremum) (b a : ℤ) → margin-extreme e b a ≡ b → Beaten e b a
 stays-beaten Largest b a h = let p : Larger b a b = rw h at (larger-parts b a) in omega arith
 stays-beaten Smallest b a h = let p : Smaller b a b = rw h at (smaller-parts b a) in omega arith
-
-beaten-self : (e : Extremum) (a : ℤ) → Beaten e a a
-beaten-self Largest a = omega arith
-beaten-self Smallest a = omega arith
-
--- what is beaten stays so as the extremum goes on
-beaten-more : (e : Extremum) (b a x : ℤ) → Beaten e b a → Beaten e (margin-extreme e b x) a
-beaten-more Largest b a x h = omega (arith, larger-parts b x)
-beaten-more Smallest b a x h = omega (arith, smaller-parts b x)
 
 beaten-first : (e : Extremum) (b a x : ℤ) → Beaten e b a → Beaten e b (margin-extreme (dual e) a x)
 beaten-first Largest b a x h = omega (arith, smaller-parts a x)
@@ -61,12 +54,11 @@ nothing-moves top Smallest a h = beaten-stays Smallest a (pos top) (omega (arith
 
 module _ (top : ℕ) (e : Extremum) where
   nothing-beaten : (f : ℕ → ℤ) (n : ℕ) → Beaten e (extremum (margins top) e f n) (margin-nothing top e)
-  nothing-beaten f zero = beaten-self e (margin-nothing top e)
-  nothing-beaten f (suc n) = beaten-more e _ _ (f n) (nothing-beaten f n)
+  nothing-beaten f n = stays-beaten e _ _ (fold-nothing (extremes e) (margin-nothing top e) f n)
 
   pub nothing-carried : (n : ℕ) → extremum (margins top) e (λ m. margin-nothing top e) n ≡ margin-nothing top e
   nothing-carried zero = refl
-  nothing-carried (suc n) = rw (nothing-carried n) (beaten-stays e _ _ (beaten-self e (margin-nothing top e)))
+  nothing-carried (suc n) = rw (nothing-carried n) (extremes e .idempotent (margin-nothing top e))
 
   -- a carried value that is beaten stays so, whatever it is joined to
   run-beaten : (b x : ℤ) (l : ℕ → ℤ) (m k : ℕ) → m ≤ k → Beaten e b (extremum (margins top) (dual e) l m) → Beaten e b (margin-extreme (dual e) x (extremum (margins top) (dual e) l k))

@@ -1,12 +1,12 @@
--- The larger of two whole numbers does not depend on order or repetition, and neither does the smaller, which is the larger seen through "not". So an
--- extremum may be taken apart and read from either end.
+-- The larger of two whole numbers does not depend on order or repetition, and neither does the smaller, its dual. So an extremum may be taken apart and read
+-- from either end.
 -- Assumes nothing.
 use mathlib.Core.Path.{_≡_}
 use native.Mathlib.Omega.{arith}
 use lib.IntN.{ℤ, negℤ, negℤ-negℤ}
 use Rattle.numbers.specs.Order.{larger-of}
 use Rattle.numbers.proofs.Parts.{plus, minus, parts-eq, larger-parts}
-use Rattle.lists.proofs.Folds.{Semilattice, mirrored}
+use Rattle.lists.proofs.Folds.{Semilattice, dual-semilattice}
 use Rattle.logic.specs.declared.Extremum.{Extremum}
 use Rattle.logic.specs.declared.Extremum.the-variants.{Largest, Smallest}
 use Rattle.logic.specs.Reading.{margin-extreme}
@@ -32,4 +32,4 @@ larger = record {
 
 pub extremes : (e : Extremum) → Semilattice (margin-extreme e)
 extremes Largest = larger
-extremes Smallest = mirrored negℤ negℤ-negℤ (margins-dual 0 .extremes Smallest) larger
+extremes Smallest = dual-semilattice negℤ negℤ-negℤ (margins-dual 0 .extremes Smallest) larger

@@ -18,7 +18,7 @@ pub record Step {X Y : Type 0} (A : Algebra X) (B : Algebra Y) (R : X → Y → 
   pub extremes : (e : Extremum) {a b : X} {c d : Y} → R a c → R b d → R (A .extreme e a b) (B .extreme e c d)
 
 module _ {X Y : Type 0} {A : Algebra X} {B : Algebra Y} {R : X → Y → Type 0} (S : Step A B R) where
-  extremum-step : (e : Extremum) {f : ℕ → X} {g : ℕ → Y} (n : ℕ) → ((m : ℕ) → m < n → R (f m) (g m)) → R (extremum A e f n) (extremum B e g n)
+  pub extremum-step : (e : Extremum) {f : ℕ → X} {g : ℕ → Y} (n : ℕ) → ((m : ℕ) → m < n → R (f m) (g m)) → R (extremum A e f n) (extremum B e g n)
   extremum-step e zero h = S .nothing e
   extremum-step e (suc n) h = S .extremes e (extremum-step e n (λ m q. h m (omega arith))) (h n (omega arith))
 

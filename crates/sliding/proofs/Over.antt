@@ -5,16 +5,17 @@ use Prim.Native.Nat.{ℕ, suc, _+_, _-_, _≤_, _<_}
 use native.Mathlib.Omega.{arith}
 use lib.IntN.{ℤ}
 use Rattle.lists.specs.Fold.{fold}
-use Rattle.lists.proofs.Folds.{fold-cong, fold-on, fold-split, fold-front}
+use Rattle.lists.proofs.Folds.{fold-on, fold-split, fold-front}
 use Rattle.logic.specs.declared.Extremum.{Extremum}
-use Rattle.logic.specs.Reading.{margin-extreme, margin-nothing}
+use Rattle.logic.specs.Reading.{margins, margin-extreme, margin-nothing}
+use Rattle.logic.proofs.Steps.{extremum-step, same}
 use Rattle.logic.proofs.Extremes.{extremes}
 use Rattle.recordings.specs.Distance.{TOP}
 use Rattle.sliding.specs.Run.{over}
 
 module _ (e : Extremum) (f : ℕ → ℤ) where
   pub over-cong : (g : ℕ → ℤ) (a b : ℕ) → ((j : ℕ) → a ≤ j → j < b → f j ≡ g j) → over e f a b ≡ over e g a b
-  over-cong g a b h = fold-cong _ _ _ _ (b - a) (λ k p. h (a + k) (omega arith) (omega arith))
+  over-cong g a b h = extremum-step (same (margins TOP)) e (b - a) (λ k p. h (a + k) (omega arith) (omega arith))
 
   pub over-empty : (a b : ℕ) → b ≤ a → over e f a b ≡ margin-nothing TOP e
   over-empty a b h = let z : b - a ≡ 0 = omega arith in rw z refl

@@ -1,4 +1,4 @@
--- The cells in which the places up to mid hold their extrema: filled from the last place down, or holding them already.
+-- The cells in which the places up to cut hold their extrema: filled from the last place down, or holding them already.
 -- Assumes nothing.
 use mathlib.Core.Path.{_≡_, refl, sym, ap, _∙_}
 use mathlib.Core.List.{List}
@@ -39,17 +39,17 @@ module _ (e : Extremum) (f : ℕ → ℤ) (low high j : ℕ) (h : min low high �
             (rw x at g) ∙ sym (fill-none _ _ w) ∙ (rw y (fill-none _ _ w))
       ]
 
-module _ (e : Extremum) (f : ℕ → ℤ) (b low mid : ℕ) (w : List ℤ) where
+module _ (e : Extremum) (f : ℕ → ℤ) (b low cut : ℕ) (w : List ℤ) where
   -- places that hold their extrema already
-  pub suffixed-same : ((j : ℕ) → low ≤ j → j < mid → getD w (b + j) (pos 0) ≡ over e f j mid) → w ≡ suffixed e f b low mid w
+  pub suffixed-same : ((j : ℕ) → low ≤ j → j < cut → getD w (b + j) (pos 0) ≡ over e f j cut) → w ≡ suffixed e f b low cut w
   suffixed-same h =
-      sym (fill-same (b + low) 0 (λ m. over e f (low + m) mid) w (pos 0) (mid - low) (λ i p.
+      sym (fill-same (b + low) (λ m. over e f (low + m) cut) w (pos 0) (cut - low) (λ i p.
       let q : b + low + i ≡ b + (low + i) = omega arith in
       rw q (h (low + i) (omega arith) (omega arith))))
 
   -- what a place holds
-  pub suffixed-at : {l : List ℤ} → l ≡ suffixed e f b low mid w → b + mid ≤ length w → (j : ℕ) → low ≤ j → j < mid → getD l (b + j) (pos 0) ≡ over e f j mid
+  pub suffixed-at : {l : List ℤ} → l ≡ suffixed e f b low cut w → b + cut ≤ length w → (j : ℕ) → low ≤ j → j < cut → getD l (b + j) (pos 0) ≡ over e f j cut
   suffixed-at g k j p q =
       let x : b + j ≡ b + low + (j - low) = omega arith in
       let y : low + (j - low) ≡ j = omega arith in
-      rw (g, x) (fill-in (b + low) (mid - low) (λ m. over e f (low + m) mid) w (j - low) (pos 0) (omega arith) (omega arith) ∙ ap (λ (m : ℕ). over e f m mid) y)
+      rw (g, x) (fill-in (b + low) (cut - low) (λ m. over e f (low + m) cut) w (j - low) (pos 0) (omega arith) (omega arith) ∙ ap (λ (m : ℕ). over e f m cut) y)

@@ -4,7 +4,7 @@ use mathlib.Core.Path.{_≡_, refl, sym, ap, _∙_}
 use mathlib.Core.Bool.{Bool, true, false, cond, _&&_}
 use Prim.Native.Nat.{ℕ, zero, suc, _+_, _-_, _≤_, _<_}
 use native.Mathlib.Omega.{arith}
-use native.Mathlib.Decide.{decLe, decLt}
+use native.Mathlib.Decide.{decLe}
 use lib.Dec.{leb}
 use lib.IntN.{ℤ}
 use borrow.Author.Tests.{le-leb, lt-leb, lt-ltb, le-ltb}
@@ -17,7 +17,6 @@ use Rattle.logic.specs.Formula.{dual}
 use Rattle.logic.specs.Reading.{extremum, along, margins, margin-extreme, margin-nothing}
 use Rattle.recordings.specs.Distance.{TOP}
 use Rattle.sliding.specs.Run.{over}
-use Rattle.sliding.proofs.Over.{joined-next}
 use Rattle.logic.proofs.Beaten.{nothing-moves, nothing-carried, along-outside, along-settled}
 
 -- the window of the places from `first` up to, not including, `end`
@@ -42,31 +41,25 @@ module _ (first end : ℕ) where
     abbrev pub best : ℕ → ℤ
     best j = along (margins TOP) e between (λ m. i + m) (λ m. l (i + m)) (λ m. r (i + m)) (j - i)
 
-    abbrev pub run : ℕ → ℤ
-    run j = over (dual e) l i j
-
-    pub best-next : (j : ℕ) → i ≤ j → first ≤ j → j < end → best (j + 1) ≡ margin-extreme e (best j) (margin-extreme (dual e) (r j) (run j))
+    pub best-next : (j : ℕ) → i ≤ j → first ≤ j → j < end → best (j + 1) ≡ margin-extreme e (best j) (margin-extreme (dual e) (r j) (over (dual e) l i j))
     best-next j h a b =
         let p : j + 1 - i ≡ suc (j - i) = omega arith in
         let q : i + (j - i) ≡ j = omega arith in
-        rw p (ap (λ (k : ℕ). margin-extreme e (best j) (cond (inside between k) (margin-extreme (dual e) (r k) (run j)) (margin-nothing TOP e))) q
+        rw p (ap (λ (k : ℕ). margin-extreme e (best j) (cond (inside between k) (margin-extreme (dual e) (r k) (over (dual e) l i j)) (margin-nothing TOP e))) q
         ∙ (rw (within j a b) refl))
 
     -- before the window there is nothing; from its end on nothing is added
     pub best-first : (j : ℕ) → j ≤ first → best j ≡ margin-nothing TOP e
     best-first j h = along-outside TOP e between _ _ _ 0 (j - i) (omega arith) (λ k a b. not-yet (i + k) (omega arith))
 
-    pub best-end : (j n : ℕ) → i ≤ j → j ≤ n → end ≤ j → best n ≡ best j
-    best-end j n h k a = along-outside TOP e between _ _ _ (j - i) (n - i) (omega arith) (λ m b c. past (i + m) (omega arith))
+    pub best-end : (j n : ℕ) → i ≤ j → end ≤ j → end ≤ n → best n ≡ best j
+    best-end j n h a k =
+        elim (decLe j n) [
+          | yes q ↦ along-outside TOP e between _ _ _ (j - i) (n - i) (omega arith) (λ m b c. past (i + m) (omega arith))
+          | no q ↦ sym (along-outside TOP e between _ _ _ (n - i) (j - i) (omega arith) (λ m b c. past (i + m) (omega arith)))
+        ]
 
-    pub best-empty : (n : ℕ) → end ≤ first → best n ≡ margin-nothing TOP e
-    best-empty n h = along-outside TOP e between _ _ _ 0 (n - i) (omega arith) (λ k a b. outside k (decLt (i + k) first))
-      where
-        outside : (k : ℕ) → Dec (i + k < first) → inside between (i + k) ≡ false
-        outside k (yes q) = not-yet (i + k) q
-        outside k (no q) = past (i + k) (omega arith)
-
-    pub best-settled : (j n : ℕ) → i ≤ j → j ≤ n → margin-extreme e (best j) (run j) ≡ best j → best n ≡ best j
+    pub best-settled : (j n : ℕ) → i ≤ j → j ≤ n → margin-extreme e (best j) (over (dual e) l i j) ≡ best j → best n ≡ best j
     best-settled j n h k s = along-settled TOP e between _ _ _ (j - i) (n - i) (omega arith) s
 
 -- ---- no left operand: the extremum of right over the window's places
@@ -81,20 +74,17 @@ module _ (first end : ℕ) (e : Extremum) (r : ℕ → ℤ) (i n : ℕ) (within-
       rw p (best-next first end e none r i (first + k) (omega arith) (omega arith) (omega arith)
       ∙ (rw (nothing-carried TOP (dual e) (first + k - i), nothing-moves TOP (dual e) (r (first + k)) (within-top (first + k) (omega arith)), lone-to k (omega arith)) refl))
 
-  pub lone : first ≤ n → best first end e none r i n ≡ over e r first end
-  lone b =
+  pub lone : best first end e none r i n ≡ over e r first end
+  lone =
       elim (decLe first end) [
         | yes q ↦
             let p : first + (end - first) ≡ end = omega arith in
-            best-end first end e none r i end n (omega arith) g (omega arith) ∙ (rw p at (lone-to (end - first) (omega arith)))
+            best-end first end e none r i end n (omega arith) (omega arith) g ∙ (rw p at (lone-to (end - first) (omega arith)))
         | no q ↦
             let z : end - first ≡ 0 = omega arith in
-            rw z (best-empty first end e none r i n (omega arith))
+            rw z (best-end first end e none r i first n h (omega arith) g ∙ best-first first end e none r i first (omega arith))
       ]
 
 -- ---- one turn of a loop: x, u and out are what is read back of a cell and of two results; the code's `other` is the dual
-pub turn-run : (e : Extremum) (l : ℕ → ℤ) (i j : ℕ) {other : Extremum} {old x res out : ℤ} → other ≡ dual e → i ≤ j → old ≡ over (dual e) l i j → x ≡ l j → res ≡ margin-extreme other old x → out ≡ res → out ≡ over (dual e) l i (j + 1)
-turn-run e l i j d h p q f o = joined-next (dual e) (margin-nothing TOP (dual e)) l i j h p q (rw d at f) o
-
-pub turn-best : (first end : ℕ) (e : Extremum) (l r : ℕ → ℤ) (i j : ℕ) {other : Extremum} {old carried x res u last out : ℤ} → other ≡ dual e → i ≤ j → first ≤ j → j < end → old ≡ best first end e l r i j → carried ≡ run first end e l r i j → x ≡ r j → res ≡ margin-extreme other x carried → u ≡ res → last ≡ margin-extreme e old u → out ≡ last → out ≡ best first end e l r i (j + 1)
+pub turn-best : (first end : ℕ) (e : Extremum) (l r : ℕ → ℤ) (i j : ℕ) {other : Extremum} {old carried x res u last out : ℤ} → other ≡ dual e → i ≤ j → first ≤ j → j < end → old ≡ best first end e l r i j → carried ≡ over (dual e) l i j → x ≡ r j → res ≡ margin-extreme other x carried → u ≡ res → last ≡ margin-extreme e old u → out ≡ last → out ≡ best first end e l r i (j + 1)
 turn-best first end e l r i j d h a k p c q g v f o = o ∙ f ∙ rw (v, g, d, p, q, c) (sym (best-next first end e l r i j h a k))

@@ -1,13 +1,13 @@
 -- Times rise, so what is past a stop of place i is past it at every later place too, and what is reached from i is reached from the next place too.
 -- A window's places are then those from one edge up to another.
 -- Assumes nothing.
-use mathlib.Core.Path.{_≡_, refl, sym, _∙_}
+use mathlib.Core.Path.{_≡_, refl, sym, _∙_, subst}
 use mathlib.Core.Bool.{true, not}
 use mathlib.Core.List.{List}
 use Prim.Native.Nat.{ℕ, _+_, _-_, _≤_, _<_, max}
 use native.Mathlib.Omega.{arith}
-use native.Mathlib.Decide.{decLt}
-use lib.Dec.{leb, ltb}
+use native.Mathlib.Decide.{decLe, decLt}
+use lib.Dec.{T, leb, ltb}
 use lib.ListN.{length, getD}
 use borrow.Author.Tests.{lt-ltb, le-ltb, lt-leb, le-leb, ltb-true}
 use Rattle.logic.specs.declared.Stop.{Stop}
@@ -69,6 +69,14 @@ module _ {times : List ℕ} where
     in-times = k .in-times;
     reached = λ j a b. reaches-less s (getD times j 0 - getD times (i + 1) 0) (getD times j 0 - getD times i 0) (omega (arith, rises R i (i + 1) (omega arith) (omega (arith, k .in-times)))) (k .reached j (omega arith) b);
   }
+
+  -- an edge stands no earlier than what was reached before
+  pub edge-rises : {s : Stop} {i r e : ℕ} → Reached times s i r → Edge times s i e → r ≤ e
+  edge-rises {r = r} {e = e} R E =
+      elim (decLe r e) [
+        | yes q ↦ q
+        | no q ↦ absurd (subst T (sym (R .reached e (E .from) (omega arith)) ∙ E .past e (omega arith) (omega (arith, R .in-times))) tt)
+      ]
 
   -- ---- a window as the places between its edges
   edge-test : (s : Stop) (i r : ℕ) → Edge times s i r → (j : ℕ) → i ≤ j → j < length times → reaches s (getD times j 0 - getD times i 0) ≡ ltb j r

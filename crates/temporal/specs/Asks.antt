@@ -12,7 +12,6 @@ use Rattle.temporal.specs.Reading.{Rising, LeftEarlier}
 pub record PlaceAsks (cells : List ℤ) (n right i first end : ℕ) : Type 0 where
   pub right-inside : right * n + n ≤ length cells
   pub from : i ≤ first
-  pub first-inside : first ≤ n
   pub end-inside : end ≤ n
 
 -- both operands' rows stand before the row that is filled, which lies in the cells; the right one's values lie within TOP; times rise

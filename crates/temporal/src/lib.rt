@@ -13,7 +13,7 @@ ghost use Rattle.recordings.specs.Distance.{TOP};
 ghost use Rattle.rows.specs.Cells.{cell, Bounded};
 ghost use Rattle.sliding.specs.Run.{over};
 ghost use Rattle.temporal.specs.Reading.{places, left-at, temporal-at, Rising, LeftInside};
-ghost use Rattle.temporal.specs.Slid.{either, slid-operand, slid-at};
+ghost use Rattle.temporal.specs.Slid.{if-left, slid-operand, slid-at};
 ghost use Rattle.temporal.specs.Edges.{Reached, Edge};
 ghost use Rattle.temporal.specs.Asks.{PlaceAsks, TemporalAsks};
 use logic::Extremum;
@@ -105,7 +105,7 @@ fn bound_at(
     best
 }
 
-// The operator at place i: with no left operand, what slides along.
+// The operator at place i; `slid` is left's extremum before the window or, with no left operand, right's over it.
 fn at_place(
     rows: usize,
     e: Extremum,
@@ -128,8 +128,8 @@ fn at_place(
 }
 
 // Of two places, the one for until and release, or the one for eventually and always.
-fn either_place(left: Left, bound: usize, lone: usize) -> usize
-    ensures { λ r. ⌜ r ≡ either left bound lone ⌝ }
+fn if_left(left: Left, bound: usize, lone: usize) -> usize
+    ensures { λ r. ⌜ r ≡ if-left left bound lone ⌝ }
 {
     match left {
         Left::Row(_) => bound,
@@ -148,8 +148,8 @@ fn slid_operand(left: Left, right: usize) -> usize
 }
 
 // How it is joined: left by the dual.
-fn slid_by(left: Left, e: Extremum) -> Extremum
-    ensures { λ r. ⌜ r ≡ either left (dual e) e ⌝ }
+fn slid_extremum(left: Left, e: Extremum) -> Extremum
+    ensures { λ r. ⌜ r ≡ if-left left (dual e) e ⌝ }
 {
     match left {
         Left::Row(_) => logic::dual(e),
@@ -176,18 +176,18 @@ pub fn temporal_row(
     let begin = Stop::Before(from);
     let stop = window.stop;
     let operand = slid_operand(left, right);
-    let by = slid_by(left, e);
-    let mut slide = sliding::start(by);
+    let by = slid_extremum(left, e);
+    let mut extremum = sliding::start(by);
     let mut first = 0;
     let mut end = 0;
     let mut i = 0;
     while i < rows {
         first = edge(times, i, first, begin);
         end = edge(times, i, end, stop);
-        let low = either_place(left, i, first);
-        let high = either_place(left, first, end);
-        slide = sliding::moved(rows, by, work, operand, row, slide, low, high);
-        work[base + i] = at_place(rows, e, work, left, right, i, first, end, slide.value);
+        let low = if_left(left, i, first);
+        let high = if_left(left, first, end);
+        extremum = sliding::advanced(rows, by, work, operand, row, extremum, low, high);
+        work[base + i] = at_place(rows, e, work, left, right, i, first, end, extremum.value);
         i += 1;
     }
 }

@@ -15,13 +15,13 @@ use Rattle.sliding.proofs.joined_on.Statement.{statement}
 use Rattle.sliding.proofs.joined_on.Tie as tie
 
 abbrev Inv-loop : tie.InvT-loop
-Inv-loop rows e cells row tail from high joined₀ j₀ joined j =
+Inv-loop rows e cells source tail from high joined₀ j₀ joined j =
     (from ≤ j)
     × (j ≤ max from high)
-    × (toZ w64 joined ≡ fold (margin-extreme e) (toZ w64 tail) (λ m. cell cells rows row (from + m)) (j - from))
+    × (toZ w64 joined ≡ fold (margin-extreme e) (toZ w64 tail) (λ m. cell cells rows source (from + m)) (j - from))
 
 abbrev μ-loop : tie.MeasureT-loop
-μ-loop rows e cells row tail from high joined₀ j₀ joined j = high - j
+μ-loop rows e cells source tail from high joined₀ j₀ joined j = high - j
 
 loop-holds : tie.Need-loop-holds Inv-loop μ-loop
 loop-holds c =
@@ -45,7 +45,7 @@ loop-again c =
     let s = c .before .before .before .before in
     let h = c .before .before .before .loop .inv in
     let x = c .before .cell-at in
-    (omega arith, omega arith, joined-next (s .args .e) _ (cell (s .args .cells .now) (s .args .rows) (s .args .row)) _ _ (h .0) (h .2) (back-ok (x .result) (x .ok) ∙ x .ensures) (c .extreme .ensures) (back-ok (c .extreme .result) (c .extreme .ok)))
+    (omega arith, omega arith, joined-next (s .args .e) _ (cell (s .args .cells .now) (s .args .rows) (s .args .source)) _ _ (h .0) (h .2) (back-ok (x .result) (x .ok) ∙ x .ensures) (c .extreme .ensures) (back-ok (c .extreme .result) (c .extreme .ok)))
 
 returns : tie.Need-returns Inv-loop μ-loop
 returns c =

@@ -1,4 +1,4 @@
--- Each operand by itself: until and release of two rows, or what slides along of one.
+-- With a left operand the loop over the window gives the reading; without, what slides along is it.
 -- Assumes nothing.
 use mathlib.Core.Path.{sym, ap, _∙_, subst}
 use Prim.Native.Nat.{_+_, _-_}
@@ -47,7 +47,7 @@ returns-2 c =
     let s = c .before .before in
     let p = s .pre .0 .0 in
     back-is (s .fits .slid) ∙ s .pre .1 .1 ∙ ap (sliding s) (c .enum-told .given .1)
-    ∙ sym (lone (s .args .first) (s .args .end) (s .args .e) (cell (s .args .cells .now) (s .args .rows) (s .args .right)) (s .args .i) (s .args .rows) (s .pre .1 .0 .bounded) (p .from) (p .end-inside) (p .first-inside))
+    ∙ sym (lone (s .args .first) (s .args .end) (s .args .e) (cell (s .args .cells .now) (s .args .rows) (s .args .right)) (s .args .i) (s .args .rows) (s .pre .1 .0 .bounded) (p .from) (p .end-inside))
     ∙ sym (ap (reading s) (c .enum-told .given .1))
 
 pub at-place-spec : {M : Type 1} → statement M

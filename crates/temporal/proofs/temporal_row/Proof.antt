@@ -9,18 +9,18 @@ use mir.Syntax.{w64}
 use mir.Val.{SFits}
 use Rattle.numbers.proofs.Bits.{back-ok, back-is}
 use Rattle.temporal.proofs.Row.{SoFar, none-so-far, all-so-far}
-use Rattle.temporal.proofs.Turn.{Turn, move-asks, moved-length, place-asks, right-bounded, slid-value, place-value, next-so-far}
+use Rattle.temporal.proofs.Turn.{Turn, advance-asks, advanced-length, place-asks, right-bounded, slid-value, place-value, next-so-far}
 use Rattle.temporal.proofs.temporal_row.Statement.{statement}
 use Rattle.temporal.proofs.temporal_row.Tie as tie
 
 abbrev Inv-loop : tie.InvT-loop
-Inv-loop times e work₀ left right row rows base from begin stop operand by slide₀ first₀ end₀ i₀ work slide first end i =
+Inv-loop times e work₀ left right row rows base from begin stop operand by extremum₀ first₀ end₀ i₀ work extremum first end i =
     (i ≤ rows)
     × (length work ≡ length work₀)
-    × SoFar e (record { from = from; stop = stop }) times left right row work₀ work slide first end i
+    × SoFar e (record { from = from; stop = stop }) times left right row work₀ work extremum first end i
 
 abbrev μ-loop : tie.MeasureT-loop
-μ-loop times e work₀ left right row rows base from begin stop operand by slide₀ first₀ end₀ i₀ work slide first end i = rows - i
+μ-loop times e work₀ left right row rows base from begin stop operand by extremum₀ first₀ end₀ i₀ work extremum first end i = rows - i
 
 abbrev entry : tie.At-loop Inv-loop μ-loop → tie.Start Inv-loop μ-loop
 entry c = c .before .before .before .before .before
@@ -31,8 +31,8 @@ mul-base c = omega (arith, c .before .pre .room)
 slid-operand-requires : tie.Need-slid-operand-requires Inv-loop μ-loop
 slid-operand-requires c κs = search needs
 
-slid-by-requires : tie.Need-slid-by-requires Inv-loop μ-loop
-slid-by-requires c κs = search needs
+slid-extremum-requires : tie.Need-slid-extremum-requires Inv-loop μ-loop
+slid-extremum-requires c κs = search needs
 
 start-requires : tie.Need-start-requires Inv-loop μ-loop
 start-requires c κs = search needs
@@ -40,7 +40,7 @@ start-requires c κs = search needs
 loop-holds : tie.Need-loop-holds Inv-loop μ-loop
 loop-holds c =
     let s = c .before .before .before .before in
-    (omega arith, refl, rw (c .start .ensures, c .before .slid-by .ensures) (none-so-far (s .args .e) _ (s .args .times .now) (s .args .left) (s .args .right) (s .args .row) (s .args .work .now)))
+    (omega arith, refl, rw (c .start .ensures, c .before .slid-extremum .ensures) (none-so-far (s .args .e) _ (s .args .times .now) (s .args .left) (s .args .right) (s .args .row) (s .args .work .now)))
 
 edge-requires : tie.Need-edge-requires Inv-loop μ-loop
 edge-requires c κs = let s = entry (c .before) in (s .pre .times-rise, (c .loop-test .taken, c .before .loop .inv .2 .begun))
@@ -48,17 +48,17 @@ edge-requires c κs = let s = entry (c .before) in (s .pre .times-rise, (c .loop
 edge-requires-2 : tie.Need-edge-requires-2 Inv-loop μ-loop
 edge-requires-2 c κs = let s = entry (c .before .before) in (s .pre .times-rise, (c .before .loop-test .taken, c .before .before .loop .inv .2 .ended))
 
-either-place-requires : tie.Need-either-place-requires Inv-loop μ-loop
-either-place-requires c κs = search needs
+if-left-requires : tie.Need-if-left-requires Inv-loop μ-loop
+if-left-requires c κs = search needs
 
-either-place-requires-2 : tie.Need-either-place-requires-2 Inv-loop μ-loop
-either-place-requires-2 c κs = search needs
+if-left-requires-2 : tie.Need-if-left-requires-2 Inv-loop μ-loop
+if-left-requires-2 c κs = search needs
 
 -- a turn up to its move
-abbrev loop : tie.After-either-place2 Inv-loop μ-loop → tie.At-loop Inv-loop μ-loop
+abbrev loop : tie.After-if-left2 Inv-loop μ-loop → tie.At-loop Inv-loop μ-loop
 loop t = t .before .before .before .before .before
 
-turn : (t : tie.After-either-place2 Inv-loop μ-loop) → let l = loop t in let s = entry l in Turn (s .args .e) (s .args .window) (s .args .times .now) (s .args .left) (s .args .right) (s .args .row) (s .args .work .now) (l .loop .work) (l .loop .slide) (l .loop .i) (t .before .before .before .edge .result) (t .before .before .edge2 .result) (l .before .before .before .slid-operand .result) (l .before .before .slid-by .result) (t .before .either-place .result) (t .either-place2 .result)
+turn : (t : tie.After-if-left2 Inv-loop μ-loop) → let l = loop t in let s = entry l in Turn (s .args .e) (s .args .window) (s .args .times .now) (s .args .left) (s .args .right) (s .args .row) (s .args .work .now) (l .loop .work) (l .loop .extremum) (l .loop .i) (t .before .before .before .edge .result) (t .before .before .edge2 .result) (l .before .before .before .slid-operand .result) (l .before .before .slid-extremum .result) (t .before .if-left .result) (t .if-left2 .result)
 turn t =
     let l = loop t in
     record {
@@ -69,27 +69,27 @@ turn t =
       first-edge = t .before .before .before .edge .ensures;
       end-edge = t .before .before .edge2 .ensures;
       operand-is = l .before .before .before .slid-operand .ensures;
-      by-is = l .before .before .slid-by .ensures;
-      low-is = t .before .either-place .ensures;
-      high-is = t .either-place2 .ensures;
+      by-is = l .before .before .slid-extremum .ensures;
+      low-is = t .before .if-left .ensures;
+      high-is = t .if-left2 .ensures;
     }
 
-moved-requires : tie.Need-moved-requires Inv-loop μ-loop
-moved-requires c κs = move-asks (entry (loop (c .before)) .pre) (turn (c .before))
+advanced-requires : tie.Need-advanced-requires Inv-loop μ-loop
+advanced-requires c κs = advance-asks (entry (loop (c .before)) .pre) (turn (c .before))
 
 at-place-requires : tie.Need-at-place-requires Inv-loop μ-loop
 at-place-requires c κs =
     let m = c .before .before .before in
     let t = m .before .before in
     let a = entry (loop t) .pre in
-    let e = m .moved .ensures in
-    let f : SFits w64 (m .moved .result .value) = record { sfits = c .struct-told .given .1 .1 .1 .0 .1 } in (
+    let e = m .advanced .ensures in
+    let f : SFits w64 (m .advanced .result .value) = record { sfits = c .struct-told .given .1 .1 .1 .0 .1 } in (
       place-asks a (turn t) (e .0) (e .1),
       (right-bounded a (turn t) (e .0) (e .1), back-is f ∙ slid-value a (turn t) (e .0) (e .1)),
     )
 
 -- a turn up to its store: place i of the row lies in the cells, whose count fits
-abbrev move : tie.After-at-place Inv-loop μ-loop → tie.After-moved Inv-loop μ-loop
+abbrev move : tie.After-at-place Inv-loop μ-loop → tie.After-advanced Inv-loop μ-loop
 move c = c .before .before .before .before
 
 add-t27 : tie.Need-add-t27 Inv-loop μ-loop
@@ -108,8 +108,8 @@ slice-set-from-work : tie.Need-slice-set-from-work Inv-loop μ-loop
 slice-set-from-work c =
     let t = move c .before .before in
     let s = entry (loop t) in
-    let e = move c .moved .ensures in
-    omega (arith, s .pre .room, moved-length (s .pre) (turn t) (e .0) (e .1), turn t .inside)
+    let e = move c .advanced .ensures in
+    omega (arith, s .pre .room, advanced-length (s .pre) (turn t) (e .0) (e .1), turn t .inside)
 
 add-i : tie.Need-add-i Inv-loop μ-loop
 add-i c = let t = move c .before .before in omega (arith, entry (loop t) .good .0, turn t .inside)
@@ -121,10 +121,10 @@ loop-again : tie.Need-loop-again Inv-loop μ-loop
 loop-again c =
     let t = move c .before .before in
     let a = entry (loop t) .pre in
-    let e = move c .moved .ensures in
+    let e = move c .advanced .ensures in
     let v = c .at-place in (
       omega (arith, turn t .inside),
-      simp length-set (moved-length a (turn t) (e .0) (e .1)),
+      simp length-set (advanced-length a (turn t) (e .0) (e .1)),
       next-so-far a (turn t) (e .0) (e .1) (back-ok (v .result) (v .ok) ∙ v .ensures ∙ place-value a (turn t) (e .0) (e .1)),
     )
 
@@ -144,14 +144,14 @@ temporal-row-spec =
     μ-loop
     mul-base
     slid-operand-requires
-    slid-by-requires
+    slid-extremum-requires
     start-requires
     loop-holds
     edge-requires
     edge-requires-2
-    either-place-requires
-    either-place-requires-2
-    moved-requires
+    if-left-requires
+    if-left-requires-2
+    advanced-requires
     at-place-requires
     add-t27
     mul-t28

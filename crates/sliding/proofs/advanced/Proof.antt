@@ -10,10 +10,10 @@ use mir.Val.{SFits}
 use Rattle.numbers.proofs.Bits.{back-ok, back-is}
 use Rattle.lists.proofs.Filled.{earlier-row}
 use Rattle.rows.specs.Cells.{cell}
-use Rattle.sliding.proofs.Moves.{middle-kept, middle-anew, slid-on, slid-anew}
+use Rattle.sliding.proofs.Moves.{cut-kept, cut-anew, sliding-on, sliding-anew}
 use Rattle.sliding.proofs.Suffixes.{suffixed-same}
-use Rattle.sliding.proofs.moved.Statement.{statement}
-use Rattle.sliding.proofs.moved.Tie as tie
+use Rattle.sliding.proofs.advanced.Statement.{statement}
+use Rattle.sliding.proofs.advanced.Tie as tie
 
 -- the other row's values, and those of the row that is being filled
 abbrev values : tie.Start → ℕ → ℤ
@@ -41,13 +41,13 @@ returns c =
     let t = c .before .before .before .joined-on in
     let x = c .before .cell-at in
     let s = c .before .before .before .before .before .before .before in
-    let m = s .args .s .mid in
+    let m = s .args .s .cut in
     let h = c .before .before .before .before .before .before .if1 .taken in
     let f : SFits w64 (s .args .s .tail) = record { sfits = c .before .before .before .before .struct-told .given .1 .1 .0 .1 } in (
-      slid-on (s .args .e) (values s) (stored s) (s .args .s) (s .args .low) (s .args .high) (s .pre .sliding) h (s .pre .onward)
+      sliding-on (s .args .e) (values s) (stored s) (s .args .s) (s .args .low) (s .args .high) (s .pre .sliding) h (s .pre .onward)
           (back-ok (t .result) (t .ok) ∙ t .ensures ∙ (rw (back-is f) refl))
           (back-ok (c .extreme .result) (c .extreme .ok) ∙ c .extreme .ensures ∙ rw (back-ok (x .result) (x .ok), x .ensures) refl),
-      rw (middle-kept m (s .args .low) (s .args .high) h) (suffixed-same (s .args .e) (values s) (s .args .row * s .args .rows) (s .args .low) m (s .args .work .now) (s .pre .sliding .stored-are)),
+      rw (cut-kept m (s .args .low) (s .args .high) h) (suffixed-same (s .args .e) (values s) (s .args .row * s .args .rows) (s .args .low) m (s .args .work .now) (s .pre .sliding .stored-are)),
     )
 
 fill-suffixes-requires : tie.Need-fill-suffixes-requires
@@ -65,12 +65,12 @@ returns-2 c =
     let o = c .over-nothing in
     let s = c .before .before .before .before .before in
     let h = c .before .before .before .before .if1 .left in (
-      slid-anew (s .args .e) (values s) (stored s) (s .args .s) (s .args .low) (s .args .high) h (back-ok (o .result) (o .ok) ∙ o .ensures) (back-ok (v .result) (v .ok) ∙ v .ensures .0),
-      rw (middle-anew (s .args .s .mid) (s .args .low) (s .args .high) h) (v .ensures .1),
+      sliding-anew (s .args .e) (values s) (s .args .s .cut) (s .args .low) (s .args .high) h (back-ok (o .result) (o .ok) ∙ o .ensures) (back-ok (v .result) (v .ok) ∙ v .ensures .0),
+      rw (cut-anew (s .args .s .cut) (s .args .low) (s .args .high) h) (v .ensures .1),
     )
 
-pub moved-spec : {M : Type 1} → statement M
-moved-spec =
+pub advanced-spec : {M : Type 1} → statement M
+advanced-spec =
     tie.close
     (tie.spec
     joined-on-requires
