@@ -97,10 +97,10 @@ fn bound_at(
         let l = rows::cell_at(rows, cells, left, j);
         best = rows::extreme(e, best, rows::extreme(other, r, run));
         run = rows::extreme(other, run, l);
+        j += 1;
         if settled(e, best, run) {
             return best;
         }
-        j += 1;
     }
     best
 }

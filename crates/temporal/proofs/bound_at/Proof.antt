@@ -95,6 +95,9 @@ extreme-requires-2 c κs = search needs
 extreme-requires-3 : tie.Need-extreme-requires-3 Inv-loop μ-loop
 extreme-requires-3 c κs = search needs
 
+add-j : tie.Need-add-j Inv-loop μ-loop
+add-j c = omega arith
+
 settled-requires : tie.Need-settled-requires Inv-loop μ-loop
 settled-requires c κs = search needs
 
@@ -109,9 +112,6 @@ returns c =
     p
     ∙ sym (best-settled (s .args .first) (s .args .end) (s .args .e) (left s) (right s) (s .args .i) (l .loop .j + 1) (s .args .rows) (omega arith) (omega (arith, s .pre .0 .0 .end-inside))
     (sym (ap₂ (margin-extreme (s .args .e)) p q) ∙ c .before .settled .ensures (c .if1 .taken) ∙ p))
-
-add-j : tie.Need-add-j Inv-loop μ-loop
-add-j c = omega arith
 
 loop-less : tie.Need-loop-less Inv-loop μ-loop
 loop-less c = omega arith
@@ -139,9 +139,9 @@ bound-at-spec =
     extreme-requires
     extreme-requires-2
     extreme-requires-3
+    add-j
     settled-requires
     returns
-    add-j
     loop-less
     loop-again
     returns-2)
