@@ -107,11 +107,24 @@ impl fmt::Display for Values {
     }
 }
 
-/// Best times in seconds, each without end until it is measured.
-struct Best {
-    proved: f64,
-    plain: f64,
-    afresh: f64,
+/// Seconds, for each round the best of its turns.
+#[derive(Default)]
+struct Times {
+    proved: Vec<f64>,
+    plain: Vec<f64>,
+    afresh: Vec<f64>,
+}
+
+fn best(times: &[f64]) -> f64 {
+    times.iter().copied().fold(f64::INFINITY, f64::min)
+}
+
+/// How many times as long the one takes as the other: the median of the rounds. What is timed in one round is timed under the same conditions, and a round that
+/// was disturbed does not count.
+fn times_as_long(one: &[f64], other: &[f64]) -> f64 {
+    let mut ratios: Vec<f64> = one.iter().zip(other).map(|(a, b)| a / b).collect();
+    ratios.sort_by(f64::total_cmp);
+    ratios[ratios.len() / 2]
 }
 
 /// What is timed: a table's margin or its verdict over a recording of two channels.
@@ -123,7 +136,7 @@ struct Case {
     verdict: bool,
     /// Whether the plain loop is timed too.
     beside_afresh: bool,
-    best: Best,
+    seconds: Times,
 }
 
 impl Case {
@@ -136,7 +149,7 @@ impl Case {
             values,
             verdict: false,
             beside_afresh: false,
-            best: Best { proved: f64::INFINITY, plain: f64::INFINITY, afresh: f64::INFINITY },
+            seconds: Times::default(),
         }
     }
 
@@ -144,29 +157,32 @@ impl Case {
     fn time(&mut self, predicates: &[Predicate; 16]) {
         let (nodes, f) = (&self.nodes[..], flat(&self.nodes, predicates));
         let card = Card { predicates, channels: 2, times: &self.times, values: &self.values };
-        let (n, verdict, best) = (nodes.len(), self.verdict, &mut self.best);
+        let (n, verdict) = (nodes.len(), self.verdict);
         let mut a = vec![0; (1 + usize::from(verdict)) * n * card.times.len() + 3];
         let mut b = a.clone();
+        let (mut ours, mut theirs) = (Vec::new(), Vec::new());
         for _ in 0..9 {
             let (mut x, mut y) = (None, None);
-            best.proved = best.proved.min(seconds(|| x = proved(verdict, &f, n, &card, &mut a)));
-            best.plain = best.plain.min(seconds(|| y = plain(verdict, nodes, &card, &mut b)));
+            ours.push(seconds(|| x = proved(verdict, &f, n, &card, &mut a)));
+            theirs.push(seconds(|| y = plain(verdict, nodes, &card, &mut b)));
             assert!(x.is_some() && x == y && a == b, "results differ: {}", self.name);
         }
+        self.seconds.proved.push(best(&ours));
+        self.seconds.plain.push(best(&theirs));
         if self.beside_afresh {
             // once: it is slow
             let (mut y, mut b) = (None, vec![0; a.len()]);
-            best.afresh = best.afresh.min(seconds(|| y = afresh(verdict, nodes, &card, &mut b)));
+            self.seconds.afresh.push(seconds(|| y = afresh(verdict, nodes, &card, &mut b)));
             assert!(y == plain(verdict, nodes, &card, &mut a) && a == b, "results of the plain loop differ: {}", self.name);
         }
     }
 
     fn ratio(&self) -> f64 {
-        self.best.proved / self.best.plain
+        times_as_long(&self.seconds.proved, &self.seconds.plain)
     }
 
     fn print(&self) {
-        let (ours, theirs) = (self.best.proved * 1e3, self.best.plain * 1e3);
+        let (ours, theirs) = (best(&self.seconds.proved) * 1e3, best(&self.seconds.plain) * 1e3);
         println!("{:<44} {:>5} rows: {ours:>9.3} ms, plain Rust {theirs:>9.3} ms, ratio {:.2}", self.name, self.times.len(), self.ratio());
     }
 }
@@ -256,7 +272,7 @@ fn predicates() -> [Predicate; 16] {
 /// How many times as long 4,096 rows take as 2,048, by name.
 fn growths(cases: &[Case]) -> Vec<(&str, f64)> {
     let pairs = cases.chunks_exact(2);
-    pairs.map(|pair| (pair[0].name.as_str(), pair[1].best.proved / pair[0].best.proved)).collect()
+    pairs.map(|pair| (pair[0].name.as_str(), times_as_long(&pair[1].seconds.proved, &pair[0].seconds.proved))).collect()
 }
 
 fn print_growth_of_until(cases: &[Case]) {
@@ -282,7 +298,7 @@ fn print_tables(cases: &[Case]) {
     for c in cases.iter().filter(|c| c.times.len() == 4_096) {
         print!("{}, 4096 rows: {:.2} times plain Rust (at most 1.1 wanted)", c.name, c.ratio());
         if c.beside_afresh {
-            print!("; the plain loop takes {:.0} times as long as the library (at least 50 wanted)", c.best.afresh / c.best.proved);
+            print!("; the plain loop takes {:.0} times as long as the library (at least 50 wanted)", times_as_long(&c.seconds.afresh, &c.seconds.proved));
         }
         println!();
     }
@@ -294,7 +310,7 @@ fn main() {
     let mut eventuallies = operator_cases([7, 8], &EVENTUALLY_WINDOWS, &EVENTUALLY_VALUES, random);
     let mut tables = table_cases(random);
     // rounds over all cases, so that a slow spell of the machine does not fall on one of them alone
-    for _ in 0..5 {
+    for _ in 0..9 {
         for case in untils.iter_mut().chain(&mut eventuallies).chain(&mut tables) {
             case.time(&predicates);
         }
