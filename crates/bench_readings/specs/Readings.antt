@@ -67,7 +67,8 @@ pub record Reading : Type 0 where
   pub asked : List Question
   pub answered : List Answer
 
--- K1 to K13, in order; then what document 01 says is printed for its sheet, and for the sheet with `src=f` at t=2
+-- K1 to K13, in order, K13 as in document 02; then what is printed for document 01's sheet, and for the sheet with `src=f` at t=2; then a window that
+-- starts now and has nothing left, since its end is before the step
 abbrev pub readings : List Reading
 readings =
     record { asked = margin-of "p0" ∷ []; answered = accepted-margin (pos 3) ∷ [] }
@@ -82,10 +83,11 @@ readings =
       asked = distance-of (pos 2) ∷ distance-of (pos 3) ∷ distance-of (pos 8) ∷ distance-of (pos 9) ∷ [];
       answered = accepted-distance (negℤ (pos 1)) ∷ accepted-distance (pos 1) ∷ accepted-distance (pos 1) ∷ accepted-distance (negℤ (pos 1)) ∷ [];
     }
-    ∷ record { asked = verdict-of 4 "G[0,2]p0" ∷ []; answered = accepted-verdict Holds (pos 5) (negℤ (pos 7)) ∷ [] }
-    ∷ record { asked = verdict-of 5 "G[0,2]p0" ∷ []; answered = accepted-verdict NotShown (pos 5) (negℤ (pos 7)) ∷ [] }
+    ∷ record { asked = verdict-of 4 "G[0,2]p0" ∷ []; answered = accepted-verdict Holds (pos 5) (negℤ (pos 6)) ∷ [] }
+    ∷ record { asked = verdict-of 5 "G[0,2]p0" ∷ []; answered = accepted-verdict NotShown (pos 5) (negℤ (pos 6)) ∷ [] }
     ∷ record { asked = verdict-of 2 "F[1,3]p0" ∷ []; answered = accepted-verdict Holds (pos 6) (negℤ (pos 7)) ∷ [] }
-    ∷ record { asked = verdict-of 2 "F[0,1]p0" ∷ []; answered = accepted-verdict NotShown (negℤ (pos TOP)) (negℤ (pos 7)) ∷ [] }
-    ∷ record { asked = line-for sheet ∷ []; answered = line (bytes "rows=5 filled=0 margin=6 hold=5 fail=-7 verdict=holds\n") ∷ [] }
+    ∷ record { asked = verdict-of 2 "F[0,1]p0" ∷ []; answered = accepted-verdict Holds (pos 6) (negℤ (pos 7)) ∷ [] }
+    ∷ record { asked = line-for sheet ∷ []; answered = line (bytes "rows=5 filled=0 margin=6 hold=5 fail=-6 verdict=holds\n") ∷ [] }
     ∷ record { asked = line-for (with-third filled-row) ∷ []; answered = line (bytes "refused=10\n") ∷ [] }
+    ∷ record { asked = verdict-of 2 "F[0,0]p0" ∷ []; answered = accepted-verdict NotShown (negℤ (pos TOP)) (negℤ (pos 7)) ∷ [] }
     ∷ []

@@ -1,5 +1,6 @@
 -- The sampling argument. Two rising lines of times with no gap above s end together and start at most s apart: then each place of one that its window
 -- holds is met on the other, rounding down where the other line starts no later and up where it starts later, so that both offsets differ by at most s.
+-- Where the other line starts only after that place, it is met at that start.
 -- Assumes nothing.
 use mathlib.Core.Path.{_≡_}
 use Prim.Native.Nat.{ℕ, zero, suc, _+_, _-_, _≤_, _<_}
@@ -80,6 +81,7 @@ module _ {s e : ℕ} (K L : Line s e) (start : Near s (K .at 0) (L .at 0)) {v w 
   fitting : (n : ℕ) → n ≤ L .last → K .at m + L .at 0 ≤ L .at n + K .at 0 + s → L .at n + K .at 0 ≤ K .at m + L .at 0 + s → T (inside w (L .times n))
   fitting n on a b = sp .spread (K .times m) (L .times n) i (omega (arith, K .counts m h, L .counts n on))
 
+  -- the other line starts near m, perhaps after it
   here : K .at m ≤ L .at 0 + s → L .at 0 ≤ K .at m + s → K .at m ≤ K .at 0 + s → Meeting K L w m
   here a b c = record { spot = 0; in-row = omega (arith, L .whole); in-window = fitting 0 (omega arith) (omega arith) (omega (arith, rise)); close = omega arith; cover = λ q j. absurd (omega arith) }
 

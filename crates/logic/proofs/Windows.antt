@@ -1,8 +1,8 @@
 -- A window and its strengthening, over any bounds: whatever is at most a step from the window lies in its expansion, and so whatever is at most a step
--- from the contraction lies in the window, since a contraction that holds anything expands to the window again.
+-- from the contraction lies in the window, since a contraction that holds anything expands to the window again. No larger one would do.
 -- Assumes nothing.
 use mathlib.Core.Path.{_≡_, refl, ap, subst}
-use Prim.Native.Nat.{ℕ, _+_, _-_, _≤_}
+use Prim.Native.Nat.{ℕ, zero, suc, _+_, _-_, _≤_, _<_}
 use native.Mathlib.Omega.{arith}
 use lib.Dec.{T, leb, leb→le, le→leb, ltb→lt, lt→ltb}
 use mir.Facts.{and-yes, yes-and}
@@ -10,7 +10,7 @@ use Rattle.logic.specs.declared.Stop.{Stop}
 use Rattle.logic.specs.declared.Stop.the-variants.{Endless, Before}
 use Rattle.logic.specs.declared.Window.{Window}
 use Rattle.logic.specs.Window.{reaches, inside}
-use Rattle.logic.specs.Strengthening.{sooner, later, contraction, expansion}
+use Rattle.logic.specs.Strengthening.{sooner, later, delayed, contraction, expansion}
 
 -- x and y are at most s apart
 pub record Near (s x y : ℕ) : Type 0 where
@@ -38,10 +38,32 @@ regained : (s : ℕ) (e : Stop) (c : ℕ) → T (reaches (sooner s e) c) → lat
 regained s Endless c t = refl
 regained s (Before e) c t = ap Before (omega (arith, ltb→lt c (e - s) t))
 
+resumed : (s lo : ℕ) → delayed s lo - s ≡ lo
+resumed s zero = omega arith
+resumed s (suc lo) = omega arith
+
 pub contraction-spread : (s : ℕ) (w : Window) → Spread s (contraction s w) w
 contraction-spread s w = record {
   spread = λ c d t n.
-      let from : w .from + s - s ≡ w .from = omega arith in
-      let back : expansion s (contraction s w) ≡ w = rw (from, regained s (w .stop) c (inside-says (contraction s w) c t .1)) refl in
+      let back : expansion s (contraction s w) ≡ w = rw (resumed s (w .from), regained s (w .stop) c (inside-says (contraction s w) c t .1)) refl in
       subst (λ v. T (inside v d)) back (expansion-spread s (contraction s w) .spread c d t n);
 }
+
+delayed-before : (s lo c : ℕ) → lo ≤ c - s → delayed s lo ≤ c
+delayed-before s zero c h = omega arith
+delayed-before s (suc lo) c h = omega arith
+
+sooner-past : (s : ℕ) (e : Stop) (c : ℕ) → T (reaches e (c + s)) → T (reaches (sooner s e) c)
+sooner-past s Endless c t = tt
+sooner-past s (Before e) c t = lt→ltb c (e - s) (omega (arith, ltb→lt (c + s) e t))
+
+-- the source's contraction, where no time comes before zero: it leaves out no distance whose neighbours up to s away are all in the window
+pub contraction-whole : (s : ℕ) (w : Window) (c : ℕ) → ((d : ℕ) → Near s c d → T (inside w d)) → T (inside (contraction s w) c)
+contraction-whole s w c f =
+    says-inside (contraction s w) c
+    (delayed-before s (w .from) c (inside-says w (c - s) (f (c - s) (omega arith)) .0))
+    (sooner-past s (w .stop) c (inside-says w (c + s) (f (c + s) (omega arith)) .1))
+
+-- a high end before the step is not put at 0: nothing is left, also of a window that starts now
+pub contraction-none : (s lo hi c : ℕ) → hi < s → T (inside (contraction s (record { from = lo; stop = Before (suc hi) })) c) → ⊥
+contraction-none s lo hi c h t = let p = inside-says (contraction s (record { from = lo; stop = Before (suc hi) })) c t in omega (arith, ltb→lt c (suc hi - s) (p .1))

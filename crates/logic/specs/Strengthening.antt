@@ -1,7 +1,7 @@
 -- Strengthening after Fainekos and Pappas: what must be found must be found a step inside its window, and what must be kept must be kept a step beyond it.
 -- Assumes nothing.
 use mathlib.Core.Bool.{Bool}
-use Prim.Native.Nat.{ℕ, _+_, _-_}
+use Prim.Native.Nat.{ℕ, zero, suc, _+_, _-_}
 use Rattle.logic.specs.declared.Stop.{Stop}
 use Rattle.logic.specs.declared.Stop.the-variants.{Endless, Before}
 use Rattle.logic.specs.declared.Window.{Window}
@@ -19,9 +19,14 @@ abbrev pub later : ℕ → Stop → Stop
 later s Endless = Endless
 later s (Before e) = Before (e + s)
 
--- the source's contraction: lo + step to hi - step, perhaps empty
+-- no time comes before zero: a window that starts now still does
+abbrev pub delayed : ℕ → ℕ → ℕ
+delayed s zero = zero
+delayed s (suc lo) = suc lo + s
+
+-- the source's contraction: lo + step to hi - step, perhaps empty, and from 0 where lo is 0
 abbrev pub contraction : ℕ → Window → Window
-contraction s w = record { from = w .from + s; stop = sooner s (w .stop) }
+contraction s w = record { from = delayed s (w .from); stop = sooner s (w .stop) }
 
 -- the source's expansion: lo - step, not below 0, to hi + step
 abbrev pub expansion : ℕ → Window → Window

@@ -1,7 +1,7 @@
 // A node's window as the rows read it, and its strengthening. An end that stands for no end is told apart before anything is added to it.
 ghost use mathlib.Core.Path.{_≡_};
 ghost use Prim.Native.Nat.{_-_, _≤_};
-ghost use Rattle.logic.specs.Strengthening.{sooner, later, contraction, expansion, strengthen-window};
+ghost use Rattle.logic.specs.Strengthening.{sooner, later, delayed, contraction, expansion, strengthen-window};
 ghost use Rattle.tables.specs.Tree.{NO-END, window};
 ghost use Rattle.windows.specs.Bounds.{Short, ShortStop};
 use logic::Extremum;
@@ -56,12 +56,20 @@ fn later(step: u64, stop: Stop) -> Stop
     }
 }
 
+// A start that is so much later. One that is now stays: no time comes before it.
+fn delayed(step: u64, from: u64) -> u64
+    requires { ⌜ (from ≤ NO-END) × (step ≤ NO-END) ⌝ }
+    ensures { λ r. ⌜ r ≡ delayed step from ⌝ }
+{
+    if from == 0 { 0 } else { from + step }
+}
+
 // The source's contraction: where the step is longer than the window, nothing is left.
 fn contracted(step: u64, w: Window) -> Window
     requires { ⌜ Short w × (step ≤ NO-END) ⌝ }
     ensures { λ r. ⌜ r ≡ contraction step w ⌝ }
 {
-    let from = w.from + step;
+    let from = delayed(step, w.from);
     let end = w.stop;
     let stop = sooner(step, end);
     Window {
