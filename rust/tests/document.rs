@@ -20,7 +20,7 @@ t=4 src=m v0=10
 
 #[test]
 fn the_example_prints_its_line() {
-    let line = "rows=5 filled=0 margin=6 hold=5 fail=-7 verdict=holds\n";
+    let line = "rows=5 filled=0 margin=6 hold=5 fail=-6 verdict=holds\n";
     assert_eq!(answer(EXAMPLE.as_bytes()), line);
 }
 
@@ -47,7 +47,7 @@ fn the_example_by_its_parts() {
     assert_eq!(work[..10], [6, 7, 6, 5, 6, 6, 5, 5, 5, 6]);
     assert_eq!(work[10..], [77; 11]);
     let judged = verdict(&table, &sheet.predicates, &recording, 1, 2, &mut work);
-    assert_eq!(judged, Ok(Judgement { verdict: Verdict::Holds, hold: 5, fail: -7 }));
+    assert_eq!(judged, Ok(Judgement { verdict: Verdict::Holds, hold: 5, fail: -6 }));
     assert_eq!(work[20], 77);
 }
 
@@ -57,13 +57,31 @@ fn several(requirements: &[&str]) -> String {
     EXAMPLE.replace("req=G[0,2]p0\n", &lines)
 }
 
+/// The example's answer for another requirement.
+fn asked(requirement: &str) -> String {
+    answer(several(&[requirement]).as_bytes())
+}
+
+#[test]
+fn a_window_that_starts_now_still_does_when_strengthened() {
+    let settled = "rows=5 filled=0 margin=7 hold=6 fail=-7 verdict=holds\n";
+    assert_eq!(asked("F[0,1]p0"), settled);
+    assert_eq!(asked("TU[0,1]p0"), settled);
+    // One instant is shorter than the step: nothing is left, and nothing is put at 0.
+    let empty = format!("rows=5 filled=0 margin=6 hold=-{TOP} fail=-7 verdict=unshown\n");
+    assert_eq!(asked("F[0,0]p0"), empty);
+    // A later start moves inward as the end does.
+    let late = format!("rows=5 filled=0 margin=7 hold=-{TOP} fail=-7 verdict=unshown\n");
+    assert_eq!(asked("F[1,2]p0"), late);
+}
+
 #[test]
 fn several_requirements_come_by_rising_margin() {
     // Two margins of 6, in sheet order whatever their holds, and the refused ones behind.
     let lines = "\
 req=3 rows=5 filled=0 margin=-6 hold=-6 fail=6 verdict=fails
 req=1 rows=5 filled=0 margin=6 hold=6 fail=-6 verdict=holds
-req=4 rows=5 filled=0 margin=6 hold=5 fail=-7 verdict=holds
+req=4 rows=5 filled=0 margin=6 hold=5 fail=-6 verdict=holds
 req=5 rows=5 filled=0 margin=7 hold=6 fail=-7 verdict=holds
 req=0 refused=3
 req=2 refused=2
