@@ -9,7 +9,7 @@ const ROWS: &str =
     "t=0 src=m v0=10\nt=1 src=m v0=11\nt=2 src=m v0=10\nt=3 src=m v0=9\nt=4 src=m v0=10\n";
 
 /// What a requirement of that recording prints, by its text.
-const G: (&str, &str) = ("G[0,2]p0", "rows=5 filled=0 margin=6 hold=5 fail=-7 verdict=holds");
+const G: (&str, &str) = ("G[0,2]p0", "rows=5 filled=0 margin=6 hold=5 fail=-6 verdict=holds");
 const F: (&str, &str) = ("F[1,3]p0", "rows=5 filled=0 margin=7 hold=6 fail=-7 verdict=holds");
 const NOT: (&str, &str) = ("!p0", "rows=5 filled=0 margin=-6 hold=-6 fail=6 verdict=fails");
 const P: (&str, &str) = ("p0", "rows=5 filled=0 margin=6 hold=6 fail=-6 verdict=holds");

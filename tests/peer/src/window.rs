@@ -1,4 +1,4 @@
-//! Windows, with both ends counted, as document 01 writes them.
+//! Windows, with both ends counted, as document 01 and Change 3 of document 02 write them.
 
 use crate::limits::{LARGEST_END, NO_END};
 
@@ -15,9 +15,11 @@ impl Window {
         self.lo <= difference && self.hi.is_none_or(|hi| difference <= hi)
     }
 
-    /// For until and eventually: "lo + step to hi − step, perhaps empty".
+    /// For until and eventually: "a window with lo 0 contracts to 0 up to hi − step"; "a lo above 0
+    /// contracts as before", to "lo + step to hi − step, perhaps empty". An end below 0 stays there.
     pub fn contracted(self, step: i64) -> Window {
-        Window { lo: self.lo + step, hi: self.hi.map(|hi| hi - step) }
+        let lo = if self.lo == 0 { 0 } else { self.lo + step };
+        Window { lo, hi: self.hi.map(|hi| hi - step) }
     }
 
     /// For release and always: "lo − step (not below 0) to hi + step".

@@ -1,9 +1,10 @@
-//! Every worked number of document 01, and the damaged forms that the decisions name.
+//! Every worked number of document 01 as Change 3 of document 02 leaves it, and the damaged forms
+//! that the decisions name.
 
 use crate::answer::answer;
 use crate::grammar::{read_requirement, read_tree};
 use crate::limits::{NO_END, TOP};
-use crate::margin::{margin, Margins};
+use crate::margin::margin;
 use crate::predicate::{distance, Predicate, Predicates, Range, UNSET};
 use crate::recording::Recording;
 use crate::refusal::Refusal;
@@ -11,7 +12,9 @@ use crate::rows::{read_rows, Counts};
 use crate::sheet::read_sheet;
 use crate::strengthen::Strengthening;
 use crate::table::{Node, Table};
+use crate::tree::Tree;
 use crate::verdict::{verdict, Judgement, Verdict};
+use crate::window::Window;
 
 const EXAMPLE: &str = "chan=1\np=0 ch=0 lo=5 hi=*\nstep=1\ndrift=2\nreq=G[0,2]p0\n\
     t=0 src=m v0=10\nt=1 src=m v0=11\nt=2 src=m v0=10\nt=3 src=m v0=9\nt=4 src=m v0=10\n";
@@ -69,15 +72,12 @@ fn k9() {
 
 #[test]
 fn the_program_and_k10_to_k13() {
-    says(EXAMPLE, "rows=5 filled=0 margin=6 hold=5 fail=-7 verdict=holds");
+    says(EXAMPLE, "rows=5 filled=0 margin=6 hold=5 fail=-6 verdict=holds");
     refuses(&with("t=2 src=m", "t=2 src=f"), 10);
-    says(&with("drift=2", "drift=4"), "rows=5 filled=0 margin=6 hold=5 fail=-7 verdict=holds");
-    says(&with("drift=2", "drift=5"), "rows=5 filled=0 margin=6 hold=5 fail=-7 verdict=unshown");
+    says(&with("drift=2", "drift=4"), "rows=5 filled=0 margin=6 hold=5 fail=-6 verdict=holds");
+    says(&with("drift=2", "drift=5"), "rows=5 filled=0 margin=6 hold=5 fail=-6 verdict=unshown");
     says(&with("G[0,2]p0", "F[1,3]p0"), "rows=5 filled=0 margin=7 hold=6 fail=-7 verdict=holds");
-    says(
-        &with("G[0,2]p0", "F[0,1]p0"),
-        &format!("rows=5 filled=0 margin=7 hold=-{TOP} fail=-7 verdict=unshown"),
-    );
+    says(&with("G[0,2]p0", "F[0,1]p0"), "rows=5 filled=0 margin=7 hold=6 fail=-7 verdict=holds");
 }
 
 #[test]
@@ -94,7 +94,7 @@ fn faults_to_shut_out() {
     let pushed = Strengthening::by(1).strengthened(&tree, false);
     assert_eq!(pushed, read_tree(b"G[0,2]!p0").unwrap());
     // A drift equal to the margin shows nothing.
-    says(&with("drift=2", "drift=5"), "rows=5 filled=0 margin=6 hold=5 fail=-7 verdict=unshown");
+    says(&with("drift=2", "drift=5"), "rows=5 filled=0 margin=6 hold=5 fail=-6 verdict=unshown");
 }
 
 #[test]
@@ -112,7 +112,7 @@ fn cells_of_margin_and_verdict() {
     let judgement = verdict(&table, &predicates, &recording, 1, 4, &mut work);
     assert_eq!(judgement, Ok(Judgement { verdict: Verdict::NotShown, hold: 3, fail: -3 }));
     assert_eq!(work[..8], [3, 5, -1, 7, -3, -5, 1, -7]);
-    assert_eq!(work[8..16], [-1, -1, -1, 7, -TOP, -TOP, -TOP, -TOP]);
+    assert_eq!(work[8..16], [-1, -1, -1, 7, -3, -5, 1, -7]);
     assert_eq!(work[16..], [3, 5, -1, 7, -3, -5, 1, -7, 77]);
     assert_eq!(margin(&table, &predicates, &recording, &mut [0; 11]), Err(Refusal::Work));
     // 8 comes before 9.
@@ -132,20 +132,73 @@ fn a_shared_table_is_no_tree_of_its_size() {
     assert!(verdict(&table, &predicates, &recording, 1, 4, &mut [0; 512]).is_ok());
 }
 
+/// The root's window once the requirement, or its negation, is strengthened by a step of 2.
+fn strengthened_window(text: &str, negated: bool) -> Window {
+    let tree = read_tree(text.as_bytes()).unwrap();
+    match *Strengthening::by(2).strengthened(&tree, negated) {
+        Tree::Until(_, window, _) | Tree::Eventually(window, _) => window,
+        Tree::Release(_, window, _) | Tree::Always(window, _) => window,
+        _ => panic!("{text} has no window"),
+    }
+}
+
 #[test]
 fn windows_after_strengthening() {
-    let strengthened = |text: &[u8], negated| {
-        let tree = Strengthening::by(2).strengthened(&read_tree(text).unwrap(), negated);
-        format!("{tree:?}")
-    };
-    assert!(strengthened(b"F[1,1]p0", false).contains("lo: 3, hi: Some(-1)"));
-    assert!(strengthened(b"F[1,*]p0", false).contains("lo: 3, hi: None"));
-    assert!(strengthened(b"F[1,9]p0", true).contains("lo: 0, hi: Some(11)"));
-    assert!(strengthened(b"p0R[5,*]p1", false).contains("lo: 3, hi: None"));
-    // F[0,0] stays empty and doesn't become [0,0] by a clamp.
-    let (predicates, recording) = bench();
-    let tree = Strengthening::by(1).strengthened(&read_tree(b"F[0,0]p0").unwrap(), false);
-    assert_eq!(Margins::over(&predicates, &recording).of(&tree)[0], -TOP);
+    // From now, from 1, from the step, from past it; ends about one step and two.
+    for (text, lo, hi) in [
+        ("[0,0]", 0, Some(-2)),
+        ("[0,1]", 0, Some(-1)),
+        ("[0,2]", 0, Some(0)),
+        ("[0,3]", 0, Some(1)),
+        ("[0,*]", 0, None),
+        ("[1,1]", 3, Some(-1)),
+        ("[1,5]", 3, Some(3)),
+        ("[1,*]", 3, None),
+        ("[2,2]", 4, Some(0)),
+        ("[2,5]", 4, Some(3)),
+        ("[2,6]", 4, Some(4)),
+        ("[2,*]", 4, None),
+        ("[3,9]", 5, Some(7)),
+    ] {
+        let contracted = Window { lo, hi };
+        assert_eq!(strengthened_window(&format!("F{text}p0"), false), contracted, "F{text}");
+        assert_eq!(strengthened_window(&format!("p0U{text}p1"), false), contracted, "U{text}");
+        assert_eq!(strengthened_window(&format!("G{text}p0"), true), contracted, "G{text}");
+        assert_eq!(strengthened_window(&format!("p0R{text}p1"), true), contracted, "R{text}");
+    }
+    for (text, lo, hi) in [
+        ("[0,0]", 0, Some(2)),
+        ("[0,*]", 0, None),
+        ("[1,9]", 0, Some(11)),
+        ("[2,2]", 0, Some(4)),
+        ("[3,3]", 1, Some(5)),
+        ("[5,*]", 3, None),
+    ] {
+        let expanded = Window { lo, hi };
+        assert_eq!(strengthened_window(&format!("G{text}p0"), false), expanded, "G{text}");
+        assert_eq!(strengthened_window(&format!("p0R{text}p1"), false), expanded, "R{text}");
+        assert_eq!(strengthened_window(&format!("F{text}p0"), true), expanded, "F{text}");
+        assert_eq!(strengthened_window(&format!("p0U{text}p1"), true), expanded, "U{text}");
+    }
+}
+
+/// A window from now that ends before the step is empty and not the sample itself by a clamp.
+#[test]
+fn windows_from_now_over_the_example() {
+    let unshown = format!("hold=-{TOP} fail=-7 verdict=unshown");
+    for (step, text, margin, rest) in [
+        ("step=1", "F[0,0]p0", 6, &unshown[..]),
+        ("step=1", "TU[0,0]p0", 6, &unshown),
+        ("step=2", "F[0,1]p0", 7, &unshown),
+        ("step=2", "F[0,2]p0", 7, "hold=6 fail=-7 verdict=holds"),
+        ("step=2", "F[0,3]p0", 7, "hold=7 fail=-7 verdict=holds"),
+        ("step=2", "p0U[0,3]p0", 6, "hold=6 fail=-6 verdict=holds"),
+        ("step=1", "F[0,*]p0", 7, "hold=7 fail=-7 verdict=holds"),
+        ("step=1", "F[1,2]p0", 7, &unshown),
+    ] {
+        let sheet = with("G[0,2]p0", text).replace("step=1", step);
+        says(&sheet, &format!("rows=5 filled=0 margin={margin} {rest}"));
+    }
 }
 
 #[test]
@@ -305,7 +358,7 @@ fn refusals_2_to_11_by_meaning() {
     refuses(&format!("{front}t=0 src=f v0=1\n"), 5);
     says(
         &format!("{front}t=0 src=m v0=10\n"),
-        "rows=1 filled=0 margin=6 hold=6 fail=-4000000000 verdict=holds",
+        "rows=1 filled=0 margin=6 hold=6 fail=-6 verdict=holds",
     );
 }
 
@@ -368,7 +421,7 @@ fn filled_rows_reach_no_answer() {
     let filled = "t=4294967295 src=f v0=-2147483647\n";
     says(
         &with("t=2 src=m", &format!("{filled}t=2 src=m")),
-        "rows=5 filled=1 margin=6 hold=5 fail=-7 verdict=holds",
+        "rows=5 filled=1 margin=6 hold=5 fail=-6 verdict=holds",
     );
 }
 
