@@ -248,9 +248,10 @@ fn window(node: &Node) -> Window {
     (node.lo, if node.hi == NO_END { None } else { Some(node.hi + 1) })
 }
 
+/// A window from now keeps its start; a stop of 0 leaves it no place.
 fn strengthened(contracts: bool, step: u64, (from, stop): Window) -> Window {
     if contracts {
-        (from + step, stop.map(|e| e.saturating_sub(step)))
+        (if from == 0 { 0 } else { from + step }, stop.map(|e| e.saturating_sub(step)))
     } else {
         (from.saturating_sub(step), stop.map(|e| e + step))
     }
