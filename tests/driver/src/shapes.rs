@@ -11,23 +11,28 @@ const STARTS: [&str; 4] = ["now", "within a step", "late", "past the recording"]
 const ENDS: [&str; 4] = ["no end", "one instant", "an end inside", "an end past the recording"];
 const EMPTY: &str = "emptied";
 
-/// Everything that is to be counted.
+/// Everything that is to be counted. What contraction leaves is counted by itself.
 pub fn all() -> Vec<String> {
     let mut all = Vec::new();
     for letter in LETTERS {
         for start in STARTS {
-            // A window that starts past the recording does not end inside.
-            let ends = ENDS.iter().filter(|end| start != STARTS[3] || **end != ENDS[2]);
-            all.extend(ends.map(|end| format!("{letter} {start}, {end}")));
-            // Contraction alone empties windows, and none that then starts now.
-            if matches!(letter, 'U' | 'F') && start != STARTS[0] {
-                all.push(format!("{letter} {start}, {EMPTY}"));
+            all.extend(ends(start).map(|end| format!("{letter} {start}, {end}")));
+            // A low end above 0 comes to lie past the step.
+            if contracts(letter) && start != STARTS[1] {
+                let left = ends(start).chain([EMPTY]);
+                all.extend(left.map(|end| format!("contracted {letter} {start}, {end}")));
             }
         }
         all.extend(VALUES.map(|values| format!("{letter} over {}", values.name())));
         all.extend(SPACINGS.map(|spacing| format!("{letter} over {}", spacing.name())));
     }
     all
+}
+
+/// A window that starts past the recording does not end inside.
+fn ends(start: &str) -> impl Iterator<Item = &'static str> {
+    let past = start == STARTS[3];
+    ENDS.into_iter().filter(move |end| !past || *end != ENDS[2])
 }
 
 /// What a call's margin reads, and its verdict where that is not refused.
@@ -38,9 +43,7 @@ pub fn read_by(shaped: &Shaped) -> Vec<String> {
         let window = Window::of_numbers(node.lo, node.hi);
         read.push(described(letter, window, call));
         if shaped.foretold.verdict == 0 {
-            read.extend([letter, dual(letter)].map(|letter| {
-                described(letter, strengthened(letter, window, call.step as i64), call)
-            }));
+            read.extend([letter, dual(letter)].map(|letter| strengthened(letter, window, call)));
         }
         read.push(format!("{letter} over {}", shaped.values.name()));
         read.push(format!("{letter} over {}", shaped.spacing.name()));
@@ -62,11 +65,17 @@ fn dual(letter: char) -> char {
     }
 }
 
-fn strengthened(letter: char, window: Window, step: i64) -> Window {
-    if matches!(letter, 'U' | 'F') {
-        window.contracted(step)
+/// Until and eventually contract, release and always expand.
+fn contracts(letter: char) -> bool {
+    matches!(letter, 'U' | 'F')
+}
+
+fn strengthened(letter: char, window: Window, call: &Call) -> String {
+    let step = call.step as i64;
+    if contracts(letter) {
+        format!("contracted {}", described(letter, window.contracted(step), call))
     } else {
-        window.expanded(step)
+        described(letter, window.expanded(step), call)
     }
 }
 
@@ -87,4 +96,22 @@ fn described(letter: char, window: Window, call: &Call) -> String {
         Some(_) => ENDS[3],
     };
     format!("{letter} {start}, {end}")
+}
+
+#[cfg(test)]
+mod tests {
+    use super::*;
+    use peer::generate::windows::{long, LONG_CASES};
+
+    /// A long run takes minutes; that its calls have every shape is seen here at once.
+    #[test]
+    fn the_long_calls_have_every_shape() {
+        for run in 0..3 {
+            let calls = (run * LONG_CASES..(run + 1) * LONG_CASES).map(long);
+            let read: Vec<String> = calls.flat_map(|shaped| read_by(&shaped)).collect();
+            for shape in all() {
+                assert!(read.contains(&shape), "{shape}");
+            }
+        }
+    }
 }

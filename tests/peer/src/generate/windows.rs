@@ -26,14 +26,17 @@ enum End {
     Start,
     /// So near to the start that contraction leaves nothing.
     Near,
+    /// Just so far from the start that contraction leaves one instant.
+    Just,
     Inside,
+    /// Past the recording's end, also once contracted.
     Past,
 }
 
 /// Every start with every end that can follow it.
 fn shapes() -> Vec<(Start, End)> {
     let starts = [Start::Now, Start::Next, Start::Late, Start::Past];
-    let ends = [End::Missing, End::Start, End::Near, End::Inside, End::Past];
+    let ends = [End::Missing, End::Start, End::Near, End::Just, End::Inside, End::Past];
     let pairs = starts.iter().flat_map(|&start| ends.map(|end| (start, end)));
     pairs.filter(|&shape| shape != (Start::Past, End::Inside)).collect()
 }
@@ -106,25 +109,26 @@ pub fn windows(rng: &mut Prng) -> Shaped {
 }
 
 /// Until or release with these windows costs most by the literal definition, seconds for each row
-/// of cells, so a long call has one of them. Where the verdict is refused it is one row, not three.
-const COSTLY: [(u64, (u64, u64), Spacing); 6] = [
-    (kind::UNTIL, (0, NO_END), Spacing::Second),
-    (kind::UNTIL, (0, LARGEST_END), Spacing::UpToStep),
-    (kind::RELEASE, (1, NO_END), Spacing::Gaps),
-    (kind::RELEASE, (1, LARGEST_END), Spacing::Gaps),
-    (kind::UNTIL, (1_800, NO_END), Spacing::Second),
-    (kind::RELEASE, (1_800, 3_600), Spacing::Second),
+/// of cells, so a long call has one of them: three rows. Where the verdict is refused it is one row,
+/// and the call has both.
+const COSTLY: [(&[u64], (u64, u64), Spacing); 6] = [
+    (&[kind::UNTIL], (0, NO_END), Spacing::Second),
+    (&[kind::UNTIL], (0, LARGEST_END), Spacing::UpToStep),
+    (&[kind::UNTIL, kind::RELEASE], (1, NO_END), Spacing::Gaps),
+    (&[kind::UNTIL, kind::RELEASE], (1, LARGEST_END), Spacing::Gaps),
+    (&[kind::UNTIL], (1_800, NO_END), Spacing::Second),
+    (&[kind::RELEASE], (1_800, 3_600), Spacing::Second),
 ];
 
 /// So many calls in turn have every shape.
 pub const LONG_CASES: u64 = COSTLY.len() as u64;
 
 /// The call of that number with 4,096 rows: eventually or always with every shape, until or release
-/// with every shape that costs little, and one that costs much.
+/// with every shape that costs little, and a window that costs much.
 pub fn long(number: u64) -> Shaped {
     let rng = &mut Prng::new(case_seed(number, 0));
     let case = (number % LONG_CASES) as usize;
-    let (costly_kind, costly_window, spacing) = COSTLY[case];
+    let (costly_kinds, costly_window, spacing) = COSTLY[case];
     let values = VALUES[(number / LONG_CASES + number % LONG_CASES) as usize % VALUES.len()];
     let mut call = without_operators(rng, MOST_SAMPLES as usize, values, spacing);
     let (whole, short) = (Reach::whole(&call), Reach::short(&call));
@@ -138,7 +142,9 @@ pub fn long(number: u64) -> Shaped {
             append(rng, &mut call, kind::UNTIL + turn, window);
         }
     }
-    append(rng, &mut call, costly_kind, costly_window);
+    for &kind in costly_kinds {
+        append(rng, &mut call, kind, costly_window);
+    }
     shaped(rng, call, values, spacing)
 }
 
@@ -259,26 +265,27 @@ impl Reach {
     fn window(&self, rng: &mut Prng, (start, end): (Start, End)) -> (u64, u64) {
         let mut between = |least: u64, most: u64| rng.between(least as i64, most as i64) as u64;
         let &Reach { span, step, late, widest } = self;
-        // What contraction takes.
-        let both = 2 * step;
         let lo = match start {
             Start::Now => 0,
             Start::Next => between(1, step),
-            Start::Late => between(late, span - both),
-            Start::Past if between(0, 3) == 0 => LARGEST_END - both,
+            Start::Late => between(late, span - 2 * step),
+            Start::Past if between(0, 3) == 0 => LARGEST_END - 2 * step - 9,
             Start::Past => span + between(1, 9),
         };
+        // What contraction takes: of a window that starts now the end alone moves.
+        let taken = if lo == 0 { step } else { 2 * step };
         let hi = match end {
             End::Missing => NO_END,
             End::Start => lo,
-            End::Near => lo + between(1, both - 1),
+            End::Near => lo + between(0, taken - 1),
+            End::Just => lo + taken,
             End::Inside => {
-                let widest = widest.min(span - both - lo);
+                let widest = widest.min(span - taken - lo);
                 let most = between(0, widest);
                 // Mostly narrow, so that the edges move past each other's old places often.
-                lo + both + between(0, most)
+                lo + taken + between(0, most)
             }
-            End::Past => (lo + both).max(span + between(1, 9)).min(LARGEST_END),
+            End::Past => (lo + taken).max(span + step) + between(1, 9),
         };
         (lo, hi)
     }
