@@ -1,7 +1,7 @@
 //! What a sheet must satisfy, without any other implementation.
 
 use peer::answer::{answer, Answer};
-use peer::between::{claims, contradicted};
+use peer::between::{claims, contradicted, Claim};
 use peer::generate::draft::Draft;
 use peer::generate::prng::Prng;
 use peer::generate::sheets::{filled, Sound};
@@ -173,8 +173,8 @@ pub fn margins(accepted: &Answer) -> Checked {
 
 /// What trying histories came to.
 pub enum Tried {
-    /// Every history there is, so many.
-    All(u128),
+    /// Every history there is, so many, asked about these claims.
+    All(u128, Vec<Claim>),
     /// Some of them.
     Some,
     /// The span is too long.
@@ -210,12 +210,13 @@ pub fn histories(accepted: &Answer, rng: &mut Prng) -> Result<Tried, String> {
     }
     match found {
         Some(contradiction) => Err(format!("a history contradicts {contradiction}")),
-        None if count <= MOST_HISTORIES => Ok(Tried::All(count)),
+        None if count <= MOST_HISTORIES => Ok(Tried::All(count, claims)),
         None => Ok(Tried::Some),
     }
 }
 
-fn work_claims(accepted: &Answer) -> Result<Vec<peer::between::Claim>, String> {
+/// The claims of the requirement's own verdict.
+pub fn work_claims(accepted: &Answer) -> Result<Vec<Claim>, String> {
     let (table, recording) = (&accepted.table, &accepted.recording);
     let mut work = vec![0; 2 * table.count() * recording.rows()];
     let (step, drift) = (accepted.step, accepted.drift);

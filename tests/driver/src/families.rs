@@ -1,6 +1,7 @@
 //! Families of cases. Each case comes from its seed alone.
 
 use crate::checks::{self, Tried};
+use crate::claimed;
 use crate::compare::{self, Others, WHOLE_CALL, WHOLE_SHEET, WHOLE_TABLE};
 use crate::library::COUNTS;
 use crate::names::LINES;
@@ -175,12 +176,18 @@ fn accepted_requirement(
 ) -> Result<(), Failure> {
     at(text, checks::margins(answer))?;
     match at(text, checks::histories(answer, rng))? {
-        Tried::All(0) => bench.tally.add("histories: there is none"),
-        Tried::All(count) => {
+        Tried::All(0, _) => bench.tally.add("histories: there is none"),
+        Tried::All(count, claims) => {
             bench.tally.add("histories: all tried");
             bench.tally.add_many("histories in all", count as u64);
             if answer.judgement.verdict != Verdict::NotShown {
                 bench.tally.add("histories: a verdict tried on all");
+            }
+            // One history alone, as there is without drift, tries little.
+            if count > 1 {
+                for about in claims.iter().flat_map(|claim| claimed::about(claim, answer)) {
+                    bench.tally.add(format!("histories: {about}"));
+                }
             }
         }
         Tried::Some => bench.tally.add("histories: some tried"),

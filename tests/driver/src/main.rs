@@ -3,6 +3,7 @@
 
 mod arguments;
 mod checks;
+mod claimed;
 mod compare;
 mod families;
 mod flat;
@@ -181,8 +182,8 @@ fn run_long(others: &Others, tally: &mut Tally, run: u64) -> bool {
     true
 }
 
-/// What must come up, and how often: every refusal and every verdict, of every entry point, and
-/// every shape of window.
+/// What must come up, and how often: every refusal and every verdict, of every entry point, all that
+/// claims may be about, and every shape of window.
 fn wanted(thousands: u64, long: bool) -> Vec<(String, u64)> {
     let mut wanted = Vec::new();
     let mut each = |what: &str, numbers: &[u64], least: u64| {
@@ -210,6 +211,7 @@ fn wanted(thousands: u64, long: bool) -> Vec<(String, u64)> {
     for histories in ["there is none", "all tried", "some tried", "a verdict tried on all"] {
         wanted.push((format!("histories: {histories}"), 10 * thousands));
     }
+    wanted.extend(claimed::all().iter().map(|about| (format!("histories: {about}"), thousands)));
     for shape in shapes::all() {
         wanted.push((format!("{WINDOWS}: {shape}"), thousands / 5));
         wanted.extend(long.then(|| (format!("{LONG}: {shape}"), 1)));

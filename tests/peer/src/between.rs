@@ -14,6 +14,7 @@ use crate::truth::Truth;
 pub struct Claim {
     pub node: usize,
     pub tree: Shared,
+    pub sample: usize,
     pub time: i64,
     pub truth: bool,
 }
@@ -28,6 +29,7 @@ pub fn claims(table: &Table, recording: &Recording, drift: u64, work: &[i64]) ->
             claims.extend(above.map(|sample| Claim {
                 node,
                 tree: tree.clone(),
+                sample,
                 time: recording.time(sample),
                 truth,
             }));

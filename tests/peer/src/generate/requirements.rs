@@ -55,7 +55,12 @@ impl Taste {
             let (one, other) = (rng.pick(&ends), rng.pick(&ends));
             return Window { lo: one.min(other), hi: Some(one.max(other)) };
         }
-        let lo = if rng.once_in(3) { 0 } else { self.end(rng) / 2 };
+        // From now, from within a step, from anywhere: contraction treats them apart.
+        let lo = match rng.below(4) {
+            0 => 0,
+            1 => rng.between(1, self.unit),
+            _ => self.end(rng) / 2,
+        };
         let hi = if rng.once_in(6) { None } else { Some((lo + self.end(rng)).min(1_000_000_000)) };
         Window { lo, hi }
     }

@@ -47,6 +47,8 @@ struct Measures {
     rows: usize,
     step: u64,
     drift: u64,
+    /// Neighbouring values differ by at most this.
+    jump: u64,
     requirements: usize,
     operators: usize,
 }
@@ -62,26 +64,53 @@ pub fn sound_of(rng: &mut Prng, requirements: usize) -> Sound {
     if rng.once_in(8) {
         return extreme(rng, requirements);
     }
+    let drift = rng.between(0, 6) as u64;
     let measures = Measures {
         channels: if rng.once_in(6) { rng.between(1, 8) as u64 } else { rng.between(1, 2) as u64 },
         rows: rng.between(1, 24) as usize,
         step: rng.pick(&[1, 1, 2, 3, 5, 900]),
-        drift: rng.between(0, 6) as u64,
+        drift,
+        jump: jump(rng, drift),
         requirements,
         operators: rng.below(9),
     };
     build(rng, measures)
 }
 
+/// At most twice the drift; often less, so that histories exist.
+fn jump(rng: &mut Prng, drift: u64) -> u64 {
+    rng.pick(&[0, drift / 2, drift, 2 * drift])
+}
+
 /// A sheet with few histories, so that all of them can be tried.
 pub fn tiny(rng: &mut Prng) -> Sound {
+    if rng.once_in(2) {
+        return tiny_with_long_steps(rng);
+    }
+    let drift = rng.pick(&[0, 1, 1, 1, 2]);
     let measures = Measures {
         channels: if rng.once_in(5) { 2 } else { 1 },
-        rows: rng.between(1, 6) as usize,
+        rows: rng.between(1, 7) as usize,
         step: rng.pick(&[1, 1, 1, 2, 2, 3]),
-        drift: rng.pick(&[0, 1, 1, 1, 2]),
+        drift,
+        jump: jump(rng, drift),
         requirements: requirements_of(rng),
         operators: rng.below(6),
+    };
+    build(rng, measures)
+}
+
+/// Low ends may lie below the step, and there are samples a step past them. That takes many
+/// seconds; values that move leave few histories all the same.
+fn tiny_with_long_steps(rng: &mut Prng) -> Sound {
+    let measures = Measures {
+        channels: 1,
+        rows: rng.between(3, 6) as usize,
+        step: rng.pick(&[2, 2, 3]),
+        drift: 1,
+        jump: 1,
+        requirements: requirements_of(rng),
+        operators: 1 + rng.below(3),
     };
     build(rng, measures)
 }
@@ -123,10 +152,8 @@ fn times(rng: &mut Prng, measures: &Measures) -> Vec<u64> {
     times
 }
 
-/// Values that jump by at most twice the drift; often by less, so that histories exist.
 fn walks(rng: &mut Prng, measures: &Measures) -> Vec<Vec<i64>> {
-    let drift = measures.drift as i64;
-    let jump = rng.pick(&[0, drift / 2, drift, 2 * drift]);
+    let jump = measures.jump as i64;
     let mut values: Vec<i64> = (0..measures.channels).map(|_| rng.between(-9, 9)).collect();
     let mut rows = Vec::new();
     for _ in 0..measures.rows {
