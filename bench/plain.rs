@@ -248,7 +248,7 @@ fn window(node: &Node) -> Window {
     (node.lo, if node.hi == NO_END { None } else { Some(node.hi + 1) })
 }
 
-/// A window from now keeps its start; a stop of 0 leaves it no place.
+/// Contraction keeps a start of 0; a stop of 0 leaves no place.
 fn strengthened(contracts: bool, step: u64, (from, stop): Window) -> Window {
     if contracts {
         (if from == 0 { 0 } else { from + step }, stop.map(|e| e.saturating_sub(step)))

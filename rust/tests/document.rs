@@ -1,4 +1,5 @@
-//! Document 01's example, whole and by its parts, several requirements, and every refusal number.
+//! Document 01's example, whole and by its parts, windows from now, several requirements, and every
+//! refusal number.
 
 use varmityep::{
     answer, margin, read_requirement, read_rows, read_sheet, verdict, Counts, Judgement, Node,
@@ -94,7 +95,7 @@ req=2 refused=2
     for line in lines.lines() {
         let (k, alone) = line.strip_prefix("req=").unwrap().split_once(' ').unwrap();
         let requirement = requirements[k.parse::<usize>().unwrap()];
-        assert_eq!(answer(several(&[requirement]).as_bytes()), format!("{alone}\n"));
+        assert_eq!(asked(requirement), format!("{alone}\n"));
     }
     // A fault of the recording refuses each by its own number; 1 and 12 refuse the sheet.
     let gap = text.replace("t=2 src=m", "t=2 src=f");

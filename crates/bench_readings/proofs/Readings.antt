@@ -1,4 +1,4 @@
--- K1 to K13 and document 01's printed lines as one fact, from text to what is answered and printed: the whole table computes to its answers, and one lemma turns that into each entry.
+-- K1 to K13 and the lines printed for document 01's sheet as one fact, from text to what is answered and printed: the whole table computes to its answers, and one lemma turns that into each entry.
 -- Assumes nothing.
 use mathlib.Core.Path.{_≡_, refl, sym, ap, _∙_}
 use mathlib.Core.List.{List, [], map}

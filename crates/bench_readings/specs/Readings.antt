@@ -1,4 +1,5 @@
--- Document 01's bench readings, K1 to K13, and the lines that it prints: what is asked, requirements and sheets given as text, and what is answered.
+-- Document 01's bench readings, K1 to K13, and the lines printed for its sheet, as document 02's Change 3 leaves them: what is asked, requirements and
+-- sheets given as text, and what is answered.
 -- Assumes nothing.
 use mathlib.Core.List.{List, [], _∷_}
 use Prim.Native.Nat.{ℕ}
@@ -67,8 +68,8 @@ pub record Reading : Type 0 where
   pub asked : List Question
   pub answered : List Answer
 
--- K1 to K13, in order, K13 as in document 02; then what is printed for document 01's sheet, and for the sheet with `src=f` at t=2; then a window that
--- starts now and has nothing left, since its end is before the step
+-- K1 to K13, in order; then what is printed for document 01's sheet, and for the sheet with `src=f` at t=2; then a window that starts now and has nothing
+-- left, since its end is before the step
 abbrev pub readings : List Reading
 readings =
     record { asked = margin-of "p0" ∷ []; answered = accepted-margin (pos 3) ∷ [] }

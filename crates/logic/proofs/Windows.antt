@@ -1,5 +1,6 @@
 -- A window and its strengthening, over any bounds: whatever is at most a step from the window lies in its expansion, and so whatever is at most a step
--- from the contraction lies in the window, since a contraction that holds anything expands to the window again. No larger one would do.
+-- from the contraction lies in the window, since a contraction that holds anything expands to the window again. The contraction is the
+-- largest set of which this is true.
 -- Assumes nothing.
 use mathlib.Core.Path.{_≡_, refl, ap, subst}
 use Prim.Native.Nat.{ℕ, zero, suc, _+_, _-_, _≤_, _<_}
@@ -64,6 +65,6 @@ contraction-whole s w c f =
     (delayed-before s (w .from) c (inside-says w (c - s) (f (c - s) (omega arith)) .0))
     (sooner-past s (w .stop) c (inside-says w (c + s) (f (c + s) (omega arith)) .1))
 
--- a high end before the step is not put at 0: nothing is left, also of a window that starts now
+-- a high end below the step is not put at 0: nothing is left, also of a window that starts now
 pub contraction-none : (s lo hi c : ℕ) → hi < s → T (inside (contraction s (record { from = lo; stop = Before (suc hi) })) c) → ⊥
 contraction-none s lo hi c h t = let p = inside-says (contraction s (record { from = lo; stop = Before (suc hi) })) c t in omega (arith, ltb→lt c (suc hi - s) (p .1))

@@ -19,12 +19,12 @@ abbrev pub later : ℕ → Stop → Stop
 later s Endless = Endless
 later s (Before e) = Before (e + s)
 
--- no time comes before zero: a window that starts now still does
+-- the contraction's low end: lo + step, but 0 stays 0, since no time comes before zero
 abbrev pub delayed : ℕ → ℕ → ℕ
 delayed s zero = zero
 delayed s (suc lo) = suc lo + s
 
--- the source's contraction: lo + step to hi - step, perhaps empty, and from 0 where lo is 0
+-- the source's contraction of a window from lo to hi: from the delayed lo to hi - step, perhaps empty
 abbrev pub contraction : ℕ → Window → Window
 contraction s w = record { from = delayed s (w .from); stop = sooner s (w .stop) }
 

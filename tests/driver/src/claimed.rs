@@ -1,5 +1,5 @@
 //! What claims on until and eventually are about: where the window starts, and where the samples
-//! lie that show the claim. Counted, so that histories were asked about each.
+//! lie that show the claim. Counted, so that a run fails in which histories are not asked about each.
 
 use peer::answer::Answer;
 use peer::between::Claim;
@@ -90,7 +90,18 @@ mod tests {
                     (3, "F from now"),
                 ],
             ),
-            ("G[0,1]!p0", &[]),
+            (
+                "TU[0,4]p0",
+                &[
+                    (0, "U from now, U shown by earlier samples alone"),
+                    (2, "U from now"),
+                    (3, "U from now"),
+                ],
+            ),
+            // The last sample claims it, and an always is not counted.
+            ("G[0,1]p0", &[]),
+            // Nothing is left of the window, so nothing is claimed.
+            ("F[0,1]p0", &[]),
         ] {
             let wanted: Vec<(usize, String)> =
                 wanted.iter().map(|&(sample, about)| (sample, about.to_string())).collect();

@@ -102,17 +102,17 @@ fn cells_of_margin_and_verdict() {
     let (predicates, recording) = bench();
     // The root is node 2; node 1 isn't reached and has its cells all the same; node 0 is shared.
     let leaf = Node { kind: 1, ..Node::default() };
-    let unreached = Node { kind: 8, left: 0, right: 0, lo: 0, hi: 1 };
+    let unreached = Node { kind: 8, left: 0, right: 0, lo: 1, hi: 3 };
     let root = Node { kind: 3, left: 0, right: 0, lo: 0, hi: 0 };
     let table = Table { nodes: vec![leaf, unreached, root] };
     let mut work = [77; 14];
     assert_eq!(margin(&table, &predicates, &recording, &mut work), Ok(3));
-    assert_eq!(work, [3, 5, -1, 7, 3, -1, -1, 7, 3, 5, -1, 7, 77, 77]);
+    assert_eq!(work, [3, 5, -1, 7, -1, -1, 7, TOP, 3, 5, -1, 7, 77, 77]);
     let mut work = [77; 25];
     let judgement = verdict(&table, &predicates, &recording, 1, 4, &mut work);
     assert_eq!(judgement, Ok(Judgement { verdict: Verdict::NotShown, hold: 3, fail: -3 }));
     assert_eq!(work[..8], [3, 5, -1, 7, -3, -5, 1, -7]);
-    assert_eq!(work[8..16], [-1, -1, -1, 7, -3, -5, 1, -7]);
+    assert_eq!(work[8..16], [-1, -1, -1, 7, 1, -7, -TOP, -TOP]);
     assert_eq!(work[16..], [3, 5, -1, 7, -3, -5, 1, -7, 77]);
     assert_eq!(margin(&table, &predicates, &recording, &mut [0; 11]), Err(Refusal::Work));
     // 8 comes before 9.
@@ -182,7 +182,8 @@ fn windows_after_strengthening() {
     }
 }
 
-/// A window from now that ends before the step is empty and not the sample itself by a clamp.
+/// Windows from now on either side of the step: one that ends before it is empty, and no clamp makes
+/// it the sample itself.
 #[test]
 fn windows_from_now_over_the_example() {
     let unshown = format!("hold=-{TOP} fail=-7 verdict=unshown");

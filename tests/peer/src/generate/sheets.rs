@@ -100,8 +100,8 @@ pub fn tiny(rng: &mut Prng) -> Sound {
     build(rng, measures)
 }
 
-/// Low ends may lie below the step, and there are samples a step past them. That takes many
-/// seconds; values that move leave few histories all the same.
+/// Low ends may lie below the step, and there are samples a step past them. That takes a long span;
+/// values that move leave few histories all the same.
 fn tiny_with_long_steps(rng: &mut Prng) -> Sound {
     let measures = Measures {
         channels: 1,

@@ -109,8 +109,8 @@ pub fn windows(rng: &mut Prng) -> Shaped {
 }
 
 /// Until or release with these windows costs most by the literal definition, seconds for each row
-/// of cells, so a long call has one of them: three rows. Where the verdict is refused it is one row,
-/// and the call has both.
+/// of cells, so a long call has one of them: three rows. Where the verdict is refused each takes one
+/// row, and the call has an until and a release.
 const COSTLY: [(&[u64], (u64, u64), Spacing); 6] = [
     (&[kind::UNTIL], (0, NO_END), Spacing::Second),
     (&[kind::UNTIL], (0, LARGEST_END), Spacing::UpToStep),
