@@ -145,40 +145,33 @@ fn strengthened_window(text: &str, negated: bool) -> Window {
 #[test]
 fn windows_after_strengthening() {
     // From now, from 1, from the step, from past it; ends about one step and two.
-    for (text, lo, hi) in [
-        ("[0,0]", 0, Some(-2)),
-        ("[0,1]", 0, Some(-1)),
-        ("[0,2]", 0, Some(0)),
-        ("[0,3]", 0, Some(1)),
-        ("[0,*]", 0, None),
-        ("[1,1]", 3, Some(-1)),
-        ("[1,5]", 3, Some(3)),
-        ("[1,*]", 3, None),
-        ("[2,2]", 4, Some(0)),
-        ("[2,5]", 4, Some(3)),
-        ("[2,6]", 4, Some(4)),
-        ("[2,*]", 4, None),
-        ("[3,9]", 5, Some(7)),
+    for (text, contracted, expanded) in [
+        ("[0,0]", (0, Some(-2)), (0, Some(2))),
+        ("[0,1]", (0, Some(-1)), (0, Some(3))),
+        ("[0,2]", (0, Some(0)), (0, Some(4))),
+        ("[0,3]", (0, Some(1)), (0, Some(5))),
+        ("[0,*]", (0, None), (0, None)),
+        ("[1,1]", (3, Some(-1)), (0, Some(3))),
+        ("[1,5]", (3, Some(3)), (0, Some(7))),
+        ("[1,*]", (3, None), (0, None)),
+        ("[2,2]", (4, Some(0)), (0, Some(4))),
+        ("[2,5]", (4, Some(3)), (0, Some(7))),
+        ("[2,6]", (4, Some(4)), (0, Some(8))),
+        ("[2,*]", (4, None), (0, None)),
+        ("[3,3]", (5, Some(1)), (1, Some(5))),
+        ("[3,9]", (5, Some(7)), (1, Some(11))),
+        ("[5,*]", (7, None), (3, None)),
     ] {
-        let contracted = Window { lo, hi };
-        assert_eq!(strengthened_window(&format!("F{text}p0"), false), contracted, "F{text}");
-        assert_eq!(strengthened_window(&format!("p0U{text}p1"), false), contracted, "U{text}");
-        assert_eq!(strengthened_window(&format!("G{text}p0"), true), contracted, "G{text}");
-        assert_eq!(strengthened_window(&format!("p0R{text}p1"), true), contracted, "R{text}");
-    }
-    for (text, lo, hi) in [
-        ("[0,0]", 0, Some(2)),
-        ("[0,*]", 0, None),
-        ("[1,9]", 0, Some(11)),
-        ("[2,2]", 0, Some(4)),
-        ("[3,3]", 1, Some(5)),
-        ("[5,*]", 3, None),
-    ] {
-        let expanded = Window { lo, hi };
-        assert_eq!(strengthened_window(&format!("G{text}p0"), false), expanded, "G{text}");
-        assert_eq!(strengthened_window(&format!("p0R{text}p1"), false), expanded, "R{text}");
-        assert_eq!(strengthened_window(&format!("F{text}p0"), true), expanded, "F{text}");
-        assert_eq!(strengthened_window(&format!("p0U{text}p1"), true), expanded, "U{text}");
+        for (left, letter, contracts) in
+            [("", "F", true), ("p1", "U", true), ("", "G", false), ("p1", "R", false)]
+        {
+            let requirement = format!("{left}{letter}{text}p0");
+            for negated in [false, true] {
+                let (lo, hi) = if contracts != negated { contracted } else { expanded };
+                let window = strengthened_window(&requirement, negated);
+                assert_eq!(window, Window { lo, hi }, "{requirement}, negated: {negated}");
+            }
+        }
     }
 }
 
