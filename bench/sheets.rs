@@ -14,13 +14,14 @@ use std::hint::black_box;
 use timing::{seconds, Random};
 
 /// Sheets, and what the answer to each begins with.
-const EXAMPLES: [(&str, &[u8], &str); 6] = [
+const EXAMPLES: [(&str, &[u8], &str); 7] = [
     ("booster-turn-up", include_bytes!("../examples/booster-turn-up.sheet"), "rows="),
     ("line-amplifier-gain-sag", include_bytes!("../examples/line-amplifier-gain-sag.sheet"), "rows="),
     ("preamplifier-pump-ceiling", include_bytes!("../examples/preamplifier-pump-ceiling.sheet"), "rows="),
     ("collector-restart", include_bytes!("../examples/collector-restart.sheet"), "refused=10\n"),
     ("two-stage-turn-up", include_bytes!("../examples/two-stage-turn-up.sheet"), "rows="),
     ("line-card-acceptance", include_bytes!("../examples/line-card-acceptance.sheet"), "req=3 rows="),
+    ("standby-pump-start", include_bytes!("../examples/standby-pump-start.sheet"), "req=0 rows="),
 ];
 
 /// Requirements of one and two nodes, as many as 8,192 cells take over 2,048 rows. Their windows are short, so that reading the rows counts.
