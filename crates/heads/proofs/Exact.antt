@@ -20,9 +20,9 @@ use Rattle.number_lines.specs.Reading.{number-line-at}
 use Rattle.number_lines.proofs.Written.{number-line-is, number-line-taken, number-line-fed}
 use Rattle.recordings.specs.declared.Predicate.{Predicate}
 use Rattle.predicate_lines.specs.declared.Predicates.{Predicates}
-use Rattle.predicate_lines.specs.Form.{unset, PredicateLines, over, more}
+use Rattle.predicate_lines.specs.Form.{PredicateLine, PredicateLines}
 use Rattle.predicate_lines.specs.Reading.{lines-at}
-use Rattle.predicate_lines.proofs.Exact.{predicates-are, predicates-taken}
+use Rattle.predicate_lines.proofs.Exact.{predicates-are, predicates-taken, each-line}
 use Rattle.predicate_lines.proofs.Written.{line-fed}
 use Rattle.heads.specs.declared.Head.{Head}
 use Rattle.heads.specs.declared.HeadLines.{HeadLines}
@@ -89,7 +89,7 @@ predicates-place s a b qs ps rest e f g =
     omega (arith, t .place)
 
 predicates-stage : (s : List ℕ) (a : ℕ) {qs : List Predicate} {ps : List (List ℕ)} {l : List ℕ} {v : ℕ} (ls : List (List ℕ))
-    → PredicateLines unset ps qs → NumberLine (bytes "step=") l v → lines (drop a s) ≡ ps ++ (l ∷ ls)
+    → PredicateLines ps qs → NumberLine (bytes "step=") l v → lines (drop a s) ≡ ps ++ (l ∷ ls)
     → (b : ℕ) × (lines-at s a ≡ record { ok = true; next = b; all = qs }) × (lines (drop b s) ≡ l ∷ ls) × (b ≡ a + size ps)
 predicates-stage s a {qs} {ps} {l} ls form step e =
     let t = predicates-taken form s a (l ∷ ls) e (λ x h. step-stops ls step x h) in
@@ -119,11 +119,10 @@ pub record HeadLine (l : List ℕ) : Type 0 where
   pub no-requirement : getD l 0 0 ≡ 114 → ⊥
   pub no-row : getD l 0 0 ≡ 116 → ⊥
 
-predicate-lines : {ps qs : List Predicate} {ls : List (List ℕ)} → PredicateLines ps ls qs → Each HeadLine ls
-predicate-lines over = none
-predicate-lines (more {l} line free rest) =
+predicate-head : (l : List ℕ) (k : ℕ) (p : Predicate) → PredicateLine l k p → HeadLine l
+predicate-head l k p line =
     let f : getD l 0 0 ≡ 112 = ap (λ (y : List ℕ). getD y 0 0) (line .spelled) in
-    also (record { fed = line-fed line; no-requirement = λ e. omega arith; no-row = λ e. omega arith }) (predicate-lines rest)
+    record { fed = line-fed line; no-requirement = λ e. omega arith; no-row = λ e. omega arith }
 
 pub head-lines : {ls : List (List ℕ)} {h : Head} → HeadForm ls h → Each HeadLine ls
 unfolding count
@@ -133,7 +132,7 @@ head-lines {ls} {h} f =
     let k : getD (f .drift) 0 0 ≡ 100 = ap (λ (y : List ℕ). getD y 0 0) (f .drifts .spelled) in
     rw (f .sequence)
     (also (record { fed = number-line-fed refl (f .channels); no-requirement = λ e. omega arith; no-row = λ e. omega arith })
-    (each-append (predicate-lines (f .predicates))
+    (each-append (each-line predicate-head (f .predicates))
     (also (record { fed = number-line-fed refl (f .steps); no-requirement = λ e. omega arith; no-row = λ e. omega arith })
     (also (record { fed = number-line-fed refl (f .drifts); no-requirement = λ e. omega arith; no-row = λ e. omega arith })
     none))))

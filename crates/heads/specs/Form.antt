@@ -16,7 +16,7 @@ pub record HeadForm (ls : List (List ℕ)) (head : Head) : Type 0 where
   pub drift : List ℕ
   pub sequence : ls ≡ chan ∷ (ps ++ (step ∷ drift ∷ []))
   pub channels : NumberLine (bytes "chan=") chan (head .channels)
-  pub predicates : PredicateLines unset ps (head .predicates)
+  pub predicates : PredicateLines ps (head .predicates)
   pub steps : NumberLine (bytes "step=") step (head .step)
   pub drifts : NumberLine (bytes "drift=") drift (head .drift)
 

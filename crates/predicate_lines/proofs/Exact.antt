@@ -13,14 +13,14 @@ use Rattle.text.specs.Mark.{prefix-of, key-at}
 use Rattle.text.proofs.Tests.{false-true, never, test-case}
 use Rattle.text.proofs.Places.{place-inside}
 use Rattle.lines.specs.Lines.{lines, size}
-use Rattle.lines.proofs.Lines.{fed-some, lines-fed, lines-split}
+use Rattle.lines.proofs.Lines.{Each, none, also, fed-some, lines-fed, lines-split}
 use Rattle.recordings.specs.declared.Predicate.{Predicate}
 use Rattle.predicate_lines.specs.declared.Bound.{Bound}
 use Rattle.predicate_lines.specs.declared.Bound.the-variants.{Missing, At}
 use Rattle.predicate_lines.specs.declared.Line.{Line}
 use Rattle.predicate_lines.specs.declared.Line.the-variants.{Set, Bad}
 use Rattle.predicate_lines.specs.declared.Predicates.{Predicates}
-use Rattle.predicate_lines.specs.Form.{range-of, PredicateLine, unset, PredicateLines, over, more}
+use Rattle.predicate_lines.specs.Form.{range-of, PredicateLine, unset, LinesFrom, over, more, PredicateLines}
 use Rattle.recordings.specs.Card.{unset-predicate}
 use Rattle.recordings.specs.Distance.{is-unset}
 use Rattle.predicate_lines.specs.Reading.{set-line, line-at, after-line, broken-set, stored-in, with-line, lines-from, lines-at}
@@ -32,7 +32,7 @@ use Rattle.predicate_lines.proofs.Written.{line-is, line-taken, line-fe
 pub record LinesRead (s : List ℕ) (at : ℕ) (ps : List Predicate) (n : ℕ) (qs : List Predicate) : Type 0 where
   pub taken : List (List ℕ)
   pub cuts : lines (drop at s) ≡ taken ++ lines (drop n s)
-  pub form : PredicateLines ps taken qs
+  pub form : LinesFrom ps taken qs
   pub place : n ≡ at + size taken
 
 LinesHere : List ℕ → Predicates → Predicates → Type 0
@@ -124,7 +124,7 @@ line-due : {k : ℕ} {p : Predicate} {l : List ℕ} (r : List ℕ) → Predicate
 unfolding prefix-of
 line-due r f = rw (f .spelled)
 
-lines-taken : {ps qs : List Predicate} {ls : List (List ℕ)} → PredicateLines ps ls qs → (f : ℕ) (s : List ℕ) (at : ℕ) (rest : List (List ℕ))
+lines-taken : {ps qs : List Predicate} {ls : List (List ℕ)} → LinesFrom ps ls qs → (f : ℕ) (s : List ℕ) (at : ℕ) (rest : List (List ℕ))
     → length ps ≡ 16 → unsets ps ≤ f → lines (drop at s) ≡ ls ++ rest → ((x : List ℕ) → lines x ≡ rest → prefix-of (bytes "p=") x ≡ false)
     → (n : ℕ) × (lines-from f s (record { ok = true; next = at; all = ps }) ≡ record { ok = true; next = n; all = qs }) × (lines (drop n s) ≡ rest)
 lines-taken {ps} over f s at rest w u e stop = (at, due-over f s (record { ok = true; next = at; all = ps }) (stop (drop at s) e), e)
@@ -141,13 +141,21 @@ lines-taken {ps} {qs} (more {l} {ls} {number = k} {predicate = p} line free line
       d .2,
     )
 
-pub predicates-taken : {qs : List Predicate} {ls : List (List ℕ)} → PredicateLines unset ls qs → (s : List ℕ) (at : ℕ) (rest : List (List ℕ))
+pub predicates-taken : {qs : List Predicate} {ls : List (List ℕ)} → PredicateLines ls qs → (s : List ℕ) (at : ℕ) (rest : List (List ℕ))
     → lines (drop at s) ≡ ls ++ rest → ((x : List ℕ) → lines x ≡ rest → prefix-of (bytes "p=") x ≡ false)
     → (n : ℕ) × (lines-at s at ≡ record { ok = true; next = n; all = qs }) × (lines (drop n s) ≡ rest)
 unfolding lines-at unsets
 predicates-taken form s at rest e stop = lines-taken form 16 s at rest refl (omega arith) e stop
 
+-- ---- a head's predicate lines
+
+module _ {A : List ℕ → Type 0} (f : (l : List ℕ) (k : ℕ) (p : Predicate) → PredicateLine l k p → A l) where
+  -- what is true of every predicate's line is true of each of them
+  pub each-line : {ps qs : List Predicate} {ls : List (List ℕ)} → LinesFrom ps ls qs → Each A ls
+  each-line over = none
+  each-line (more {number = k} {predicate = p} line free rest) = also (f _ k p line) (each-line rest)
+
 -- there are sixteen predicates before and after
-pub lines-keep : {ps qs : List Predicate} {ls : List (List ℕ)} → PredicateLines ps ls qs → length qs ≡ length ps
+pub lines-keep : {ps qs : List Predicate} {ls : List (List ℕ)} → LinesFrom ps ls qs → length qs ≡ length ps
 lines-keep over = refl
 lines-keep (more {ps} {number = k} {predicate = p} line free rest) = lines-keep rest ∙ length-set ps k p

@@ -50,8 +50,12 @@ pub record PredicateLine (line : List ℕ) (number : ℕ) (predicate : Predicate
 abbrev pub unset : List Predicate
 unset = replicate 16 unset-predicate
 
--- lines that set predicates, one after the other: each number once
-pub data PredicateLines : List Predicate → List (List ℕ) → List Predicate → Type 0 where
-  over : {ps : List Predicate} → PredicateLines ps [] ps
+-- lines that set predicates beside those that are set: each number once
+pub data LinesFrom : List Predicate → List (List ℕ) → List Predicate → Type 0 where
+  over : {ps : List Predicate} → LinesFrom ps [] ps
   more : {l : List ℕ} {ls : List (List ℕ)} {ps qs : List Predicate} {number : ℕ} {predicate : Predicate}
-      → PredicateLine l number predicate → is-unset (getD ps number unset-predicate .range) ≡ true → PredicateLines (set ps number predicate) ls qs → PredicateLines ps (l ∷ ls) qs
+      → PredicateLine l number predicate → is-unset (getD ps number unset-predicate .range) ≡ true → LinesFrom (set ps number predicate) ls qs → LinesFrom ps (l ∷ ls) qs
+
+-- the predicate lines of a head, and the predicates that they set
+abbrev pub PredicateLines : List (List ℕ) → List Predicate → Type 0
+PredicateLines ls qs = LinesFrom unset ls qs
