@@ -72,11 +72,13 @@ fn predicate(text: &[u8]) -> Read<'_, (usize, Predicate)> {
 
 fn predicates(mut text: &[u8]) -> Read<'_, [Predicate; 16]> {
     let mut predicates = [Predicate { channel: 0, range: Range::Unset }; 16];
+    let mut least = 0;
     while text.starts_with(b"p=") {
         let ((p, predicate), rest) = predicate(text)?;
-        if !matches!(predicates[p].range, Range::Unset) {
+        if p < least {
             return None;
         }
+        least = p + 1;
         predicates[p] = predicate;
         text = rest;
     }

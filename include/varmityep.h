@@ -112,10 +112,11 @@ size_t varmityep_answer(const uint8_t *text, size_t text_len, uint8_t *lines, si
 
 /*
  * Reads a sheet: refusal 0, 1 or 12. The whole text is judged, its rows too where channels is 1 to
- * 8. Writes numbers (VARMITYEP_NUMBERS), places (VARMITYEP_PLACES), ranges (VARMITYEP_RANGES) and
- * ends (VARMITYEP_ENDS). Requirement k is the part of the text from places[2k] up to but not
- * including places[2k + 1]; places beyond the count are 0. An end that a range does not have is 0,
- * and so is an unset predicate's channel.
+ * 8. `p=` lines stand by rising number, gaps allowed; any other order, or a number twice, is 1.
+ * Writes numbers (VARMITYEP_NUMBERS), places (VARMITYEP_PLACES), ranges (VARMITYEP_RANGES) and ends
+ * (VARMITYEP_ENDS). Requirement k is the part of the text from places[2k] up to but not including
+ * places[2k + 1]; places beyond the count are 0. An end that a range does not have is 0, and so is
+ * an unset predicate's channel.
  */
 uint64_t varmityep_sheet(const uint8_t *text, size_t text_len,
                          uint64_t *numbers, size_t numbers_len,

@@ -21,7 +21,8 @@ pub struct Sheet<'a> {
 }
 
 /// Reads a sheet. Refusals 1 and 12, of the whole text: its rows are judged too where channels is
-/// 1 to 8.
+/// 1 to 8. `p=` lines stand by rising number, gaps allowed; any other order, or a number twice, is
+/// refused by 1.
 pub fn read_sheet(text: &[u8]) -> Result<Sheet<'_>, Refusal> {
     let (mut numbers, mut places) = ([0; 5], [0; 2 * MOST_REQUIREMENTS]);
     let mut flat = predicate::Flat::BLANK;

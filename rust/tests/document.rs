@@ -1,5 +1,5 @@
-//! Document 01's example, whole and by its parts, windows from now, several requirements, and every
-//! refusal number.
+//! Document 01's example, whole and by its parts, windows from now, predicates by number, several
+//! requirements, and every refusal number.
 
 use varmityep::{
     answer, margin, read_requirement, read_rows, read_sheet, verdict, Counts, Judgement, Node,
@@ -74,6 +74,23 @@ fn a_window_that_starts_now_still_does_when_strengthened() {
     // A later start moves inward as the end does.
     let late = format!("rows=5 filled=0 margin=7 hold=-{TOP} fail=-7 verdict=unshown\n");
     assert_eq!(asked("F[1,2]p0"), late);
+}
+
+#[test]
+fn predicates_stand_by_rising_number() {
+    let (zero, three) = ("p=0 ch=0 lo=5 hi=*\n", "p=3 ch=0 lo=* hi=20\n");
+    let sheet = |lines: &[&str]| EXAMPLE.replace(zero, &lines.concat());
+    let rising = sheet(&[zero, three]);
+    let predicates = read_sheet(rising.as_bytes()).unwrap().predicates;
+    assert_eq!(predicates[0], Predicate { channel: 0, range: Range::AtLeast(5) });
+    assert_eq!(predicates[1..3], [Predicate::default(); 2]);
+    assert_eq!(predicates[3], Predicate { channel: 0, range: Range::AtMost(20) });
+    assert_eq!(predicates[4..], [Predicate::default(); 12]);
+    for unordered in [[three, zero], [zero, zero], [three, three]] {
+        let text = sheet(&unordered);
+        assert_eq!(read_sheet(text.as_bytes()).err(), Some(Refusal::Text));
+        assert_eq!(answer(text.as_bytes()), "refused=1\n");
+    }
 }
 
 #[test]

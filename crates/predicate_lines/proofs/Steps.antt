@@ -1,13 +1,10 @@
--- A line field by field: the first that fails refuses the line, and the last gives it. And one line at a time: what a turn of the loop leaves is what the definition says
--- from there on.
+-- A line field by field: the first that fails refuses the line, and the last gives it.
 -- Assumes nothing.
 use mathlib.Core.Path.{_≡_}
 use mathlib.Core.List.{List}
-use mathlib.Core.Bool.{true, false}
-use Prim.Native.Nat.{ℕ, suc, _+_, _-_, _≤_, _<_}
-use native.Mathlib.Omega.{arith}
+use Prim.Native.Nat.{ℕ}
 use Rattle.text.specs.Bytes.{bytes}
-use Rattle.text.specs.Mark.{key-at, mark-at}
+use Rattle.text.specs.Mark.{mark-at}
 use Rattle.text.specs.Number.{largest, field-at}
 use Rattle.text.specs.declared.Mark.the-variants.{Next, Bad as Mark·Bad}
 use Rattle.text.specs.declared.Field.the-variants.{Number, Bad as Field·Bad}
@@ -16,8 +13,7 @@ use Rattle.predicate_lines.specs.declared.Bound.{Bound}
 use Rattle.predicate_lines.specs.declared.End.the-variants.{Read, Bad as End·Bad}
 use Rattle.predicate_lines.specs.declared.Line.the-variants.{Bad}
 use Rattle.predicate_lines.specs.Form.{range-of}
-use Rattle.predicate_lines.specs.declared.Predicates.{Predicates}
-use Rattle.predicate_lines.specs.Reading.{end-at, set-line, line-at, with-line, lines-from}
+use Rattle.predicate_lines.specs.Reading.{end-at, set-line, line-at}
 
 module _ (s : List ℕ) (at : ℕ) where
   pub line-number : field-at (bytes "p=") s at 15 ≡ Field·Bad → Bad ≡ line-at s at
@@ -47,22 +43,3 @@ module _ (s : List ℕ) (at : ℕ) where
           pub line-set : (n : ℕ) (r : Range) → mark-at (bytes "\n") s d ≡ Next n → r ≡ range-of lo hi → set-line k (record { channel = ch; range = r }) n ≡ line-at s at
           unfolding line-at
           line-set n r i q = rw (e, f, g, h, i, q)
-
-module _ (f i : ℕ) (s : List ℕ) (ps : Predicates) where
-  pub lines-end : f ≤ i → ps ≡ lines-from (f - i) s ps
-  unfolding lines-from
-  lines-end l = let e : f - i ≡ 0 = omega arith in rw e
-
-  module _ (l : i < f) where
-    pub lines-over : key-at (bytes "p=") s (ps .next) ≡ false → ps ≡ lines-from (f - i) s ps
-    unfolding lines-from
-    lines-over h = let e : f - i ≡ suc (f - (i + 1)) = omega arith in rw (e, h)
-
-    module _ (q : Predicates) (h : key-at (bytes "p=") s (ps .next) ≡ true) (g : q ≡ with-line s ps) where
-      pub lines-bad : q .ok ≡ false → q ≡ lines-from (f - i) s ps
-      unfolding lines-from
-      lines-bad o = let e : f - i ≡ suc (f - (i + 1)) = omega arith in rw (e, h, ← g, o)
-
-      pub lines-more : q .ok ≡ true → lines-from (f - (i + 1)) s q ≡ lines-from (f - i) s ps
-      unfolding lines-from
-      lines-more o = let e : f - i ≡ suc (f - (i + 1)) = omega arith in rw (e, h, ← g, o)

@@ -1,10 +1,9 @@
--- The form of a sheet's predicate lines: `p= ch= lo= hi=`, in any order, each number once, perhaps none.
+-- The form of a sheet's predicate lines: `p= ch= lo= hi=`, by rising number, gaps allowed, perhaps none.
 -- Assumes nothing.
-use Prim.Native.Nat.{ℕ, _≤_}
+use Prim.Native.Nat.{ℕ, _+_, _≤_}
 use mathlib.Core.Path.{_≡_}
-use mathlib.Core.Bool.{true}
 use mathlib.Core.List.{List, [], _∷_, _++_}
-use lib.ListN.{getD, set, replicate}
+use lib.ListN.{set, replicate}
 use lib.IntN.{ℤ}
 use Rattle.text.specs.Bytes.{bytes}
 use Rattle.text.specs.Number.{largest}
@@ -13,7 +12,6 @@ use Rattle.recordings.specs.declared.Predicate.{Predicate}
 use Rattle.recordings.specs.declared.Range.{Range}
 use Rattle.recordings.specs.declared.Range.the-variants.{Free, AtLeast, AtMost, Between}
 use Rattle.recordings.specs.Card.{unset-predicate}
-use Rattle.recordings.specs.Distance.{is-unset}
 use Rattle.predicate_lines.specs.declared.Bound.{Bound}
 use Rattle.predicate_lines.specs.declared.Bound.the-variants.{Missing, At}
 
@@ -50,12 +48,12 @@ pub record PredicateLine (line : List ℕ) (number : ℕ) (predicate : Predicate
 abbrev pub unset : List Predicate
 unset = replicate 16 unset-predicate
 
--- lines that set predicates beside those that are set: each number once
-pub data LinesFrom : List Predicate → List (List ℕ) → List Predicate → Type 0 where
-  over : {ps : List Predicate} → LinesFrom ps [] ps
-  more : {l : List ℕ} {ls : List (List ℕ)} {ps qs : List Predicate} {number : ℕ} {predicate : Predicate}
-      → PredicateLine l number predicate → is-unset (getD ps number unset-predicate .range) ≡ true → LinesFrom (set ps number predicate) ls qs → LinesFrom ps (l ∷ ls) qs
+-- lines that set predicates beside those that are set, by rising number: none is below the least that is still allowed
+pub data LinesFrom : ℕ → List Predicate → List (List ℕ) → List Predicate → Type 0 where
+  over : {least : ℕ} {ps : List Predicate} → LinesFrom least ps [] ps
+  more : {l : List ℕ} {ls : List (List ℕ)} {ps qs : List Predicate} {least number : ℕ} {predicate : Predicate}
+      → PredicateLine l number predicate → least ≤ number → LinesFrom (number + 1) (set ps number predicate) ls qs → LinesFrom least ps (l ∷ ls) qs
 
 -- the predicate lines of a head, and the predicates that they set
 abbrev pub PredicateLines : List (List ℕ) → List Predicate → Type 0
-PredicateLines ls qs = LinesFrom unset ls qs
+PredicateLines ls qs = LinesFrom 0 unset ls qs

@@ -1,9 +1,10 @@
 -- The predicate lines of a text, read from a place on. `Exact` in proofs/ shows that they are read exactly where the form of Form.antt stands.
 -- Assumes nothing.
-use Prim.Native.Nat.{ℕ, zero, suc}
+use Prim.Native.Nat.{ℕ, zero, suc, _+_}
 use mathlib.Core.Bool.{true, false, cond}
 use mathlib.Core.List.{List}
-use lib.ListN.{getD, set}
+use lib.ListN.{set}
+use lib.Dec.{ltb}
 use Rattle.text.specs.Bytes.{bytes}
 use Rattle.text.specs.Mark.{key-at, mark-at, after-mark}
 use Rattle.text.specs.Number.{largest, field-at, signed-at, after-number, after-signed}
@@ -16,8 +17,6 @@ use Rattle.predicate_lines.specs.declared.Line.{Line}
 use Rattle.predicate_lines.specs.declared.Line.the-variants.{Set, Bad}
 use Rattle.predicate_lines.specs.declared.Predicates.{Predicates}
 use Rattle.predicate_lines.specs.Form.{range-of, unset}
-use Rattle.recordings.specs.Card.{unset-predicate}
-use Rattle.recordings.specs.Distance.{is-unset}
 
 -- an end behind its key
 unfoldable pub end-at : List ℕ → List ℕ → ℕ → End
@@ -53,19 +52,18 @@ after-line Bad f x = x
 abbrev pub broken-set : Predicates
 broken-set = record { ok = false; next = 0; all = unset }
 
--- one predicate more, where its number is not set yet
-unfoldable pub stored-in : Predicates → ℕ → Predicate → ℕ → Predicates
-stored-in ps number predicate n =
-    cond (is-unset (getD (ps .all) number unset-predicate .range)) (record { ok = true; next = n; all = set (ps .all) number predicate }) broken-set
+-- one predicate more
+abbrev pub stored-in : Predicates → ℕ → Predicate → ℕ → Predicates
+stored-in ps number predicate n = record { ok = true; next = n; all = set (ps .all) number predicate }
 
-unfoldable pub with-line : List ℕ → Predicates → Predicates
-with-line s ps = after-line (line-at s (ps .next)) (λ k p n. stored-in ps k p n) broken-set
+-- up to f lines with the key `p=`, by rising number from the least on
+unfoldable pub lines-from : ℕ → List ℕ → ℕ → Predicates → Predicates
+lines-from zero s least ps = ps
+lines-from (suc f) s least ps =
+    cond (key-at (bytes "p=") s (ps .next))
+    (after-line (line-at s (ps .next)) (λ k p n. cond (ltb k least) broken-set (lines-from f s (k + 1) (stored-in ps k p n))) broken-set)
+    ps
 
--- up to f lines with the key `p=`
-unfoldable pub lines-from : ℕ → List ℕ → Predicates → Predicates
-lines-from zero s ps = ps
-lines-from (suc f) s ps = cond (key-at (bytes "p=") s (ps .next)) (cond (with-line s ps .ok) (lines-from f s (with-line s ps)) (with-line s ps)) ps
-
--- sixteen numbers, each once, are sixteen lines at most
+-- sixteen numbers can rise; a line behind them is below the least, whatever its number
 unfoldable pub lines-at : List ℕ → ℕ → Predicates
-lines-at s at = lines-from 16 s (record { ok = true; next = at; all = unset })
+lines-at s at = lines-from 17 s 0 (record { ok = true; next = at; all = unset })

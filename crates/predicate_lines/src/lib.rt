@@ -1,4 +1,4 @@
-// Reads the predicate lines of a sheet's head, `p= ch= lo= hi=`: in any order, each number once, perhaps none.
+// Reads the predicate lines of a sheet's head, `p= ch= lo= hi=`: by rising number, gaps allowed, perhaps none.
 use recordings::Predicate;
 use recordings::Range;
 use text::Field;
@@ -9,7 +9,7 @@ ghost use Prim.Native.Nat.{_<_};
 ghost use Rattle.text.specs.Bytes.{bytes};
 ghost use Rattle.text.specs.Mark.{key-at};
 ghost use Rattle.predicate_lines.specs.Form.{range-of, unset};
-ghost use Rattle.predicate_lines.specs.Reading.{end-at, line-at, broken-set, stored-in, with-line, lines-from, lines-at};
+ghost use Rattle.predicate_lines.specs.Reading.{end-at, line-at, broken-set, stored-in, lines-at};
 
 // An end of a range; a missing one is written `*`.
 pub enum Bound {
@@ -125,16 +125,11 @@ fn broken() -> Predicates
     }
 }
 
-// One predicate more, where its number is not set yet.
+// One predicate more.
 fn store(ps: Predicates, number: usize, predicate: Predicate, next: usize) -> Predicates
     requires { ⌜ number < 16 ⌝ }
     ensures { λ r. ⌜ r ≡ stored-in ps number predicate next ⌝ }
 {
-    let old = ps.all[number];
-    let range = old.range;
-    if !recordings::is_unset(range) {
-        return broken();
-    }
     let mut all = ps.all;
     all[number] = predicate;
     Predicates {
@@ -144,17 +139,6 @@ fn store(ps: Predicates, number: usize, predicate: Predicate, next: usize) -> Pr
     }
 }
 
-// The predicates with those of the next line.
-fn with_line(s: &[u8], ps: Predicates) -> Predicates
-    ensures { λ r. ⌜ r ≡ with-line (now (s .entry)) ps ⌝ }
-{
-    let at = ps.next;
-    let Line::Set(line) = read_line(s, at) else {
-        return broken();
-    };
-    store(ps, line.number, line.predicate, line.next)
-}
-
 // Whether a predicate line is due at a place.
 fn is_due(s: &[u8], at: usize) -> bool
     ensures { λ r. ⌜ r ≡ key-at (bytes "p=") (now (s .entry)) at ⌝ }
@@ -162,7 +146,7 @@ fn is_due(s: &[u8], at: usize) -> bool
     text::key_at(s, at, b"p=")
 }
 
-// The predicates of the lines from a place on, of which there are at most sixteen.
+// The predicates of the lines from a place on. Their numbers rise, so that each stands once and sixteen lines are the most.
 pub fn read_predicates(s: &[u8], at: usize) -> Predicates
     ensures { λ r. ⌜ r ≡ lines-at (now (s .entry)) at ⌝ }
 {
@@ -172,17 +156,17 @@ pub fn read_predicates(s: &[u8], at: usize) -> Predicates
         next: at,
         all: none,
     };
-    let mut turn: usize = 0;
-    while turn < 16 {
-        let next = ps.next;
-        if !is_due(s, next) {
-            return ps;
+    let mut least: usize = 0;
+    while is_due(s, ps.next) {
+        let Line::Set(line) = read_line(s, ps.next) else {
+            return broken();
+        };
+        let number = line.number;
+        if number < least {
+            return broken();
         }
-        ps = with_line(s, ps);
-        if !ps.ok {
-            return ps;
-        }
-        turn += 1;
+        least = number + 1;
+        ps = store(ps, number, line.predicate, line.next);
     }
     ps
 }

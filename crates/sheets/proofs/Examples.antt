@@ -1,10 +1,11 @@
 -- The examples, computed: each text's number is what the definition gives.
 -- Assumes nothing.
 use mathlib.Core.Path.{_≡_, refl}
-use mathlib.Core.List.{List, [], _∷_, map}
+use mathlib.Core.List.{List, [], _∷_, _++_, map}
 use mathlib.Core.Bool.{false}
 use native.Mathlib.Omega.{arith}
 use Prim.Native.Nat.{ℕ}
+use Prim.Native.String.{String}
 use lib.ListN.{replicate}
 use lib.IntN.{pos, negℤ}
 use Rattle.text.specs.Bytes.{bytes}
@@ -15,29 +16,34 @@ use Rattle.lines.specs.Lines.{lines}
 use Rattle.row_lines.specs.Form.{Row, no-field, next}
 use Rattle.row_lines.specs.Same.{SameButFilled, no-line, same, filled}
 use Rattle.row_lines.specs.Reading.{value-at, values-from, rest-at, row-at, rows-from}
-use Rattle.predicate_lines.specs.Reading.{end-at, line-at, stored-in, with-line, lines-from, lines-at}
+use Rattle.predicate_lines.specs.Reading.{end-at, line-at, lines-from, lines-at}
 use Rattle.number_lines.specs.Reading.{number-line-at}
 use Rattle.heads.specs.Reading.{behind-channels, head-of}
 use Rattle.requirement_lines.specs.Reading.{until-feed, requirement-at, requirements-from}
 use Rattle.sheets.specs.Sheets.{behind-head, sheet-of}
-use Rattle.sheets.specs.Examples.{example, contents, damaged, accepted, crowded, with-third, filled-row, other-filled-row}
+use Rattle.sheets.specs.Examples.{example, contents, damaged, accepted, with-predicates, rising, unordered, crowded, with-third, filled-row, other-filled-row}
 use Rattle.sheets.proofs.Exact.{sheet-alike}
 
 pub example-read : sheet-of example ≡ contents
-unfolding prefix-of mark-at digits value number-at field-at signed-at signed-field-at value-at values-from rest-at row-at rows-from end-at line-at stored-in with-line lines-from lines-at number-line-at behind-channels head-of until-feed requirement-at requirements-from behind-head sheet-of
+unfolding prefix-of mark-at digits value number-at field-at signed-at signed-field-at value-at values-from rest-at row-at rows-from end-at line-at lines-from lines-at number-line-at behind-channels head-of until-feed requirement-at requirements-from behind-head sheet-of
 example-read = refl
 
 pub damaged-refused : map (λ (s : List ℕ). sheet-of s .number) damaged ≡ replicate 26 1
-unfolding prefix-of mark-at digits value number-at field-at signed-at signed-field-at value-at values-from rest-at row-at rows-from end-at line-at stored-in with-line lines-from lines-at number-line-at behind-channels head-of until-feed requirement-at requirements-from behind-head sheet-of
+unfolding prefix-of mark-at digits value number-at field-at signed-at signed-field-at value-at values-from rest-at row-at rows-from end-at line-at lines-from lines-at number-line-at behind-channels head-of until-feed requirement-at requirements-from behind-head sheet-of
 damaged-refused = refl
 
 pub accepted-read : map (λ (s : List ℕ). sheet-of s .number) accepted ≡ replicate 7 0
-unfolding prefix-of mark-at digits value number-at field-at signed-at signed-field-at value-at values-from rest-at row-at rows-from end-at line-at stored-in with-line lines-from lines-at number-line-at behind-channels head-of until-feed requirement-at requirements-from behind-head sheet-of
+unfolding prefix-of mark-at digits value number-at field-at signed-at signed-field-at value-at values-from rest-at row-at rows-from end-at line-at lines-from lines-at number-line-at behind-channels head-of until-feed requirement-at requirements-from behind-head sheet-of
 accepted-read = refl
+
+-- predicates in number order are read; in any other order they break the form
+pub orders-read : map (λ (ns : List String). sheet-of (with-predicates ns) .number) (rising ++ unordered) ≡ replicate 6 0 ++ replicate 11 1
+unfolding prefix-of mark-at digits value number-at field-at signed-at signed-field-at value-at values-from rest-at row-at rows-from end-at line-at lines-from lines-at number-line-at behind-channels head-of until-feed requirement-at requirements-from behind-head sheet-of
+orders-read = refl
 
 -- sixteen requirements are read, a seventeenth is refused by 12, unless 1 applies
 pub crowded-refused : map (λ (s : List ℕ). sheet-of s .number) crowded ≡ 0 ∷ 12 ∷ 12 ∷ 12 ∷ 1 ∷ []
-unfolding prefix-of mark-at digits value number-at field-at signed-at signed-field-at value-at values-from rest-at row-at rows-from end-at line-at stored-in with-line lines-from lines-at number-line-at behind-channels head-of until-feed requirement-at requirements-from behind-head sheet-of
+unfolding prefix-of mark-at digits value number-at field-at signed-at signed-field-at value-at values-from rest-at row-at rows-from end-at line-at lines-from lines-at number-line-at behind-channels head-of until-feed requirement-at requirements-from behind-head sheet-of
 crowded-refused = refl
 
 -- ---- two sheets that differ in a filled row alone
@@ -75,5 +81,5 @@ filled-same = sheet-alike (with-third filled-row) (with-third other-filled-row) 
 
 -- the one that document 01's example gives, computed of both
 pub filled-read : (sheet-of (with-third filled-row) ≡ contents) × (sheet-of (with-third other-filled-row) ≡ contents)
-unfolding prefix-of mark-at digits value number-at field-at signed-at signed-field-at value-at values-from rest-at row-at rows-from end-at line-at stored-in with-line lines-from lines-at number-line-at behind-channels head-of until-feed requirement-at requirements-from behind-head sheet-of
+unfolding prefix-of mark-at digits value number-at field-at signed-at signed-field-at value-at values-from rest-at row-at rows-from end-at line-at lines-from lines-at number-line-at behind-channels head-of until-feed requirement-at requirements-from behind-head sheet-of
 filled-read = (refl, refl)

@@ -1,4 +1,5 @@
--- Sheets and their numbers: document 01's example, texts that break the form in one place each, texts that look broken and are not, and texts with many requirements.
+-- Sheets and their numbers: document 01's example, texts that break the form in one place each, texts that look broken and are not, orders of predicates, and texts with many
+-- requirements.
 -- Assumes nothing.
 use Prim.Native.Nat.{ℕ}
 use Prim.Native.String.{String}
@@ -62,17 +63,49 @@ damaged =
     ∷ parts "chan=1\n" "" "step=1\n" "drift=2\n" "req=p0\n" "t=4294967296 src=f v0=1\n"
     ∷ []
 
--- ends that a later number judges; predicates in any order, one free; an empty requirement, one with spaces, two; rows behind a channel count out of range, which are unread;
+-- ends that a later number judges; predicates with a gap between them, one free; an empty requirement, one with spaces, two; rows behind a channel count out of range, which are unread;
 -- filled rows out of order and beyond the range of values
 abbrev pub accepted : List (List ℕ)
 accepted =
     example
     ∷ parts "chan=1\n" "" "step=0\n" "drift=4294967295\n" "req=\n" ""
-    ∷ parts "chan=1\n" "p=15 ch=4294967295 lo=9 hi=-9\np=2 ch=0 lo=* hi=*\n" "step=1\n" "drift=2\n" "req= p0 \n" ""
+    ∷ parts "chan=1\n" "p=2 ch=0 lo=* hi=*\np=15 ch=4294967295 lo=9 hi=-9\n" "step=1\n" "drift=2\n" "req= p0 \n" ""
     ∷ parts "chan=0\n" "" "step=1\n" "drift=2\n" "req=p0\n" "anything\r, no line feed"
     ∷ parts "chan=9\n" "" "step=1\n" "drift=2\n" "req=p0\nreq=p1\n" "unread\nreq=p2"
     ∷ parts "chan=1\n" "" "step=1\n" "drift=2\n" "req=p0\nreq=p1\n" "t=0 src=m v0=1\n"
     ∷ parts "chan=2\n" "" "step=1\n" "drift=2\n" "req=p0\n" "t=9 src=f v0=-2147483647 v1=0\nt=4294967295 src=f v0=7 v1=2147483647\nt=0 src=m v0=1 v1=-1\n"
+    ∷ []
+
+-- a text with a predicate's line for each of these numbers, one after the other
+abbrev pub predicate-lines : List String → List ℕ
+predicate-lines [] = []
+predicate-lines (n ∷ ns) = bytes "p=" ++ bytes n ++ bytes " ch=0 lo=* hi=*\n" ++ predicate-lines ns
+
+abbrev pub with-predicates : List String → List ℕ
+with-predicates ns = bytes "chan=1\n" ++ predicate-lines ns ++ bytes "step=1\n" ++ bytes "drift=2\n" ++ bytes "req=T\n"
+
+-- every number there is, then more
+abbrev pub all-and : List String → List String
+all-and ns = "0" ∷ "1" ∷ "2" ∷ "3" ∷ "4" ∷ "5" ∷ "6" ∷ "7" ∷ "8" ∷ "9" ∷ "10" ∷ "11" ∷ "12" ∷ "13" ∷ "14" ∷ "15" ∷ ns
+
+-- rising: none, one, neighbours, gaps, all
+abbrev pub rising : List (List String)
+rising = [] ∷ ("15" ∷ []) ∷ ("0" ∷ "1" ∷ []) ∷ ("3" ∷ "7" ∷ "12" ∷ []) ∷ ("0" ∷ "15" ∷ []) ∷ all-and [] ∷ []
+
+-- the other orders of three; 15 then 0; equal neighbours; equal ones with another between; a line behind all numbers
+abbrev pub unordered : List (List String)
+unordered =
+    ("3" ∷ "12" ∷ "7" ∷ [])
+    ∷ ("7" ∷ "3" ∷ "12" ∷ [])
+    ∷ ("7" ∷ "12" ∷ "3" ∷ [])
+    ∷ ("12" ∷ "3" ∷ "7" ∷ [])
+    ∷ ("12" ∷ "7" ∷ "3" ∷ [])
+    ∷ ("15" ∷ "0" ∷ [])
+    ∷ ("0" ∷ "0" ∷ [])
+    ∷ ("3" ∷ "7" ∷ "7" ∷ [])
+    ∷ ("3" ∷ "7" ∷ "3" ∷ [])
+    ∷ all-and ("15" ∷ [])
+    ∷ all-and ("0" ∷ [])
     ∷ []
 
 -- sixteen requirements, with more lines behind them

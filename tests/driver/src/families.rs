@@ -5,6 +5,7 @@ use crate::claimed;
 use crate::compare::{self, Others, WHOLE_CALL, WHOLE_SHEET, WHOLE_TABLE};
 use crate::library::COUNTS;
 use crate::names::LINES;
+use crate::ordered;
 use crate::shapes;
 use crate::tally::Tally;
 use peer::answer::{entry_line, judge_sheet, printed, Answer, Entry};
@@ -76,6 +77,9 @@ fn answered(bench: &mut Bench, text: &[u8]) -> Result<Result<Vec<Entry>, Refusal
     at(text, compare::sheets(bench.others, text, [any % 7, any % 35, any % 34, any % 33]))?;
     if bench.ask_program {
         at(text, compare::program(bench.others, text, &lines))?;
+    }
+    if let Some(order) = ordered::about(text) {
+        bench.tally.add(format!("predicates: {order}"));
     }
     match &judged {
         Err(refusal) => {

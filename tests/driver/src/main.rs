@@ -14,6 +14,7 @@ mod library;
 #[cfg_attr(not(any(feature = "proved", test)), allow(dead_code))]
 #[path = "../../../rust/src/names.rs"]
 mod names;
+mod ordered;
 mod program;
 #[cfg(any(feature = "proved", test))]
 mod proved;
@@ -182,8 +183,8 @@ fn run_long(others: &Others, tally: &mut Tally, run: u64) -> bool {
     true
 }
 
-/// What must come up, and how often: every refusal and every verdict, of every entry point, all that
-/// claims may be about, and every shape of window.
+/// What must come up, and how often: every refusal and every verdict, of every entry point, every
+/// order of predicates, all that claims may be about, and every shape of window.
 fn wanted(thousands: u64, long: bool) -> Vec<(String, u64)> {
     let mut wanted = Vec::new();
     let mut each = |what: &str, numbers: &[u64], least: u64| {
@@ -207,6 +208,9 @@ fn wanted(thousands: u64, long: bool) -> Vec<(String, u64)> {
     wanted.push(("several: equal margins".to_string(), 20 * thousands));
     for what in ["unread rows", "the last unended"] {
         wanted.push((format!("several: {what}"), 2 * thousands));
+    }
+    for order in ordered::ALL {
+        wanted.push((format!("predicates: {order}"), thousands / 2));
     }
     for histories in ["there is none", "all tried", "some tried", "a verdict tried on all"] {
         wanted.push((format!("histories: {histories}"), 10 * thousands));

@@ -62,16 +62,19 @@ fn number_line<'a>(text: &'a [u8], key: &str) -> Read<(u64, &'a [u8])> {
     Ok((unsigned(values(line, &[key])?[0])?, rest))
 }
 
-/// "`p=` lines, in any order, each number once, perhaps none."
+/// "`p=` lines stand by rising number from now on. Gaps in the numbering remain allowed. An
+/// unordered sheet breaks the text form (1)." Perhaps there are none.
 fn predicate_lines(mut text: &[u8]) -> Read<(Predicates, &[u8])> {
-    let mut predicates = [UNSET; PREDICATES];
+    let mut lines = Vec::new();
     while text.starts_with(b"p=") {
         let (line, rest) = first_line(text)?;
-        let (number, predicate) = predicate_line(line)?;
-        when(predicates[number].is_set(), Refusal::Text)?;
-        predicates[number] = predicate;
+        lines.push(predicate_line(line)?);
         text = rest;
     }
+    let rising = lines.windows(2).all(|pair| pair[0].0 < pair[1].0);
+    when(!rising, Refusal::Text)?;
+    let mut predicates = [UNSET; PREDICATES];
+    lines.iter().for_each(|&(number, predicate)| predicates[number] = predicate);
     Ok((predicates, text))
 }
 

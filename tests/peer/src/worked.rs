@@ -1,5 +1,5 @@
-//! Every worked number of document 01 as Change 3 of document 02 leaves it, and the damaged forms
-//! that the decisions name.
+//! Every worked number of document 01 as Changes 3 and 4 of document 02 leave it, and the damaged
+//! forms that the decisions name.
 
 use crate::answer::answer;
 use crate::grammar::{read_requirement, read_tree};
@@ -278,6 +278,9 @@ const BREAKS: &[(&str, &str)] = &[
     ("hi=*", "hi="),
     ("hi=*", "hi=* "),
     ("p=0 ch=0 lo=5 hi=*\n", "p=0 ch=0 lo=5 hi=*\np=0 ch=0 lo=5 hi=*\n"),
+    ("p=0 ch=0 lo=5 hi=*\n", "p=1 ch=0 lo=5 hi=*\np=0 ch=0 lo=5 hi=*\n"),
+    ("p=0 ch=0 lo=5 hi=*\n", "p=15 ch=0 lo=* hi=*\np=0 ch=0 lo=5 hi=*\n"),
+    ("hi=*\n", "hi=*\np=9 ch=0 lo=5 hi=*\np=8 ch=0 lo=5 hi=*\n"),
     ("step=1\n", ""),
     ("step=1\n", "step=-1\n"),
     ("step=1\n", "step=*\n"),
@@ -426,15 +429,43 @@ fn the_sheet_reader() {
     assert_eq!(&EXAMPLE[sheet.requirements[0].clone()], "G[0,2]p0");
     assert!(EXAMPLE[sheet.rows_from..].starts_with("t=0 "));
     assert_eq!((sheet.channels, sheet.step, sheet.drift), (1, 1, 2));
-    let four = "chan=9\np=3 ch=7 lo=* hi=*\np=1 ch=0 lo=* hi=-4\np=15 ch=4294967295 lo=9 hi=-9\nstep=4294967295\ndrift=0\nreq=\n";
+    let four = "chan=9\np=1 ch=0 lo=* hi=-4\np=3 ch=7 lo=* hi=*\np=15 ch=4294967295 lo=9 hi=-9\nstep=4294967295\ndrift=0\nreq=\n";
     let sheet = read_sheet(four.as_bytes()).unwrap();
-    assert_eq!(sheet.predicates[3], Predicate { channel: 7, range: Range::Free });
     assert_eq!(sheet.predicates[1], Predicate { channel: 0, range: Range::AtMost(-4) });
+    assert_eq!(sheet.predicates[3], Predicate { channel: 7, range: Range::Free });
     assert_eq!(
         sheet.predicates[15],
         Predicate { channel: 4_294_967_295, range: Range::Between(9, -9) }
     );
     assert_eq!(sheet.requirements, [four.len() - 1..four.len() - 1]);
+}
+
+#[test]
+fn predicates_by_rising_number() {
+    // Every number has its own end, so that the margin shows which line was read as which.
+    let sheet = |numbers: &[i64], requirement: &str| {
+        let line = |number| format!("p={number} ch=0 lo={} hi=*\n", 10 - number);
+        let lines: String = numbers.iter().map(line).collect();
+        with("p=0 ch=0 lo=5 hi=*\n", &lines).replace("G[0,2]p0", requirement)
+    };
+    let margin = |margin| {
+        format!("rows=5 filled=0 margin={margin} hold={margin} fail=-{margin} verdict=holds")
+    };
+    for (number, distance) in [(2, 3), (5, 6), (11, 12)] {
+        says(&sheet(&[2, 5, 11], &format!("p{number}")), &margin(distance));
+    }
+    for unordered in [[2, 11, 5], [5, 2, 11], [5, 11, 2], [11, 2, 5], [11, 5, 2]] {
+        refuses(&sheet(&unordered, "p2"), 1);
+    }
+    says(&sheet(&[], "T"), &margin(TOP));
+    says(&sheet(&[0, 15], "p15"), &margin(16));
+    refuses(&sheet(&[15, 0], "p15"), 1);
+    refuses(&sheet(&[5, 5], "p5"), 1);
+    refuses(&sheet(&[2, 5, 5], "p5"), 1);
+    // Also where the rows are unread.
+    let unread = |numbers: &[i64]| sheet(numbers, "p2").replace("chan=1", "chan=9");
+    refuses(&unread(&[2, 5]), 4);
+    refuses(&unread(&[5, 2]), 1);
 }
 
 #[test]

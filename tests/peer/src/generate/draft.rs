@@ -50,6 +50,12 @@ impl Draft {
         (0..self.rows.len()).filter(|&row| self.rows[row].measured).collect()
     }
 
+    /// One predicate more, where its number has its place.
+    pub fn set(&mut self, line: PredicateLine) {
+        let before = self.predicates.iter().filter(|other| other.number < line.number).count();
+        self.predicates.insert(before, line);
+    }
+
     pub fn is_set(&self, number: u64) -> bool {
         self.predicates.iter().any(|predicate| predicate.number == number)
     }

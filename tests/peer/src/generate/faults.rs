@@ -141,7 +141,7 @@ fn bad_channels_or_predicate(rng: &mut Prng, draft: &mut Draft) {
     }
     let number = (0..16).find(|&number| !draft.is_set(number)).unwrap_or(16);
     if number < 16 {
-        draft.predicates.push(PredicateLine { number, channel: 0, lo: None, hi: None });
+        draft.set(PredicateLine { number, channel: 0, lo: None, hi: None });
     }
     let place = rng.below(draft.predicates.len());
     let channels = draft.channels;
@@ -274,13 +274,14 @@ fn broken_text(rng: &mut Prng, draft: &Draft) -> Vec<u8> {
             break place;
         }
     };
-    match rng.below(7) {
+    match rng.below(8) {
         0 => with_line(&lines, place, broken_layout(rng, &lines[place])),
         1 | 2 => with_line(&lines, place, broken_field(rng, &lines[place])),
         3 => broken_order(rng, draft, lines),
         4 if rows_are_read => broken_tail(rng, draft, lines),
         5 if rng.once_in(10) => too_long(rng, draft),
         6 => unended(draft),
+        7 => unordered(rng, draft),
         _ => {
             let keys = ["chan=", "p=", "step=", "drift=", "req=", "t=", "", "#", "Req="];
             // Behind the `req=` lines another one is no fault.
@@ -351,7 +352,7 @@ fn broken_field(rng: &mut Prng, line: &[u8]) -> Vec<u8> {
 fn broken_order(rng: &mut Prng, draft: &Draft, mut lines: Vec<Vec<u8>>) -> Vec<u8> {
     let (first, rows) = (draft.lines_before_requirements(), draft.lines_before_rows());
     let (step, drift) = (first - 2, first - 1);
-    match rng.below(7) {
+    match rng.below(6) {
         0 => {
             let place = rng.pick(&[0, step, drift]);
             lines.remove(place);
@@ -362,17 +363,33 @@ fn broken_order(rng: &mut Prng, draft: &Draft, mut lines: Vec<Vec<u8>>) -> Vec<u
             let place = rng.pick(&[0, step, drift]);
             lines.insert(place, lines[place].clone());
         }
-        4 if first > 3 => {
-            let place = 1 + rng.below(first - 3);
-            let twice = lines[place].clone();
-            lines.insert(1 + rng.below(first - 3), twice);
-        }
         // No `req=` line is left.
-        5 => drop(lines.drain(first..rows)),
+        4 => drop(lines.drain(first..rows)),
         // Behind the first `req=` line it might stand where nothing is read.
         _ => lines.insert(rng.below(first + 1), Vec::new()),
     }
     joined(&lines)
+}
+
+/// `p=` lines whose numbers do not rise: two have changed places, or one stands twice, the second
+/// time with any channel and ends, side by side or with others between.
+fn unordered(rng: &mut Prng, draft: &Draft) -> Vec<u8> {
+    let mut predicates = draft.predicates.clone();
+    let count = predicates.len();
+    let one = rng.below(count.max(1));
+    match rng.below(3) {
+        0 if count > 1 => predicates.swap(one, (one + 1 + rng.below(count - 1)) % count),
+        1 if count > 1 => {
+            let (from, to) = rng.pick(&[(0, count), (count - 1, 0)]);
+            predicates.insert(to, predicates[from].clone());
+        }
+        _ => {
+            let number = predicates.get(one).map_or(rng.below(16) as u64, |line| line.number);
+            let line = PredicateLine { number, channel: 0, lo: None, hi: Some(7) };
+            predicates.splice(one..one, vec![line; if count == 0 { 2 } else { 1 }]);
+        }
+    }
+    Draft { predicates, ..draft.clone() }.text()
 }
 
 /// A fault behind the requirements, of a sheet whose rows are read.

@@ -47,6 +47,8 @@ fn joined(count: usize) -> String {
 
 pub fn limits() -> Vec<Limit> {
     let mut limits = rows_and_cells();
+    limits.extend(predicate_orders());
+    limits.extend(predicates_before_others());
     limits.extend(requirement_sizes());
     limits.extend(requirement_counts());
     limits.extend(requirement_lines());
@@ -76,13 +78,52 @@ fn rows_and_cells() -> Vec<Limit> {
     let row = Row { time: 7, measured: false, values: vec![-5] };
     many_filled.rows.extend(vec![row; 1_000]);
     limits.push(limit("filled rows take no room", many_filled, holds(2_048, 1_000)));
-    let mut sixteen = draft(1, 3, "p0");
-    sixteen.predicates = (0..16)
-        .rev()
-        .map(|number| PredicateLine { number, channel: 0, lo: Some(0), hi: None })
-        .collect();
-    limits.push(limit("sixteen predicates", sixteen, holds(3, 0)));
     limits
+}
+
+/// `p=` lines with these numbers, in this order.
+fn numbered(numbers: &str, requirement: &str) -> Draft {
+    let number = |word: &str| word.parse().expect("a predicate's number");
+    let line = |word| PredicateLine { number: number(word), channel: 0, lo: Some(0), hi: None };
+    Draft { predicates: numbers.split_whitespace().map(line).collect(), ..draft(1, 3, requirement) }
+}
+
+/// "`p=` lines stand by rising number": every order of three, numbers side by side and with gaps,
+/// equal neighbours, all sixteen and one more. Every number that has a line is named.
+fn predicate_orders() -> Vec<Limit> {
+    let all = "0 1 2 3 4 5 6 7 8 9 10 11 12 13 14 15";
+    let falling = "15 14 13 12 11 10 9 8 7 6 5 4 3 2 1 0";
+    let one_more = ["0", "8", "15"].map(|number| format!("{all} {number}"));
+    let rising = ["3 7 12", "0", "15", "0 1", "14 15", "0 15", "0 1 15", all];
+    let mut others = vec![
+        "3 12 7", "7 3 12", "7 12 3", "12 3 7", "12 7 3", "0 0", "7 7", "15 15", "3 3 7", "3 7 7",
+        "3 7 3", "1 0", "15 14", "15 0", "0 15 1", "0 2 1 3", "0 1 1 2", falling,
+    ];
+    others.extend(one_more.iter().map(String::as_str));
+    let sheet = |numbers: &str, printed| {
+        let named = format!("p{}", numbers.replace(' ', "&p"));
+        limit(&format!("predicates {numbers}"), numbered(numbers, &named), printed)
+    };
+    let mut limits: Vec<Limit> = rising.iter().map(|numbers| sheet(numbers, holds(3, 0))).collect();
+    limits.extend(others.iter().map(|numbers| sheet(numbers, refused(1))));
+    limits
+}
+
+/// An order that breaks the text form comes before every other number, also where rows are unread.
+fn predicates_before_others() -> Vec<Limit> {
+    let unread = |numbers| Draft { channels: 9, rows: Vec::new(), ..numbered(numbers, "p1") };
+    let seventeen = vec![b"p1".to_vec(); 17];
+    let crowded = |numbers| Draft { requirements: seventeen.clone(), ..numbered(numbers, "") };
+    vec![
+        limit("no predicate, one named", numbered("", "p0"), refused(3)),
+        limit("rising predicates, a bad requirement", numbered("0 1", "p"), refused(2)),
+        limit("falling predicates, a bad requirement", numbered("1 0", "p"), refused(1)),
+        limit("rising predicates, 17 requirements", crowded("0 1"), refused(12)),
+        limit("falling predicates, 17 requirements", crowded("1 0"), refused(1)),
+        limit("rising predicates, unread rows", unread("0 1"), refused(4)),
+        limit("falling predicates, unread rows", unread("1 0"), refused(1)),
+        limit("equal predicates, unread rows", unread("1 1"), refused(1)),
+    ]
 }
 
 /// A requirement of two nodes whose margin is 1: not at most −1.

@@ -165,6 +165,7 @@ fn walks(rng: &mut Prng, measures: &Measures) -> Vec<Vec<i64>> {
     rows
 }
 
+/// Predicates of any numbers, by rising number.
 fn predicates(rng: &mut Prng, measures: &Measures, values: &[Vec<i64>]) -> Vec<PredicateLine> {
     let count = if rng.once_in(10) { rng.below(17) } else { 1 + rng.below(4) };
     let mut numbers: Vec<u64> = (0..16).collect();
@@ -176,6 +177,7 @@ fn predicates(rng: &mut Prng, measures: &Measures, values: &[Vec<i64>]) -> Vec<P
         let (lo, hi) = ends(rng, near, measures.drift as i64);
         lines.push(PredicateLine { number, channel, lo, hi });
     }
+    lines.sort_by_key(|line| line.number);
     lines
 }
 

@@ -1,0 +1,105 @@
+-- Lines have the form exactly where each is a predicate's and their numbers rise: the least number still allowed is one above the line before, so every later number is above it.
+-- And what they set: no line replaces what another one set.
+-- Assumes nothing.
+use mathlib.Core.Path.{_≡_, refl, sym, ap, _∙_}
+use mathlib.Core.List.{List, [], _∷_, _++_, append-nil}
+use Prim.Native.Nat.{ℕ, zero, suc, _+_, _≤_, _<_}
+use native.Mathlib.Omega.{arith}
+use lib.ListN.{length, getD, set, length-set, length-append, getD-replicate, List·getD-append}
+use lib.Seq.{getD-set-same, getD-set-other}
+use Rattle.recordings.specs.declared.Predicate.{Predicate}
+use Rattle.recordings.specs.Card.{unset-predicate}
+use Rattle.predicate_lines.specs.declared.Line.{Line}
+use Rattle.predicate_lines.specs.Form.{PredicateLine, LinesFrom, over, more, PredicateLines, unset}
+use Rattle.predicate_lines.specs.Rising.{Numbered, Rising}
+use Rattle.predicate_lines.specs.Reading.{set-line, after-line}
+use Rattle.predicate_lines.proofs.Written.{line-taken}
+
+-- a line has one number and one predicate
+line-one : {l : List ℕ} {j k : ℕ} {p q : Predicate} → PredicateLine l j p → PredicateLine l k q → (j ≡ k) × (p ≡ q)
+line-one {l} {j} {k} {p} {q} a b =
+    let x = line-taken l 0 [] a (sym (append-nil l)) in
+    let y = line-taken l 0 [] b (sym (append-nil l)) in
+    let e : set-line j p (x .0) ≡ set-line k q (y .0) = sym (x .1) ∙ y .1 in
+    (ap (λ (z : Line). after-line z (λ n r m. n) 0) e, ap (λ (z : Line). after-line z (λ n r m. r) unset-predicate) e)
+
+-- ---- the form says that numbers rise
+
+from-least : {least : ℕ} {ps qs : List Predicate} {ls : List (List ℕ)} → LinesFrom least ps ls qs → (i : ℕ) → i < length ls → (n : ℕ) → Numbered (getD ls i []) n → least ≤ n
+from-least over i h n a = absurd (omega arith)
+from-least (more line rises rest) zero h n a = omega (arith, rises, line-one line (a .1) .0)
+from-least (more line rises rest) (suc i) h n a = omega (arith, rises, from-least rest i (omega arith) n a)
+
+form-each : {least : ℕ} {ps qs : List Predicate} {ls : List (List ℕ)} → LinesFrom least ps ls qs → (i : ℕ) → i < length ls → (n : ℕ) × Numbered (getD ls i []) n
+form-each over i h = absurd (omega arith)
+form-each (more {number = n} {predicate = p} line rises rest) zero h = (n, (p, line))
+form-each (more line rises rest) (suc i) h = form-each rest i (omega arith)
+
+form-rise : {least : ℕ} {ps qs : List Predicate} {ls : List (List ℕ)} → LinesFrom least ps ls qs
+    → (i j : ℕ) → i < j → j < length ls → (m n : ℕ) → Numbered (getD ls i []) m → Numbered (getD ls j []) n → m < n
+form-rise over i j l h m n a b = absurd (omega arith)
+form-rise (more line rises rest) i zero l h m n a b = absurd (omega arith)
+form-rise (more line rises rest) zero (suc j) l h m n a b = omega (arith, line-one line (a .1) .0, from-least rest j (omega arith) n b)
+form-rise (more line rises rest) (suc i) (suc j) l h m n a b = form-rise rest i j (omega arith) (omega arith) m n a b
+
+pub lines-rise : {qs : List Predicate} {ls : List (List ℕ)} → PredicateLines ls qs → Rising ls
+lines-rise f = record { each = form-each f; rise = form-rise f }
+
+-- ---- lines whose numbers rise have the form
+
+rising-from : (ls : List (List ℕ)) → Rising ls → (least : ℕ) → ((i : ℕ) → i < length ls → (n : ℕ) → Numbered (getD ls i []) n → least ≤ n) → (ps : List Predicate)
+    → (qs : List Predicate) × LinesFrom least ps ls qs
+rising-from [] r least h ps = (ps, over)
+rising-from (l ∷ ls) r least h ps =
+    let a = r .each 0 (omega arith) in
+    let t : Rising ls = record {
+      each = λ i m. r .each (suc i) (omega arith);
+      rise = λ i j m n. r .rise (suc i) (suc j) (omega arith) (omega arith);
+    } in
+    let b = rising-from ls t (a .0 + 1) (λ i m n c. omega (arith, r .rise 0 (suc i) (omega arith) (omega arith) (a .0) n (a .1) c)) (set ps (a .0) (a .1 .0)) in
+    (b .0, more (a .1 .1) (h 0 (omega arith) (a .0) (a .1)) (b .1))
+
+pub rising-lines : (ls : List (List ℕ)) → Rising ls → (qs : List Predicate) × PredicateLines ls qs
+rising-lines ls r = rising-from ls r 0 (λ i h n a. omega arith) unset
+
+-- the first of lines whose numbers rise rise too
+pub rising-front : (ls ms : List (List ℕ)) → Rising (ls ++ ms) → Rising ls
+rising-front ls ms r = record {
+  each = λ i h. rw (List·getD-append ls ms [] i h) at (r .each i (omega (arith, length-append ls ms)));
+  rise = λ i j l h m n a b. r .rise i j l (omega (arith, length-append ls ms)) m n
+      (rw (List·getD-append ls ms [] i (omega arith)) a) (rw (List·getD-append ls ms [] j h) b);
+}
+
+-- ---- what the lines set
+
+-- what stands below the least stays
+below-kept : {least : ℕ} {ps qs : List Predicate} {ls : List (List ℕ)} → LinesFrom least ps ls qs → (k : ℕ) → k < least → getD qs k unset-predicate ≡ getD ps k unset-predicate
+below-kept over k h = refl
+below-kept (more {ps} {number = j} {predicate = p} line rises rest) k h =
+    below-kept rest k (omega (arith, rises)) ∙ getD-set-other ps j k p unset-predicate (λ e. omega (arith, rises))
+
+sets-from : {least : ℕ} {ps qs : List Predicate} {ls : List (List ℕ)} → LinesFrom least ps ls qs → length ps ≡ 16 → (i : ℕ) → i < length ls
+    → (k : ℕ) (p : Predicate) → PredicateLine (getD ls i []) k p → getD qs k unset-predicate ≡ p
+sets-from over w i h k p a = absurd (omega arith)
+sets-from (more {ps} {qs} {number = j} {predicate = q} line rises rest) w zero h k p a =
+    let e = line-one line a in
+    ap (λ (n : ℕ). getD qs n unset-predicate) (sym (e .0))
+    ∙ (below-kept rest j (omega arith) ∙ (getD-set-same ps j q unset-predicate (omega (arith, line .known)) ∙ e .1))
+sets-from (more {ps} {number = j} {predicate = q} line rises rest) w (suc i) h k p a = sets-from rest (length-set ps j q ∙ w) i (omega arith) k p a
+
+-- each line's predicate is the one of its number
+pub predicates-set : {qs : List Predicate} {ls : List (List ℕ)} → PredicateLines ls qs → (i : ℕ) → i < length ls → (k : ℕ) (p : Predicate) → PredicateLine (getD ls i []) k p
+    → getD qs k unset-predicate ≡ p
+predicates-set f = sets-from f refl
+
+unnamed-kept : {least : ℕ} {ps qs : List Predicate} {ls : List (List ℕ)} → LinesFrom least ps ls qs → (k : ℕ) → ((i : ℕ) → i < length ls → Numbered (getD ls i []) k → ⊥)
+    → getD qs k unset-predicate ≡ getD ps k unset-predicate
+unnamed-kept over k h = refl
+unnamed-kept (more {ps} {number = j} {predicate = p} line rises rest) k h =
+    unnamed-kept rest k (λ i l a. h (suc i) (omega arith) a)
+    ∙ getD-set-other ps j k p unset-predicate (λ e. h 0 (omega arith) (p, rw e line))
+
+-- and a number without a line is unset
+pub others-unset : {qs : List Predicate} {ls : List (List ℕ)} → PredicateLines ls qs → (k : ℕ) → k < 16 → ((i : ℕ) → i < length ls → Numbered (getD ls i []) k → ⊥)
+    → getD qs k unset-predicate ≡ unset-predicate
+others-unset f k l h = unnamed-kept f k h ∙ getD-replicate 16 k unset-predicate unset-predicate l
