@@ -22,6 +22,7 @@ const EXAMPLES: [(&str, &[u8], &str); 7] = [
     ("two-stage-turn-up", include_bytes!("../examples/two-stage-turn-up.sheet"), "rows="),
     ("line-card-acceptance", include_bytes!("../examples/line-card-acceptance.sheet"), "req=3 rows="),
     ("standby-pump-start", include_bytes!("../examples/standby-pump-start.sheet"), "req=0 rows="),
+    ("line-card-two-pumps", include_bytes!("../examples/line-card-two-pumps.sheet"), "req=0 rows="),
 ];
 
 /// Requirements of one and two nodes, as many as 8,192 cells take over 2,048 rows. Their windows are short, so that reading the rows counts.
