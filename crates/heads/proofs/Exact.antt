@@ -48,12 +48,11 @@ head-read s ch a e o step c f drift d g _ =
     let p = predicates-are s a o in
     let y = number-line-is (bytes "step=") s (lines-at s a .next) step c f in
     let z = number-line-is (bytes "drift=") s c drift d g in
-    let l₁ = one-line (x .1) (number-line-fed refl (x .2)) in
-    let l₂ : LinesBetween s a (lines-at s a .next) (p .taken) = record { cuts = p .cuts; place = p .place } in
-    let l₃ = lines-both (one-line (y .1) (number-line-fed refl (y .2))) (one-line (z .1) (number-line-fed refl (z .2))) in (
+    let front = one-line (x .1) (number-line-fed refl (x .2)) in
+    let behind = lines-both (one-line (y .1) (number-line-fed refl (y .2))) (one-line (z .1) (number-line-fed refl (z .2))) in (
       x .0 ∷ (p .taken ++ (y .0 ∷ z .0 ∷ [])),
       record { chan = x .0; ps = p .taken; step = y .0; drift = z .0; sequence = refl; channels = x .2; predicates = p .form; steps = y .2; drifts = z .2 },
-      lines-both l₁ (lines-both l₂ l₃),
+      lines-both front (lines-both (p .between) behind),
     )
 
 head-here : (s : List ℕ) → HeadHere s (head-of s)
@@ -75,18 +74,21 @@ head-is s e = head-here s e
 -- ---- complete
 
 -- a line `step=` is no predicate line
-step-stops : {l : List ℕ} {v : ℕ} (ls : List (List ℕ)) → NumberLine (bytes "step=") l v → (x : List ℕ) → lines x ≡ l ∷ ls → prefix-of (bytes "p=") x ≡ false
+pub step-other : {l : List ℕ} {v : ℕ} → NumberLine (bytes "step=") l v → (r : List ℕ) → prefix-of (bytes "p=") (l ++ r) ≡ false
 unfolding prefix-of
-step-stops {l} ls f x h = let t = lines-split x l ls h in ap (prefix-of (bytes "p=")) (t .1 ∙ ap (λ (y : List ℕ). y ++ t .0) (f .spelled))
+step-other f r = ap (λ (y : List ℕ). prefix-of (bytes "p=") (y ++ r)) (f .spelled)
+
+step-stops : {l : List ℕ} {v : ℕ} (ls : List (List ℕ)) → NumberLine (bytes "step=") l v → (x : List ℕ) → lines x ≡ l ∷ ls → prefix-of (bytes "p=") x ≡ false
+step-stops {l} ls f x h = let t = lines-split x l ls h in ap (prefix-of (bytes "p=")) (t .1) ∙ step-other f (t .0)
 
 predicates-place : (s : List ℕ) (a b : ℕ) (qs : List Predicate) (ps rest : List (List ℕ)) → lines-at s a ≡ record { ok = true; next = b; all = qs }
     → lines (drop a s) ≡ ps ++ rest → lines (drop b s) ≡ rest → b ≡ a + size ps
 predicates-place s a b qs ps rest e f g =
     let t = predicates-are s a (ap (λ (x : Predicates). x .ok) e) in
     let n : lines-at s a .next ≡ b = ap (λ (x : Predicates). x .next) e in
-    let h : t .taken ++ rest ≡ ps ++ rest = ap (λ (x : List (List ℕ)). t .taken ++ x) (sym (ap (λ (k : ℕ). lines (drop k s)) n ∙ g)) ∙ (sym (t .cuts) ∙ f) in
+    let h : t .taken ++ rest ≡ ps ++ rest = ap (λ (x : List (List ℕ)). t .taken ++ x) (sym (ap (λ (k : ℕ). lines (drop k s)) n ∙ g)) ∙ (sym (t .between .cuts) ∙ f) in
     let k : size (t .taken) + size rest ≡ size ps + size rest = sym (size-append (t .taken) rest) ∙ (ap size h ∙ size-append ps rest) in
-    omega (arith, t .place)
+    omega (arith, t .between .place)
 
 predicates-stage : (s : List ℕ) (a : ℕ) {qs : List Predicate} {ps : List (List ℕ)} {l : List ℕ} {v : ℕ} (ls : List (List ℕ))
     → PredicateLines ps qs → NumberLine (bytes "step=") l v → lines (drop a s) ≡ ps ++ (l ∷ ls)

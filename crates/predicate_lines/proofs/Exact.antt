@@ -12,8 +12,9 @@ use Rattle.text.specs.Bytes.{bytes}
 use Rattle.text.specs.Mark.{prefix-of, key-at}
 use Rattle.text.proofs.Tests.{false-true, never, test-case}
 use Rattle.text.proofs.Places.{place-inside}
-use Rattle.lines.specs.Lines.{lines, size}
-use Rattle.lines.proofs.Lines.{Each, none, also, fed-some, lines-fed, lines-split}
+use Rattle.lines.specs.Lines.{lines}
+use Rattle.lines.proofs.Lines.{Each, none, also, fed-some, lines-split}
+use Rattle.lines.proofs.Places.{LinesBetween, no-line, one-line, lines-both}
 use Rattle.recordings.specs.declared.Predicate.{Predicate}
 use Rattle.predicate_lines.specs.declared.Line.{Line}
 use Rattle.predicate_lines.specs.declared.Line.the-variants.{Set, Bad}
@@ -21,15 +22,15 @@ use Rattle.predicate_lines.specs.declared.Predicates.{Predicates}
 use Rattle.predicate_lines.specs.Form.{PredicateLine, unset, LinesFrom, over, more, PredicateLines}
 use Rattle.predicate_lines.specs.Reading.{set-line, line-at, after-line, broken-set, stored-in, lines-from, lines-at}
 use Rattle.predicate_lines.proofs.Written.{line-is, line-taken, line-fed}
+use Rattle.predicate_lines.proofs.Rest.{turn-over, behind, turn-line}
 
 -- ---- sound
 
 -- the lines between two places, and what they set
 pub record LinesRead (s : List ℕ) (at least : ℕ) (ps : List Predicate) (n : ℕ) (qs : List Predicate) : Type 0 where
   pub taken : List (List ℕ)
-  pub cuts : lines (drop at s) ≡ taken ++ lines (drop n s)
+  pub between : LinesBetween s at n taken
   pub form : LinesFrom least ps taken qs
-  pub place : n ≡ at + size taken
 
 LinesHere : List ℕ → ℕ → Predicates → Predicates → Type 0
 LinesHere s least ps q = q .ok ≡ true → LinesRead s (ps .next) least (ps .all) (q .next) (q .all)
@@ -39,21 +40,16 @@ unfolding LinesHere
 broken-here s least ps o = absurd (false-true o)
 
 none-here : (s : List ℕ) (least : ℕ) (ps : Predicates) → LinesHere s least ps ps
-unfolding LinesHere size
-none-here s least ps o = record { taken = []; cuts = refl; form = over; place = omega arith }
+unfolding LinesHere
+none-here s least ps o = record { taken = []; between = no-line s (ps .next); form = over }
 
 more-here : (s : List ℕ) (least : ℕ) (ps : Predicates) (k : ℕ) (p : Predicate) (n : ℕ) → line-at s (ps .next) ≡ set-line k p n → least ≤ k
     → (r : Predicates) → LinesHere s (k + 1) (stored-in ps k p n) r → LinesHere s least ps r
-unfolding LinesHere size
+unfolding LinesHere
 more-here s least ps k p n e rises r h o =
     let m : LinesRead s n (k + 1) (set (ps .all) k p) (r .next) (r .all) = h o in
     let l = line-is s (ps .next) k p n e in
-    record {
-      taken = l .0 ∷ m .taken;
-      cuts = rw (l .1 .bytes, lines-fed (drop n s) (line-fed (l .2)), m .cuts);
-      form = more (l .2) rises (m .form);
-      place = omega (arith, l .1 .end, m .place);
-    }
+    record { taken = l .0 ∷ m .taken; between = lines-both (one-line (l .1) (line-fed (l .2))) (m .between); form = more (l .2) rises (m .form) }
 
 line-case : {A : Type 0} (P : A → Type 0) (x : Line) (f : ℕ → Predicate → ℕ → A) (a : A) → ((k : ℕ) (p : Predicate) (n : ℕ) → x ≡ set-line k p n → P (f k p n)) → P a
     → P (after-line x f a)
@@ -78,35 +74,26 @@ predicates-are s at o = lines-here 17 s 0 (record { ok = true; next = at; all = 
 
 -- ---- complete
 
-due-over : (f : ℕ) (s : List ℕ) (least : ℕ) (ps : Predicates) → prefix-of (bytes "p=") (drop (ps .next) s) ≡ false → lines-from f s least ps ≡ ps
-unfolding lines-from
-due-over zero s least ps h = refl
-due-over (suc f) s least ps h = rw (h, never (leb (ps .next) (length s)))
-
-due-more : (f : ℕ) (s : List ℕ) (least at k : ℕ) (p : Predicate) (n : ℕ) (ps : List Predicate) → at ≤ length s → prefix-of (bytes "p=") (drop at s) ≡ true
-    → line-at s at ≡ set-line k p n → least ≤ k
-    → lines-from (suc f) s least (record { ok = true; next = at; all = ps }) ≡ lines-from f s (k + 1) (record { ok = true; next = n; all = set ps k p })
-unfolding lines-from
-due-more f s least at k p n ps l h e rises = rw (le-leb at (length s) l, h, e, le-ltb k least rises)
-
 -- a predicate's line has the key `p=`
-line-due : {k : ℕ} {p : Predicate} {l : List ℕ} (r : List ℕ) → PredicateLine l k p → prefix-of (bytes "p=") (l ++ r) ≡ true
+line-due : {k : ℕ} {p : Predicate} {l : List ℕ} (s : List ℕ) (at : ℕ) (r : List ℕ) → PredicateLine l k p → drop at s ≡ l ++ r → key-at (bytes "p=") s at ≡ true
 unfolding prefix-of
-line-due r f = rw (f .spelled)
+line-due {l} s at r f e =
+    let z : at < length s = place-inside s at l r e (fed-some (line-fed f)) in
+    rw (le-leb at (length s) (omega arith), e, f .spelled)
 
 lines-taken : {least : ℕ} {ps qs : List Predicate} {ls : List (List ℕ)} → LinesFrom least ps ls qs → (f : ℕ) (s : List ℕ) (at : ℕ) (rest : List (List ℕ))
     → 16 ≤ least + f → lines (drop at s) ≡ ls ++ rest → ((x : List ℕ) → lines x ≡ rest → prefix-of (bytes "p=") x ≡ false)
     → (n : ℕ) × (lines-from f s least (record { ok = true; next = at; all = ps }) ≡ record { ok = true; next = n; all = qs }) × (lines (drop n s) ≡ rest)
-lines-taken {least} {ps} over f s at rest u e stop = (at, due-over f s least (record { ok = true; next = at; all = ps }) (stop (drop at s) e), e)
-lines-taken {least} {ps} {qs} (more {l} {ls} {number = k} {predicate = p} line rises lines′) f s at rest u e stop =
+lines-taken {least} {ps} over f s at rest u e stop = (at, turn-over f s least (record { ok = true; next = at; all = ps }) (rw (stop (drop at s) e, never (leb at (length s)))), e)
+lines-taken {least} {ps} (more {l} {ls} {number = k} line rises lines′) f s at rest u e stop =
     let a = lines-split (drop at s) l (ls ++ rest) e in
     let b = line-taken s at (a .0) line (a .1) in
+    let here : Predicates = record { ok = true; next = at; all = ps } in
     let d = lines-taken lines′ (f - 1) s (b .0) rest (omega arith) (ap lines (b .2) ∙ a .2) stop in
-    let g : f ≡ suc (f - 1) = omega (arith, line .known) in
-    let z : at < length s = place-inside s at l (a .0) (a .1) (fed-some (line-fed line)) in (
+    let g : f ≡ suc (f - 1) = omega (arith, line .known) in (
       d .0,
-      ap (λ (j : ℕ). lines-from j s least (record { ok = true; next = at; all = ps })) g
-          ∙ (due-more (f - 1) s least at k p (b .0) ps (omega arith) (ap (prefix-of (bytes "p=")) (a .1) ∙ line-due (a .0) line) (b .1) rises ∙ d .1),
+      ap (λ (j : ℕ). lines-from j s least here) g
+          ∙ (turn-line (f - 1) s least here (line-due s at (a .0) line (a .1)) ∙ (ap (behind (f - 1) s least here) (b .1) ∙ rw (le-ltb k least rises) (d .1))),
       d .2,
     )
 

@@ -17,6 +17,27 @@ use Rattle.predicate_lines.specs.Form.{unset}
 use Rattle.predicate_lines.specs.Reading.{line-at, after-line, broken-set, stored-in, lines-from, lines-at}
 use Rattle.predicate_lines.proofs.Written.{line-is}
 
+-- ---- a turn
+
+module _ (f : ℕ) (s : List ℕ) (least : ℕ) (ps : Predicates) where
+  pub turn-over : key-at (bytes "p=") s (ps .next) ≡ false → lines-from f s least ps ≡ ps
+  unfolding lines-from
+  turn-over h = go f
+    where
+      go : (k : ℕ) → lines-from k s least ps ≡ ps
+      go zero = refl
+      go (suc k) = rw h
+
+  -- what a line leaves to the turns behind it
+  abbrev pub behind : Line → Predicates
+  behind x = after-line x (λ k p n. cond (ltb k least) broken-set (lines-from f s (k + 1) (stored-in ps k p n))) broken-set
+
+  pub turn-line : key-at (bytes "p=") s (ps .next) ≡ true → lines-from (suc f) s least ps ≡ behind (line-at s (ps .next))
+  unfolding lines-from
+  turn-line h = rw h
+
+-- ---- what is left
+
 -- the lines before a place are read; behind them, a turn for each number that is left and one more are enough
 pub record Rest (s : List ℕ) (at least : ℕ) (ps : Predicates) : Type 0 where
   pub turns : ℕ
@@ -30,23 +51,13 @@ rest-start s at = record { turns = 17; enough = omega arith; few = omega arith; 
 
 module _ (s : List ℕ) (at least : ℕ) (ps : Predicates) (i : Rest s at least ps) where
   pub rest-over : key-at (bytes "p=") s (ps .next) ≡ false → ps ≡ lines-at s at
-  unfolding lines-from
-  rest-over h = go (i .turns) ∙ i .same
-    where
-      go : (f : ℕ) → ps ≡ lines-from f s least ps
-      go zero = refl
-      go (suc f) = rw h
+  rest-over h = sym (turn-over (i .turns) s least ps h) ∙ i .same
 
   module _ (x : Line) (h : key-at (bytes "p=") s (ps .next) ≡ true) (e : x ≡ line-at s (ps .next)) where
-    -- a turn that is left
-    rest-turn : after-line x (λ k p n. cond (ltb k least) broken-set (lines-from (i .turns - 1) s (k + 1) (stored-in ps k p n))) broken-set ≡ lines-at s at
-    unfolding lines-from
+    rest-turn : behind (i .turns - 1) s least ps x ≡ lines-at s at
     rest-turn =
         let g : i .turns ≡ suc (i .turns - 1) = omega (arith, i .enough, i .few) in
-        go (i .turns - 1) ∙ (ap (λ (f : ℕ). lines-from f s least ps) (sym g) ∙ i .same)
-      where
-        go : (f : ℕ) → after-line x (λ k p n. cond (ltb k least) broken-set (lines-from f s (k + 1) (stored-in ps k p n))) broken-set ≡ lines-from (suc f) s least ps
-        go f = rw (h, e)
+        ap (behind (i .turns - 1) s least ps) e ∙ (sym (turn-line (i .turns - 1) s least ps h) ∙ (ap (λ (f : ℕ). lines-from f s least ps) (sym g) ∙ i .same))
 
     pub rest-bad : x ≡ Bad → broken-set ≡ lines-at s at
     rest-bad b = rw b at rest-turn

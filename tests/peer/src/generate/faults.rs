@@ -371,8 +371,8 @@ fn broken_order(rng: &mut Prng, draft: &Draft, mut lines: Vec<Vec<u8>>) -> Vec<u
     joined(&lines)
 }
 
-/// `p=` lines whose numbers do not rise: two have changed places, or one stands twice, the second
-/// time with any channel and ends, side by side or with others between.
+/// `p=` lines whose numbers do not rise: two have changed places, or a number has two lines, side by
+/// side, most of them with other ends, or with others between.
 fn unordered(rng: &mut Prng, draft: &Draft) -> Vec<u8> {
     let mut predicates = draft.predicates.clone();
     let count = predicates.len();
