@@ -36,6 +36,10 @@ module _ (f : ℕ) (s : List ℕ) (least : ℕ) (ps : Predicates) where
   unfolding lines-from
   turn-line h = rw h
 
+-- a line that was read has one of sixteen numbers
+pub line-known : (s : List ℕ) (at : ℕ) (x : Line) → x ≡ line-at s at → (l : NumberedPredicate) → x ≡ Set l → l .number < 16
+line-known s at x e l b = omega (arith, line-is s at (l .number) (l .predicate) (l .next) (sym e ∙ b) .2 .known)
+
 -- ---- what is left
 
 -- the lines before a place are read; behind them, a turn for each number that is left and one more are enough
@@ -63,20 +67,17 @@ module _ (s : List ℕ) (at least : ℕ) (ps : Predicates) (i : Rest s at least 
     rest-bad b = rw b at rest-turn
 
     module _ (l : NumberedPredicate) (b : x ≡ Set l) where
-      pub rest-known : l .number < 16
-      rest-known = omega (arith, line-is s (ps .next) (l .number) (l .predicate) (l .next) (sym e ∙ b) .2 .known)
-
       pub rest-below : l .number < least → broken-set ≡ lines-at s at
       rest-below t = rw (b, lt-ltb (l .number) least t) at rest-turn
 
       module _ (t : least ≤ l .number) where
         pub rest-less : 16 - (l .number + 1) < 16 - least
-        rest-less = omega (arith, rest-known)
+        rest-less = omega (arith, line-known s (ps .next) x e l b)
 
         pub rest-more : (q : Predicates) → q ≡ stored-in ps (l .number) (l .predicate) (l .next) → Rest s at (l .number + 1) q
         rest-more q f = rw f (record {
           turns = i .turns - 1;
           enough = omega (arith, i .enough);
-          few = omega (arith, rest-known);
+          few = omega (arith, line-known s (ps .next) x e l b);
           same = rw (b, le-ltb (l .number) least t) at rest-turn;
         })

@@ -4,7 +4,7 @@ use borrow.Author.Needs.{needs}
 use mathlib.Core.Path.{sym, _∙_}
 use Prim.Native.Nat.{_-_}
 use native.Mathlib.Omega.{arith}
-use Rattle.predicate_lines.proofs.Rest.{Rest, rest-start, rest-over, rest-bad, rest-known, rest-below, rest-less, rest-more}
+use Rattle.predicate_lines.proofs.Rest.{line-known, Rest, rest-start, rest-over, rest-bad, rest-below, rest-less, rest-more}
 use Rattle.predicate_lines.proofs.read_predicates.Statement.{statement}
 use Rattle.predicate_lines.proofs.read_predicates.Tie as tie
 
@@ -54,20 +54,10 @@ returns-2 c =
     c .broken2 .ensures ∙ rest-below _ _ _ _ (d .before .loop .inv) _ (sym (d .is-due .ensures) ∙ t .if1 .taken) (r .read-line .ensures) _ (l .line .given .1) (c .before .if2 .taken)
 
 add-least : tie.Need-add-least Inv-loop μ-loop
-add-least c =
-    let l = c .before .before in
-    let r = l .before .before in
-    let t = r .before in
-    let d = t .before in
-    omega (arith, rest-known _ _ _ _ (d .before .loop .inv) _ (sym (d .is-due .ensures) ∙ t .if1 .taken) (r .read-line .ensures) _ (l .line .given .1))
+add-least c = let l = c .before .before in omega (arith, line-known _ _ _ (l .before .before .read-line .ensures) _ (l .line .given .1))
 
 store-requires : tie.Need-store-requires Inv-loop μ-loop
-store-requires c κs =
-    let l = c .before .before in
-    let r = l .before .before in
-    let t = r .before in
-    let d = t .before in
-    rest-known _ _ _ _ (d .before .loop .inv) _ (sym (d .is-due .ensures) ∙ t .if1 .taken) (r .read-line .ensures) _ (l .line .given .1)
+store-requires c κs = let l = c .before .before in line-known _ _ _ (l .before .before .read-line .ensures) _ (l .line .given .1)
 
 loop-less : tie.Need-loop-less Inv-loop μ-loop
 loop-less c =
