@@ -14,7 +14,7 @@ use std::hint::black_box;
 use timing::{seconds, Random};
 
 /// Sheets, and what the answer to each begins with.
-const EXAMPLES: [(&str, &[u8], &str); 7] = [
+const EXAMPLES: [(&str, &[u8], &str); 8] = [
     ("booster-turn-up", include_bytes!("../examples/booster-turn-up.sheet"), "rows="),
     ("line-amplifier-gain-sag", include_bytes!("../examples/line-amplifier-gain-sag.sheet"), "rows="),
     ("preamplifier-pump-ceiling", include_bytes!("../examples/preamplifier-pump-ceiling.sheet"), "rows="),
