@@ -20,7 +20,7 @@ use Rattle.number_lines.specs.Reading.{number-line-at}
 use Rattle.number_lines.proofs.Written.{number-line-is, number-line-taken, number-line-fed}
 use Rattle.recordings.specs.declared.Predicate.{Predicate}
 use Rattle.predicate_lines.specs.declared.Predicates.{Predicates}
-use Rattle.predicate_lines.specs.Form.{PredicateLine, PredicateLines}
+use Rattle.predicate_lines.specs.Form.{PredicateLine, is-predicate, PredicateLines}
 use Rattle.predicate_lines.specs.Reading.{lines-at}
 use Rattle.predicate_lines.proofs.Exact.{predicates-are, predicates-taken, each-line}
 use Rattle.predicate_lines.proofs.Written.{line-fed}
@@ -74,12 +74,12 @@ head-is s e = head-here s e
 -- ---- complete
 
 -- a line `step=` is no predicate line
-pub step-other : {l : List ℕ} {v : ℕ} → NumberLine (bytes "step=") l v → (r : List ℕ) → prefix-of (bytes "p=") (l ++ r) ≡ false
+pub step-other : {l : List ℕ} {v : ℕ} → NumberLine (bytes "step=") l v → (r : List ℕ) → is-predicate (l ++ r) ≡ false
 unfolding prefix-of
-step-other f r = ap (λ (y : List ℕ). prefix-of (bytes "p=") (y ++ r)) (f .spelled)
+step-other f r = ap (λ (y : List ℕ). is-predicate (y ++ r)) (f .spelled)
 
-step-stops : {l : List ℕ} {v : ℕ} (ls : List (List ℕ)) → NumberLine (bytes "step=") l v → (x : List ℕ) → lines x ≡ l ∷ ls → prefix-of (bytes "p=") x ≡ false
-step-stops {l} ls f x h = let t = lines-split x l ls h in ap (prefix-of (bytes "p=")) (t .1) ∙ step-other f (t .0)
+step-stops : {l : List ℕ} {v : ℕ} (ls : List (List ℕ)) → NumberLine (bytes "step=") l v → (x : List ℕ) → lines x ≡ l ∷ ls → is-predicate x ≡ false
+step-stops {l} ls f x h = let t = lines-split x l ls h in ap is-predicate (t .1) ∙ step-other f (t .0)
 
 predicates-place : (s : List ℕ) (a b : ℕ) (qs : List Predicate) (ps rest : List (List ℕ)) → lines-at s a ≡ record { ok = true; next = b; all = qs }
     → lines (drop a s) ≡ ps ++ rest → lines (drop b s) ≡ rest → b ≡ a + size ps

@@ -7,7 +7,8 @@ use mathlib.Core.Bool.{true, false}
 use Prim.Native.Nat.{ℕ}
 use Rattle.text.proofs.Tests.{false-true}
 use Rattle.lines.proofs.Lines.{Each, none, also}
-use Rattle.predicate_lines.specs.Rising.{is-predicate, Rising}
+use Rattle.predicate_lines.specs.Form.{is-predicate}
+use Rattle.predicate_lines.specs.Rising.{Rising}
 use Rattle.predicate_lines.proofs.Rising.{lines-rise, rising-front}
 use Rattle.heads.specs.declared.Head.{Head}
 use Rattle.heads.specs.Form.{HeadForm}

@@ -19,7 +19,7 @@ use Rattle.recordings.specs.declared.Predicate.{Predicate}
 use Rattle.predicate_lines.specs.declared.Line.{Line}
 use Rattle.predicate_lines.specs.declared.Line.the-variants.{Set, Bad}
 use Rattle.predicate_lines.specs.declared.Predicates.{Predicates}
-use Rattle.predicate_lines.specs.Form.{PredicateLine, unset, LinesFrom, over, more, PredicateLines}
+use Rattle.predicate_lines.specs.Form.{PredicateLine, is-predicate, unset, LinesFrom, over, more, PredicateLines}
 use Rattle.predicate_lines.specs.Reading.{set-line, line-at, after-line, broken-set, stored-in, lines-from, lines-at}
 use Rattle.predicate_lines.proofs.Written.{line-is, line-taken, line-fed}
 use Rattle.predicate_lines.proofs.Rest.{turn-over, behind, turn-line}
@@ -82,7 +82,7 @@ line-due {l} s at r f e =
     rw (le-leb at (length s) (omega arith), e, f .spelled)
 
 lines-taken : {least : ℕ} {ps qs : List Predicate} {ls : List (List ℕ)} → LinesFrom least ps ls qs → (f : ℕ) (s : List ℕ) (at : ℕ) (rest : List (List ℕ))
-    → 16 ≤ least + f → lines (drop at s) ≡ ls ++ rest → ((x : List ℕ) → lines x ≡ rest → prefix-of (bytes "p=") x ≡ false)
+    → 16 ≤ least + f → lines (drop at s) ≡ ls ++ rest → ((x : List ℕ) → lines x ≡ rest → is-predicate x ≡ false)
     → (n : ℕ) × (lines-from f s least (record { ok = true; next = at; all = ps }) ≡ record { ok = true; next = n; all = qs }) × (lines (drop n s) ≡ rest)
 lines-taken {least} {ps} over f s at rest u e stop = (at, turn-over f s least (record { ok = true; next = at; all = ps }) (rw (stop (drop at s) e, never (leb at (length s)))), e)
 lines-taken {least} {ps} (more {l} {ls} {number = k} line rises lines′) f s at rest u e stop =
@@ -98,7 +98,7 @@ lines-taken {least} {ps} (more {l} {ls} {number = k} line rises lines′) f s at
     )
 
 pub predicates-taken : {qs : List Predicate} {ls : List (List ℕ)} → PredicateLines ls qs → (s : List ℕ) (at : ℕ) (rest : List (List ℕ))
-    → lines (drop at s) ≡ ls ++ rest → ((x : List ℕ) → lines x ≡ rest → prefix-of (bytes "p=") x ≡ false)
+    → lines (drop at s) ≡ ls ++ rest → ((x : List ℕ) → lines x ≡ rest → is-predicate x ≡ false)
     → (n : ℕ) × (lines-at s at ≡ record { ok = true; next = n; all = qs }) × (lines (drop n s) ≡ rest)
 unfolding lines-at
 predicates-taken form s at rest e stop = lines-taken form 17 s at rest (omega arith) e stop

@@ -2,10 +2,12 @@
 -- Assumes nothing.
 use Prim.Native.Nat.{ℕ, _+_, _≤_}
 use mathlib.Core.Path.{_≡_}
+use mathlib.Core.Bool.{Bool}
 use mathlib.Core.List.{List, [], _∷_, _++_}
 use lib.ListN.{set, replicate}
 use lib.IntN.{ℤ}
 use Rattle.text.specs.Bytes.{bytes}
+use Rattle.text.specs.Mark.{prefix-of}
 use Rattle.text.specs.Number.{largest}
 use Rattle.text.specs.Numeral.{Numeral, Signed}
 use Rattle.recordings.specs.declared.Predicate.{Predicate}
@@ -43,6 +45,10 @@ pub record PredicateLine (line : List ℕ) (number : ℕ) (predicate : Predicate
   pub to : EndText hi high
   pub range : predicate .range ≡ range-of low high
   pub spelled : line ≡ bytes "p=" ++ p ++ bytes " ch=" ++ ch ++ bytes " lo=" ++ lo ++ bytes " hi=" ++ hi ++ bytes "\n"
+
+-- whether a line begins as a predicate's does
+abbrev pub is-predicate : List ℕ → Bool
+is-predicate l = prefix-of (bytes "p=") l
 
 -- sixteen predicates, none of them set
 abbrev pub unset : List Predicate

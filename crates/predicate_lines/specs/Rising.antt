@@ -1,17 +1,10 @@
 -- "`p=` lines stand by rising number" as a sentence on any two lines. `Rising` in proofs/ shows that lines have the form of Form.antt exactly where it is true of them.
 -- Assumes nothing.
 use Prim.Native.Nat.{ℕ, _<_}
-use mathlib.Core.Bool.{Bool}
 use mathlib.Core.List.{List, []}
 use lib.ListN.{length, getD}
-use Rattle.text.specs.Bytes.{bytes}
-use Rattle.text.specs.Mark.{prefix-of}
 use Rattle.recordings.specs.declared.Predicate.{Predicate}
 use Rattle.predicate_lines.specs.Form.{PredicateLine}
-
--- whether a line begins as a predicate's does
-abbrev pub is-predicate : List ℕ → Bool
-is-predicate l = prefix-of (bytes "p=") l
 
 -- a line is a predicate's, of this number
 abbrev pub Numbered : List ℕ → ℕ → Type 0

@@ -20,7 +20,8 @@ use Rattle.row_lines.specs.Form.{Row, AreRows}
 use Rattle.row_lines.specs.Reading.{limit, channels-in-range, is-broken, rows-of}
 use Rattle.row_lines.specs.Same.{Alike, no-line, same, filled, SameButFilled}
 use Rattle.row_lines.proofs.Exact.{unbroken-rows, rows-unbroken, alike-sym, alike-rows, NoRow, alike-front}
-use Rattle.predicate_lines.specs.Rising.{is-predicate, Rising}
+use Rattle.predicate_lines.specs.Form.{is-predicate}
+use Rattle.predicate_lines.specs.Rising.{Rising}
 use Rattle.heads.specs.declared.Head.{Head}
 use Rattle.heads.specs.declared.HeadLines.{HeadLines}
 use Rattle.heads.specs.Reading.{head-place, head-of}
