@@ -25,14 +25,14 @@ module _ {s : List ℕ} {h : Head} {rs rows : List (List ℕ)} (w : Written s h 
     pub requirement-text : requirement-part s (contents w) k ≡ getD rs k []
     requirement-text = requirement-stands s (contents w) (written-form w few) k l .bytes
 
-    pub answer-written : answer-to s k ≡ answer-for h (rows-of (h .channels) (joined rows)) (getD rs k [])
+    pub answer-written : answer-to s k ≡ answer-for h (rows-of (h .setup .channels) (joined rows)) (getD rs k [])
     answer-written =
         let x : Sheet = contents w in
         let e : sheet-of s ≡ x = written-read w few in
         sym (answer-read s k (ap (λ (y : Sheet). y .number) e))
         ∙ (ap (λ (y : Sheet). answer-for (y .head) (listing s y) (requirement-part s y k)) e
-        ∙ (ap (λ (t : List ℕ). answer-for h (rows-of (h .channels) t) (requirement-part s x k)) (rows-text w)
-        ∙ ap (answer-for h (rows-of (h .channels) (joined rows))) requirement-text))
+        ∙ (ap (λ (t : List ℕ). answer-for h (rows-of (h .setup .channels) t) (requirement-part s x k)) (rows-text w)
+        ∙ ap (answer-for h (rows-of (h .setup .channels) (joined rows))) requirement-text))
 
 -- what a requirement gets is what the text gets that keeps it alone
 pub answer-only : {s : List ℕ} {h : Head} {rs rows : List (List ℕ)} → Written s h rs rows → length rs ≤ MOST-REQUIREMENTS → (k : ℕ) → k < length rs → answer-to s k ≡ answer-to (only k s) 0

@@ -266,7 +266,7 @@ module _ (a b : List ℕ) (short-a : length a ≤ limit) (short-b : length b ≤
       let m : k < length (f .requirements) = omega (arith, f .count) in
       let x : SameButFilled (joined (f .rows)) (joined (v .0)) = rw (joined-rows (f .written), joined-rows (v .2)) (v .1) in
       answer-written (f .written) (f .few) k m
-      ∙ (ap (λ (l : Listing). answer-for (head-in a) l (getD (f .requirements) k [])) (rows-alike _ _ x (head-in a .channels))
+      ∙ (ap (λ (l : Listing). answer-for (head-in a) l (getD (f .requirements) k [])) (rows-alike _ _ x (head-in a .setup .channels))
       ∙ sym (answer-written (v .2) (f .few) k m))
 
   read-same : sheet-of a .number ≡ 0 → answers-of a ≡ answers-of b

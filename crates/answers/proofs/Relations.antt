@@ -42,13 +42,13 @@ use Rattle.answers.proofs.Parts.{requirement-text, answer-written}
 use Rattle.answers.proofs.Promises.{count-read, answers-count, number-none, holds, fails}
 
 module _ {s : List ℕ} {h : Head} {rs rows : List (List ℕ)} (w : Written s h rs rows) (few : length rs ≤ MOST-REQUIREMENTS) (k : ℕ) (l : k < length rs)
-    (samples : List Sample) (filled : ℕ) (r : Rows (h .channels) rows samples filled) (a : Tree) (q : Requires (getD rs k []) a) where
+    (samples : List Sample) (filled : ℕ) (r : Rows (h .setup .channels) rows samples filled) (a : Tree) (q : Requires (getD rs k []) a) where
   -- the recording of the measured rows
   abbrev pub recording : Card
-  recording = card (h .predicates) (h .channels) (times-in samples) (values-in samples)
+  recording = card (h .setup) (times-in samples) (values-in samples)
 
-  listing-is : rows-of (h .channels) (joined rows) ≡ listed samples filled
-  listing-is = rows-exact (h .channels) (joined rows) samples filled .1 (rw (joined-rows w) r)
+  listing-is : rows-of (h .setup .channels) (joined rows) ≡ listed samples filled
+  listing-is = rows-exact (h .setup .channels) (joined rows) samples filled .1 (rw (joined-rows w) r)
 
   requirement-is : requirement-of (getD rs k []) ≡ accepted a
   requirement-is = answer-complete (getD rs k []) a q
@@ -76,7 +76,7 @@ module _ {s : List ℕ} {h : Head} {rs rows : List (List ℕ)} (w : Written s h 
       subst (λ (y : Requirement). ShownOf b h (listed samples filled) (y .table)) requirement-is
       (subst (λ (y : List ℕ). ShownOf b h (listed samples filled) (requirement-of y .table)) (requirement-text w few k l)
       (subst (λ (x : Listing). ShownOf b h x (requirement-of (requirement-part s (contents w) k) .table)) listing-is
-      (subst (λ (t : List ℕ). ShownOf b h (rows-of (h .channels) t) (requirement-of (requirement-part s (contents w) k) .table)) (rows-text w)
+      (subst (λ (t : List ℕ). ShownOf b h (rows-of (h .setup .channels) t) (requirement-of (requirement-part s (contents w) k) .table)) (rows-text w)
       (subst (λ (y : Sheet). ShownOf b (y .head) (listing s y) (requirement-of (requirement-part s y k) .table)) (written-read w few) f))))
 
   -- of the requirement that the tree says
@@ -89,7 +89,7 @@ module _ {s : List ℕ} {h : Head} {rs rows : List (List ℕ)} (w : Written s h 
 -- and every answer with number 0 stands in these relations
 pub related : (s : List ℕ) (k : ℕ) → k < length (answers-in s) → answer-to s k .number ≡ 0
     → (h : Head) × (rs : List (List ℕ)) × (rows : List (List ℕ)) × Written s h rs rows × (length rs ≤ MOST-REQUIREMENTS) × (k < length rs)
-    × (samples : List Sample) × (filled : ℕ) × Rows (h .channels) rows samples filled × (a : Tree) × Requires (getD rs k []) a
+    × (samples : List Sample) × (filled : ℕ) × Rows (h .setup .channels) rows samples filled × (a : Tree) × Requires (getD rs k []) a
 related s k l e =
     let p = number-none s k e in
     let q = p .each 2 (omega arith) in
@@ -97,7 +97,7 @@ related s k l e =
     let z = count-read s k l in
     let f = sheet-sound s z in
     let m : k < sheet-of s .count = omega (arith, answers-count s z) in
-    let n : channels-in-range (head-in s .channels) ≡ true = rw (le-leb 1 (head-in s .channels) (c .some-channel), le-leb (head-in s .channels) 8 (c .few-channels)) refl in
+    let n : channels-in-range (head-in s .setup .channels) ≡ true = rw (le-leb 1 (head-in s .setup .channels) (c .some-channel), le-leb (head-in s .setup .channels) 8 (c .few-channels)) refl in
     let r = f .written .listed n in
     let g : requirement-in s k ≡ getD (f .requirements) k [] = requirement-stands s (sheet-of s) f k m .bytes in
     (head-in s, f .requirements, f .rows, f .written, f .few, omega (arith, f .count), r .0, r .1, r .2, q .0, subst (λ (b : List ℕ). Requires b (q .0)) g (q .1))

@@ -78,45 +78,45 @@ pub record Read (h : Head) (l : Listing) (a : Answer) : Type 0 where
   pub counted : a .rows ≡ measured-of l
   pub filled : a .filled ≡ filled-of l
   pub fits : measured-of l ≤ ROWS
-  pub narrow : h .channels ≤ 8
+  pub narrow : h .setup .channels ≤ 8
 
-module _ (s : List ℕ) (h : Head) (p : Checked s (h .channels)) where
+module _ (s : List ℕ) (h : Head) (p : Checked s (h .setup .channels)) where
   abbrev answer : Answer
-  answer = answer-of s (h .channels) ROWS VALUES
+  answer = answer-of s (h .setup .channels) ROWS VALUES
 
   short : leb (length s) limit ≡ true
   short = le-leb (length s) limit (p .short)
 
-  four : channels-in-range (h .channels) ≡ false → answer .number ≡ 4
+  four : channels-in-range (h .setup .channels) ≡ false → answer .number ≡ 4
   unfolding first
   four w = rw (short, w) refl
 
-  module _ (w : channels-in-range (h .channels) ≡ true) where
-    five : has-room (measured-of (rows-of (h .channels) s)) (h .channels) ROWS VALUES ≡ false → answer .number ≡ 5
+  module _ (w : channels-in-range (h .setup .channels) ≡ true) where
+    five : has-room (measured-of (rows-of (h .setup .channels) s)) (h .setup .channels) ROWS VALUES ≡ false → answer .number ≡ 5
     unfolding first
     five m = rw (short, w, p .whole w, m) refl
 
-    none : has-room (measured-of (rows-of (h .channels) s)) (h .channels) ROWS VALUES ≡ true → answer ≡ record { number = 0; rows = measured-of (rows-of (h .channels) s); filled = filled-of (rows-of (h .channels) s) }
+    none : has-room (measured-of (rows-of (h .setup .channels) s)) (h .setup .channels) ROWS VALUES ≡ true → answer ≡ record { number = 0; rows = measured-of (rows-of (h .setup .channels) s); filled = filled-of (rows-of (h .setup .channels) s) }
     unfolding first
     none m = rw (short, w, p .whole w, m) refl
 
-    narrow : h .channels ≤ 8
-    narrow = channels-are (h .channels) w .1
+    narrow : h .setup .channels ≤ 8
+    narrow = channels-are (h .setup .channels) w .1
 
-  rows-refused : (answer .number ≡ 0 → ⊥) → (channels-obey (h .predicates) (h .channels) ≡ false) ⊎ (suc ROWS ≤ measured-of (rows-of (h .channels) s))
-  rows-refused q = by-test (channels-in-range (h .channels))
-      (λ w. by-test (has-room (measured-of (rows-of (h .channels) s)) (h .channels) ROWS VALUES)
+  rows-refused : (answer .number ≡ 0 → ⊥) → (channels-obey (h .setup .predicates) (h .setup .channels) ≡ false) ⊎ (suc ROWS ≤ measured-of (rows-of (h .setup .channels) s))
+  rows-refused q = by-test (channels-in-range (h .setup .channels))
+      (λ w. by-test (has-room (measured-of (rows-of (h .setup .channels) s)) (h .setup .channels) ROWS VALUES)
       (λ m. absurd (q (ap (λ (a : Answer). a .number) (none w m))))
-      (λ m. inr (many (measured-of (rows-of (h .channels) s)) (h .channels) (narrow w) m)))
-      (λ w. inl (wide (h .channels) (h .predicates) w))
+      (λ m. inr (many (measured-of (rows-of (h .setup .channels) s)) (h .setup .channels) (narrow w) m)))
+      (λ w. inl (wide (h .setup .channels) (h .setup .predicates) w))
 
-  rows-read : answer .number ≡ 0 → Read h (rows-of (h .channels) s) answer
-  rows-read q = by-test (channels-in-range (h .channels))
-      (λ w. by-test (has-room (measured-of (rows-of (h .channels) s)) (h .channels) ROWS VALUES)
+  rows-read : answer .number ≡ 0 → Read h (rows-of (h .setup .channels) s) answer
+  rows-read q = by-test (channels-in-range (h .setup .channels))
+      (λ w. by-test (has-room (measured-of (rows-of (h .setup .channels) s)) (h .setup .channels) ROWS VALUES)
       (λ m. record {
         counted = ap (λ (a : Answer). a .rows) (none w m);
         filled = ap (λ (a : Answer). a .filled) (none w m);
-        fits = few (measured-of (rows-of (h .channels) s)) (h .channels) m;
+        fits = few (measured-of (rows-of (h .setup .channels) s)) (h .setup .channels) m;
         narrow = narrow w;
       })
       (λ m. absurd (let e : _≡_ {A = ℕ} 5 0 = sym (five w m) ∙ q in omega arith)))
@@ -124,47 +124,47 @@ module _ (s : List ℕ) (h : Head) (p : Checked s (h .channels)) where
 
   -- ---- what is judged: no rows where they are refused, else what stands in front of the slices
 
-  pub none-judged : (answer .number ≡ 0 → ⊥) → (t : Table) → refused-by (first (checks (card (h .predicates) (h .channels) [] []) t)) ≡ table-answer h (rows-of (h .channels) s) t
+  pub none-judged : (answer .number ≡ 0 → ⊥) → (t : Table) → refused-by (first (checks (card (h .setup) [] []) t)) ≡ table-answer h (rows-of (h .setup .channels) s) t
   none-judged q t =
-      let c : Card = measured h (rows-of (h .channels) s) in
-      let e : first (checks (card (h .predicates) (h .channels) [] []) t) ≡ first (table-run c t (h .step) (h .drift)) =
-      ⊎-elim (λ w. run-wide c t (h .step) (h .drift) w) (λ m. run-many c t (h .step) (h .drift) (rw (times-long (rows-of (h .channels) s)) m)) (rows-refused q) in
-      only-number _ c t (h .step) (h .drift) (filled-of (rows-of (h .channels) s)) (none-refused c t (h .step) (h .drift))
-      ∙ ap (λ (n : ℕ). outcome-by n c t (h .step) (h .drift) (filled-of (rows-of (h .channels) s))) e
+      let c : Card = measured h (rows-of (h .setup .channels) s) in
+      let e : first (checks (card (h .setup) [] []) t) ≡ first (table-run c t (h .step) (h .drift)) =
+      ⊎-elim (λ w. run-wide c t (h .step) (h .drift) w) (λ m. run-many c t (h .step) (h .drift) (rw (times-long (rows-of (h .setup .channels) s)) m)) (rows-refused q) in
+      only-number _ c t (h .step) (h .drift) (filled-of (rows-of (h .setup .channels) s)) (none-refused c t (h .step) (h .drift))
+      ∙ ap (λ (n : ℕ). outcome-by n c t (h .step) (h .drift) (filled-of (rows-of (h .setup .channels) s))) e
 
   module _ (a : Answer) (e : a ≡ answer) (z : a .number ≡ 0) where
-    read : Read h (rows-of (h .channels) s) a
-    read = subst (λ (b : Answer). Read h (rows-of (h .channels) s) b) (sym e) (rows-read (ap (λ (b : Answer). b .number) (sym e) ∙ z))
+    read : Read h (rows-of (h .setup .channels) s) a
+    read = subst (λ (b : Answer). Read h (rows-of (h .setup .channels) s) b) (sym e) (rows-read (ap (λ (b : Answer). b .number) (sym e) ∙ z))
 
     pub rows-few : a .rows ≤ ROWS
     rows-few = omega (arith, read .counted, read .fits)
 
-    pub values-few : a .rows * h .channels ≤ VALUES
-    values-few = product (a .rows) (h .channels) rows-few (read .narrow)
+    pub values-few : a .rows * h .setup .channels ≤ VALUES
+    values-few = product (a .rows) (h .setup .channels) rows-few (read .narrow)
 
     -- what was stored stands in front
-    times-taken : (times times₀ : List ℕ) → times ≡ unless-refused (a .number) (in-front (times-of (rows-of (h .channels) s)) times₀) times₀ → take (a .rows) times ≡ times-of (rows-of (h .channels) s)
-    times-taken times times₀ f = rw (f, z) (front-taken (times-of (rows-of (h .channels) s)) times₀ (a .rows) (read .counted ∙ sym (times-long (rows-of (h .channels) s))))
+    times-taken : (times times₀ : List ℕ) → times ≡ unless-refused (a .number) (in-front (times-of (rows-of (h .setup .channels) s)) times₀) times₀ → take (a .rows) times ≡ times-of (rows-of (h .setup .channels) s)
+    times-taken times times₀ f = rw (f, z) (front-taken (times-of (rows-of (h .setup .channels) s)) times₀ (a .rows) (read .counted ∙ sym (times-long (rows-of (h .setup .channels) s))))
 
-    values-taken : (values values₀ : List ℤ) → values ≡ unless-refused (a .number) (in-front (values-of (rows-of (h .channels) s)) values₀) values₀
-        → take (a .rows * h .channels) values ≡ values-of (rows-of (h .channels) s)
-    values-taken values values₀ g = rw (g, z) (front-taken (values-of (rows-of (h .channels) s)) values₀ (a .rows * h .channels) (ap (λ (n : ℕ). n * h .channels) (read .counted) ∙ sym (values-long (h .channels) s)))
+    values-taken : (values values₀ : List ℤ) → values ≡ unless-refused (a .number) (in-front (values-of (rows-of (h .setup .channels) s)) values₀) values₀
+        → take (a .rows * h .setup .channels) values ≡ values-of (rows-of (h .setup .channels) s)
+    values-taken values values₀ g = rw (g, z) (front-taken (values-of (rows-of (h .setup .channels) s)) values₀ (a .rows * h .setup .channels) (ap (λ (n : ℕ). n * h .setup .channels) (read .counted) ∙ sym (values-long (h .setup .channels) s)))
 
-    pub rows-judged : (times : List ℕ) (values : List ℤ) → take (a .rows) times ≡ times-of (rows-of (h .channels) s) → take (a .rows * h .channels) values ≡ values-of (rows-of (h .channels) s) → (t : Table)
-        → outcome-by (verdict-refusal (card (h .predicates) (h .channels) (take (a .rows) times) (take (a .rows * h .channels) values)) t (h .step) (h .drift) CELLS) (card (h .predicates) (h .channels) (take (a .rows) times) (take (a .rows * h .channels) values)) t (h .step) (h .drift) (a .filled)
-        ≡ table-answer h (rows-of (h .channels) s) t
+    pub rows-judged : (times : List ℕ) (values : List ℤ) → take (a .rows) times ≡ times-of (rows-of (h .setup .channels) s) → take (a .rows * h .setup .channels) values ≡ values-of (rows-of (h .setup .channels) s) → (t : Table)
+        → outcome-by (verdict-refusal (card (h .setup) (take (a .rows) times) (take (a .rows * h .setup .channels) values)) t (h .step) (h .drift) CELLS) (card (h .setup) (take (a .rows) times) (take (a .rows * h .setup .channels) values)) t (h .step) (h .drift) (a .filled)
+        ≡ table-answer h (rows-of (h .setup .channels) s) t
     rows-judged times values f g t =
-        let c : Card = measured h (rows-of (h .channels) s) in
-        let n : rows c ≤ ROWS = rw (times-long (rows-of (h .channels) s)) (read .fits) in
+        let c : Card = measured h (rows-of (h .setup .channels) s) in
+        let n : rows c ≤ ROWS = rw (times-long (rows-of (h .setup .channels) s)) (read .fits) in
         rw (f, g, read .filled, run-fits c t (h .step) (h .drift) n) refl
 
 -- what the row reader leaves in slices with room, read from the part behind the requirements
-pub stored : (s : List ℕ) (x : Sheet) → Checked (rows-part s x) (x .head .channels) → (t : List ℕ) → t ≡ rows-part s x → (a : Answer) → a ≡ answer-of t (x .head .channels) ROWS VALUES
-    → (times times₀ : List ℕ) → times ≡ unless-refused (a .number) (in-front (times-of (rows-of (x .head .channels) t)) times₀) times₀ → length times ≡ ROWS
-    → (values values₀ : List ℤ) → values ≡ unless-refused (a .number) (in-front (values-of (rows-of (x .head .channels) t)) values₀) values₀ → length values ≡ VALUES
+pub stored : (s : List ℕ) (x : Sheet) → Checked (rows-part s x) (x .head .setup .channels) → (t : List ℕ) → t ≡ rows-part s x → (a : Answer) → a ≡ answer-of t (x .head .setup .channels) ROWS VALUES
+    → (times times₀ : List ℕ) → times ≡ unless-refused (a .number) (in-front (times-of (rows-of (x .head .setup .channels) t)) times₀) times₀ → length times ≡ ROWS
+    → (values values₀ : List ℤ) → values ≡ unless-refused (a .number) (in-front (values-of (rows-of (x .head .setup .channels) t)) values₀) values₀ → length values ≡ VALUES
     → Stored s x a times values
 stored s x p t w a e times times₀ f m values values₀ g n =
-    let c : a ≡ answer-of (rows-part s x) (x .head .channels) ROWS VALUES = e ∙ ap (λ (r : List ℕ). answer-of r (x .head .channels) ROWS VALUES) w in
+    let c : a ≡ answer-of (rows-part s x) (x .head .setup .channels) ROWS VALUES = e ∙ ap (λ (r : List ℕ). answer-of r (x .head .setup .channels) ROWS VALUES) w in
     record {
       answer = c;
       times-long = m;

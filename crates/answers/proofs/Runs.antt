@@ -36,15 +36,15 @@ module _ (c : Card) (t : Table) (step drift : ℕ) where
   run-fits h = first-without (table-checks c t) (rows-check c) (sample-checks c ++ (verdict-room c t CELLS ∷ sampling-checks c step drift)) (le-leb (rows c) ROWS h)
 
   -- without the rows, the table, the channels and the predicates are judged as with them; and no sample is 5 too
-  pub run-wide : channels-obey (c .predicates) (c .channels) ≡ false → first (checks (card (c .predicates) (c .channels) [] []) t) ≡ first (table-run c t step drift)
+  pub run-wide : channels-obey (c .setup .predicates) (c .setup .channels) ≡ false → first (checks (card (c .setup) [] []) t) ≡ first (table-run c t step drift)
   unfolding first
   run-wide h = rw h refl
 
-  pub run-many : suc ROWS ≤ rows c → first (checks (card (c .predicates) (c .channels) [] []) t) ≡ first (table-run c t step drift)
+  pub run-many : suc ROWS ≤ rows c → first (checks (card (c .setup) [] []) t) ≡ first (table-run c t step drift)
   unfolding first lengths-obey
   run-many h = rw (lt-leb (rows c) ROWS h) refl
 
   -- and something is refused
-  pub none-refused : first (checks (card (c .predicates) (c .channels) [] []) t) ≡ 0 → ⊥
+  pub none-refused : first (checks (card (c .setup) [] []) t) ≡ 0 → ⊥
   unfolding first lengths-obey
-  none-refused h = early-some (requirement-obeys t (c .predicates)) (channels-obey (c .predicates) (c .channels)) h
+  none-refused h = early-some (requirement-obeys t (c .setup .predicates)) (channels-obey (c .setup .predicates) (c .setup .channels)) h

@@ -61,12 +61,12 @@ module _ (s : List ℕ) where
 
 -- ---- its places and rows
 
-checked : (s : List ℕ) (x : Sheet) → Form s x → Checked (rows-part s x) (x .head .channels)
+checked : (s : List ℕ) (x : Sheet) → Form s x → Checked (rows-part s x) (x .head .setup .channels)
 checked s x f = record {
   short = let e : length (drop (x .rows) s) ≡ length s - x .rows = length-drop (x .rows) s in omega (arith, f .written .short);
   whole = λ w.
       let r = f .written .listed w in
-      rw (rows-exact (x .head .channels) (rows-part s x) (r .0) (r .1) .1 (rw (rows-behind s x f) (r .2))) refl;
+      rw (rows-exact (x .head .setup .channels) (rows-part s x) (r .0) (r .1) .1 (rw (rows-behind s x f) (r .2))) refl;
 }
 
 placed-by : (s : List ℕ) (x : Sheet) → Form s x → Placed s x

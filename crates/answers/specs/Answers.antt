@@ -55,10 +55,10 @@ rows-part s x = drop (x .rows) s
 
 -- what the rows say, and the recording of the measured ones
 abbrev pub listing : List ℕ → Sheet → Listing
-listing s x = rows-of (x .head .channels) (rows-part s x)
+listing s x = rows-of (x .head .setup .channels) (rows-part s x)
 
 abbrev pub measured : Head → Listing → Card
-measured h l = card (h .predicates) (h .channels) (times-of l) (values-of l)
+measured h l = card (h .setup) (times-of l) (values-of l)
 
 -- ---- the refusals, in the order in which they count
 -- 1: a line breaks the text form or is missing, or the text is too long
@@ -167,12 +167,12 @@ pub record Placed (s : List ℕ) (x : Sheet) : Type 0 where
   pub ordered : (k : ℕ) → k < x .count → place-of x k .from ≤ place-of x k .to
   pub inside : (k : ℕ) → k < x .count → place-of x k .to ≤ length s
   pub behind : x .rows ≤ length s
-  pub checked : Checked (rows-part s x) (x .head .channels)
+  pub checked : Checked (rows-part s x) (x .head .setup .channels)
 
 -- the rows stand in front of two slices, unless they were refused
 pub record Stored (s : List ℕ) (x : Sheet) (a : RowsAnswer) (times : List ℕ) (values : List ℤ) : Type 0 where
-  pub answer : a ≡ answer-of (rows-part s x) (x .head .channels) ROWS VALUES
+  pub answer : a ≡ answer-of (rows-part s x) (x .head .setup .channels) ROWS VALUES
   pub times-long : length times ≡ ROWS
   pub values-long : length values ≡ VALUES
   pub times-read : a .number ≡ 0 → take (a .rows) times ≡ times-of (listing s x)
-  pub values-read : a .number ≡ 0 → take (a .rows * x .head .channels) values ≡ values-of (listing s x)
+  pub values-read : a .number ≡ 0 → take (a .rows * x .head .setup .channels) values ≡ values-of (listing s x)

@@ -10,7 +10,7 @@ ghost use Rattle.outcome_lines.specs.Printed.{LINES, lines-of};
 ghost use Rattle.recordings.specs.Card.{lent};
 use outcomes::Outcome;
 use outcomes::Outcomes;
-use recordings::Predicate;
+use recordings::Setup;
 use recordings::Verdict;
 use sheets::Sheet;
 use tables::Table;
@@ -42,31 +42,21 @@ fn margin_of(answer: margins::Answer) -> i64
 // The figures of a table over measured rows, or the number of what refuses them.
 fn judge(
     table: Table,
-    predicates: [Predicate; 16],
-    channels: usize,
+    setup: Setup,
     times: &[u64],
     values: &[i64],
     step: u64,
     drift: u64,
     filled: usize,
 ) -> Outcome
-    ensures { λ r. ⌜ r ≡ answered (verdict-refusal (lent predicates channels (times .entry) (values .entry)) table step drift CELLS) (lent predicates channels (times .entry) (values .entry)) table step drift filled ⌝ }
+    ensures { λ r. ⌜ r ≡ answered (verdict-refusal (lent setup (times .entry) (values .entry)) table step drift CELLS) (lent setup (times .entry) (values .entry)) table step drift filled ⌝ }
 {
     let mut work = [0i64; 8192];
-    let answer = verdicts::verdict(
-        table,
-        predicates,
-        channels,
-        times,
-        values,
-        step,
-        drift,
-        &mut work,
-    );
+    let answer = verdicts::verdict(table, setup, times, values, step, drift, &mut work);
     match answer {
         verdicts::Answer::Refused(number) => refused(number),
         verdicts::Answer::Judged(judged) => {
-            let plain = margins::margin(table, predicates, channels, times, values, &mut work);
+            let plain = margins::margin(table, setup, times, values, &mut work);
             let verdict = judged.verdict;
             Outcome {
                 number: 0,
@@ -102,18 +92,17 @@ fn answer_for(
     }
     let table = requirement.table;
     let head = sheet.head;
-    let predicates = head.predicates;
-    let channels = head.channels;
+    let setup = head.setup;
+    let channels = setup.channels;
     if read.number != 0 {
-        let early = rules::refusal(table, predicates, channels, &times[..0], &values[..0]);
+        let early = rules::refusal(table, setup, &times[..0], &values[..0]);
         return refused(early);
     }
     let rows = read.rows;
     let wide = rows * channels;
     judge(
         table,
-        predicates,
-        channels,
+        setup,
         &times[..rows],
         &values[..wide],
         head.step,
@@ -130,7 +119,7 @@ fn answer_all(text: &[u8], sheet: Sheet) -> [Outcome; 16]
     let mut times = [0u64; 2048];
     let mut values = [0i64; 16384];
     let rows = sheet.rows;
-    let channels = sheet.head.channels;
+    let channels = sheet.head.setup.channels;
     let read = sheet_rows::read_rows(&text[rows..], channels, &mut times, &mut values);
     let none = refused(0);
     let mut all = [none; 16];

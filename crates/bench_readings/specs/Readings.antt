@@ -24,10 +24,9 @@ use Rattle.outcome_lines.specs.Printed.{lines-of}
 -- times 0 to 3, values 5, 7, 2, 9; p0 at least 3, p1 at most 6
 abbrev pub bench : Card
 bench = record {
-  channels = 1;
+  setup = record { channels = 1; predicates = sixteen (record { channel = 0; range = AtLeast (pos 3) } ∷ record { channel = 0; range = AtMost (pos 6) } ∷ []) };
   times = 0 ∷ 1 ∷ 2 ∷ 3 ∷ [];
   values = pos 5 ∷ pos 7 ∷ pos 2 ∷ pos 9 ∷ [];
-  predicates = sixteen (record { channel = 0; range = AtLeast (pos 3) } ∷ record { channel = 0; range = AtMost (pos 6) } ∷ []);
 }
 
 -- the table that the requirement reader makes of a text

@@ -3,6 +3,7 @@
 use building::CELLS;
 use recordings::Predicate;
 use recordings::Range;
+use recordings::Setup;
 use requirement_lines::Place;
 use tables::Node;
 use tables::Table;
@@ -14,7 +15,7 @@ ghost use Rattle.building.specs.Storing.{cells-of};
 ghost use Rattle.flat.specs.Written.{written};
 ghost use Rattle.flat.specs.Tables.{table-from};
 ghost use Rattle.flat.specs.Places.{places-of};
-ghost use Rattle.flat.specs.Predicates.{range-number, lo-of, hi-of, ranges-of, ends-of, range-from, predicate-from, predicates-from};
+ghost use Rattle.flat.specs.Predicates.{range-number, lo-of, hi-of, ranges-of, ends-of, range-from, predicate-from, predicates-from, setup-from};
 
 // Writes numbers into a slice from its front on.
 pub fn write_numbers(new: &[u64], out: &mut [u64])
@@ -133,6 +134,16 @@ pub fn predicates_from(ranges: &[u64], ends: &[i64]) -> [Predicate; 16]
         predicates[p] = predicate_from(ranges, ends, p);
     }
     predicates
+}
+
+// The setup of flat numbers.
+pub fn setup_from(ranges: &[u64], ends: &[i64], channels: u64) -> Setup
+    ensures { λ r. ⌜ r ≡ setup-from (now (ranges .entry)) (now (ends .entry)) channels ⌝ }
+{
+    Setup {
+        channels: channels as usize,
+        predicates: predicates_from(ranges, ends),
+    }
 }
 
 fn range_number(range: Range) -> u64

@@ -28,7 +28,7 @@ module _ (s : List ℕ) (ch : ℕ) (ps : Predicates) where
       chain-drift h = rw (o, f, h)
 
       pub chain-read : (drift d : ℕ) → number-line-at (bytes "drift=") s c ≡ Number drift d
-          → head-place (record { channels = ch; predicates = ps .all; step = step; drift = drift }) d ≡ behind-channels s ch ps
+          → head-place (record { setup = record { channels = ch; predicates = ps .all }; step = step; drift = drift }) d ≡ behind-channels s ch ps
       unfolding behind-channels
       chain-read drift d h = rw (o, f, h)
 

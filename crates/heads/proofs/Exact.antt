@@ -41,7 +41,7 @@ no-head-here s e = absurd (false-true e)
 
 head-read : (s : List ℕ) (ch a : ℕ) → number-line-at (bytes "chan=") s 0 ≡ Number ch a → lines-at s a .ok ≡ true
     → (step c : ℕ) → number-line-at (bytes "step=") s (lines-at s a .next) ≡ Number step c → (drift d : ℕ) → number-line-at (bytes "drift=") s c ≡ Number drift d
-    → HeadHere s (head-place (record { channels = ch; predicates = lines-at s a .all; step = step; drift = drift }) d)
+    → HeadHere s (head-place (record { setup = record { channels = ch; predicates = lines-at s a .all }; step = step; drift = drift }) d)
 unfolding count
 head-read s ch a e o step c f drift d g _ =
     let x = number-line-is (bytes "chan=") s 0 ch a e in
@@ -109,8 +109,8 @@ head-taken s {ls} {h} rest f e =
     let w : size ls ≡ length (f .chan) + (size (f .ps) + (length (f .step) + (length (f .drift) + 0))) = ap size (f .sequence) ∙ ap (λ (n : ℕ). length (f .chan) + n) (size-append (f .ps) (f .step ∷ f .drift ∷ [])) in
     let n : d .0 ≡ size ls = omega (arith, a .3, b .3, c .3, d .3) in
     sym
-    (chain-behind s (h .channels) (a .0) (a .1) (record { ok = true; next = b .0; all = h .predicates }) (sym (b .1)) _
-    (chain-read s (h .channels) (record { ok = true; next = b .0; all = h .predicates }) refl (h .step) (c .0) (c .1) (h .drift) (d .0) (d .1)))
+    (chain-behind s (h .setup .channels) (a .0) (a .1) (record { ok = true; next = b .0; all = h .setup .predicates }) (sym (b .1)) _
+    (chain-read s (h .setup .channels) (record { ok = true; next = b .0; all = h .setup .predicates }) refl (h .step) (c .0) (c .1) (h .drift) (d .0) (d .1)))
     ∙ ap (head-place h) n
 
 -- ---- a head's lines

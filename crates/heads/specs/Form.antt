@@ -15,11 +15,11 @@ pub record HeadForm (ls : List (List ℕ)) (head : Head) : Type 0 where
   pub step : List ℕ
   pub drift : List ℕ
   pub sequence : ls ≡ chan ∷ (ps ++ (step ∷ drift ∷ []))
-  pub channels : NumberLine (bytes "chan=") chan (head .channels)
-  pub predicates : PredicateLines ps (head .predicates)
+  pub channels : NumberLine (bytes "chan=") chan (head .setup .channels)
+  pub predicates : PredicateLines ps (head .setup .predicates)
   pub steps : NumberLine (bytes "step=") step (head .step)
   pub drifts : NumberLine (bytes "drift=") drift (head .drift)
 
 -- the head of no sheet
 abbrev pub no-head : Head
-no-head = record { channels = 0; predicates = unset; step = 0; drift = 0 }
+no-head = record { setup = record { channels = 0; predicates = unset }; step = 0; drift = 0 }

@@ -25,7 +25,7 @@ behind-channels s channels ps =
     cond (ps .ok)
     (after-number (number-line-at (bytes "step=") s (ps .next))
     (λ step c. after-number (number-line-at (bytes "drift=") s c)
-    (λ drift d. head-place (record { channels = channels; predicates = ps .all; step = step; drift = drift }) d)
+    (λ drift d. head-place (record { setup = record { channels = channels; predicates = ps .all }; step = step; drift = drift }) d)
     broken-head)
     broken-head)
     broken-head

@@ -1,6 +1,6 @@
 // The head of a sheet: `chan=`, `p=` lines, `step=`, `drift=`, in this order. Each line reader answers the place of the next line, so one line more is one reader more.
 use predicate_lines::Predicates;
-use recordings::Predicate;
+use recordings::Setup;
 use text::Field;
 ghost use mathlib.Core.Path.{_≡_};
 ghost use Rattle.heads.specs.Form.{no-head};
@@ -8,8 +8,7 @@ ghost use Rattle.heads.specs.Reading.{broken-head, behind-channels, head
 
 // What the head's lines say.
 pub struct Head {
-    pub channels: usize,
-    pub predicates: [Predicate; 16],
+    pub setup: Setup,
     pub step: u64,
     pub drift: u64,
 }
@@ -26,9 +25,12 @@ pub fn no_head() -> Head
     ensures { λ r. ⌜ r ≡ no-head ⌝ }
 {
     let none = predicate_lines::unset_predicates();
-    Head {
+    let setup = Setup {
         channels: 0,
         predicates: none,
+    };
+    Head {
+        setup: setup,
         step: 0,
         drift: 0,
     }
@@ -60,9 +62,12 @@ fn read_behind(s: &[u8], channels: usize, predicates: Predicates) -> HeadLines
         return broken();
     };
     let all = predicates.all;
-    let head = Head {
+    let setup = Setup {
         channels: channels,
         predicates: all,
+    };
+    let head = Head {
+        setup: setup,
         step: step,
         drift: drift,
     };

@@ -40,7 +40,7 @@ module _ {w : List ℤ} {c : Card} {n : Node} {left right row : ℕ} (a : NodeAs
   pub row-asks : (l : Left) (operand : ℕ) → LeftEarlier row l → operand < row → TemporalAsks w (c .times) l operand row
   row-asks l operand h k = record { left-earlier = h; right-earlier = k; right-bounded = a .bounded operand k; room = a .room; times-rise = record { rising = a .recorded .times .rising } }
 
-  pub leaf : n .kind ≡ predicate-kind → Leaf (c .values) (c .channels) (predicate c (n .left)) (rows c)
+  pub leaf : n .kind ≡ predicate-kind → Leaf (c .values) (c .setup .channels) (predicate c (n .left)) (rows c)
   leaf e = record {
     known = elim (a .recorded .channels .proper (n .left) .known) [ inl u ↦ absurd (a .set e u) | inr k ↦ k ];
     ends = a .recorded .channels .proper (n .left) .ends;

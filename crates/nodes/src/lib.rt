@@ -9,15 +9,14 @@ ghost use Rattle.nodes.specs.Values.{node-value};
 ghost use Rattle.nodes.specs.Asks.{NodeAsks};
 ghost use Rattle.recordings.specs.Card.{lent};
 use logic::Window;
-use recordings::Predicate;
+use recordings::Setup;
 use tables::Node;
 use temporal::Left;
 
 // Row `row` gets the node's values, or, where it is not affirmed, those of its negation, from rows `left` and `right`.
 pub fn node_row(
     node: Node,
-    predicates: [Predicate; 16],
-    channels: usize,
+    setup: Setup,
     times: &[u64],
     values: &[i64],
     affirmed: bool,
@@ -27,8 +26,8 @@ pub fn node_row(
     right: usize,
     row: usize,
 )
-    requires { ⌜ NodeAsks (now work) (lent predicates channels times values) node left right row ⌝ }
-    ensures { λ _. ⌜ now (work .exit) ≡ fill (row * length (now (times .entry))) (length (now (times .entry))) (node-value (lent predicates channels (times .entry) (values .entry)) affirmed window (operator (node .kind)) node (cell (now (work .entry)) (length (now (times .entry))) left) (cell (now (work .entry)) (length (now (times .entry))) right)) (now (work .entry)) ⌝ }
+    requires { ⌜ NodeAsks (now work) (lent setup times values) node left right row ⌝ }
+    ensures { λ _. ⌜ now (work .exit) ≡ fill (row * length (now (times .entry))) (length (now (times .entry))) (node-value (lent setup (times .entry) (values .entry)) affirmed window (operator (node .kind)) node (cell (now (work .entry)) (length (now (times .entry))) left) (cell (now (work .entry)) (length (now (times .entry))) right)) (now (work .entry)) ⌝ }
 {
     let rows = times.len();
     let kind = node.kind;
@@ -37,7 +36,8 @@ pub fn node_row(
     }
     if kind == tables::PREDICATE {
         let named = node.left;
-        let predicate = predicates[named];
+        let predicate = setup.predicates[named];
+        let channels = setup.channels;
         return rows::predicate_row(predicate, channels, values, rows, affirmed, work, row);
     }
     if kind == tables::NOT {

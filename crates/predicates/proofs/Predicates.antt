@@ -44,27 +44,27 @@ set-is (AtMost hi) h = tt
 set-is (Between lo hi) h = tt
 
 -- ---- 3
-pub named : (c : Card) (t : Table) → T (all-named (t .nodes) (t .count) (c .predicates)) → Named c t
+pub named : (c : Card) (t : Table) → T (all-named (t .nodes) (t .count) (c .setup .predicates)) → Named c t
 unfolding all-named names-set
 named c t h = record {
   set = λ k i e u.
       let n : Node = node-at (t .nodes) k in
-      let s = all-at (λ j. names-set (node-at (t .nodes) j) (c .predicates)) (t .count) h k i in
+      let s = all-at (λ j. names-set (node-at (t .nodes) j) (c .setup .predicates)) (t .count) h k i in
       elim (or-yes (not (eqb (n .kind) predicate-kind)) (is-set (predicate c (n .left) .range)) s) [
         | inl x ↦ T-not (eqb (n .kind) predicate-kind) x (yes-eqb e)
         | inr x ↦ T-not (is-set (predicate c (n .left) .range)) (unset-not u) x
       ];
 }
 
-pub named-passes : (c : Card) (t : Table) → Named c t → T (all-named (t .nodes) (t .count) (c .predicates))
+pub named-passes : (c : Card) (t : Table) → Named c t → T (all-named (t .nodes) (t .count) (c .setup .predicates))
 unfolding all-named names-set
-named-passes c t r = at-all (λ j. names-set (node-at (t .nodes) j) (c .predicates)) (t .count) one
+named-passes c t r = at-all (λ j. names-set (node-at (t .nodes) j) (c .setup .predicates)) (t .count) one
   where
     set-or : (n : Node) (b : Bool) → eqb (n .kind) predicate-kind ≡ b → (n .kind ≡ predicate-kind → predicate c (n .left) .range ≡ Unset → ⊥) → T (not b || is-set (predicate c (n .left) .range))
     set-or n false e h = tt
     set-or n true e h = set-is (predicate c (n .left) .range) (h (eqb-true (n .kind) predicate-kind e))
 
-    one : (k : ℕ) → k < t .count → T (names-set (node-at (t .nodes) k) (c .predicates))
+    one : (k : ℕ) → k < t .count → T (names-set (node-at (t .nodes) k) (c .setup .predicates))
     one k i = set-or (node-at (t .nodes) k) (eqb (node-at (t .nodes) k .kind) predicate-kind) refl (r .set k i)
 
 -- ---- 4
@@ -119,26 +119,26 @@ proper-passes p channels r =
     (yes-or (not (is-set (p .range))) (ltb (p .channel) channels) (elim (r .known) [ inl h ↦ inl (unset-not h) | inr h ↦ inr (lt→ltb (p .channel) channels h) ]))
     (ends-pass (p .range) (r .ends))
 
-pub channels-are : (c : Card) → T (channels-obey (c .predicates) (c .channels)) → Channels c
+pub channels-are : (c : Card) → T (channels-obey (c .setup .predicates) (c .setup .channels)) → Channels c
 unfolding predicates-obey channels-obey
 channels-are c t =
-    let a = and-yes (leb 1 (c .channels)) (leb (c .channels) MOST-CHANNELS && predicates-obey (c .predicates) (c .channels)) t in
-    let b = and-yes (leb (c .channels) MOST-CHANNELS) (predicates-obey (c .predicates) (c .channels)) (a .1) in
+    let a = and-yes (leb 1 (c .setup .channels)) (leb (c .setup .channels) MOST-CHANNELS && predicates-obey (c .setup .predicates) (c .setup .channels)) t in
+    let b = and-yes (leb (c .setup .channels) MOST-CHANNELS) (predicates-obey (c .setup .predicates) (c .setup .channels)) (a .1) in
     record {
-      some-channel = leb→le 1 (c .channels) (a .0);
-      few-channels = leb→le (c .channels) MOST-CHANNELS (b .0);
-      proper = λ p. elim (decLt p (length (c .predicates))) [
-        | yes i ↦ proper (predicate c p) (c .channels) (all-at (λ q. predicate-obeys (predicate-at (c .predicates) q) (c .channels)) (length (c .predicates)) (b .1) p i)
-        | no i ↦ rw (List·getD-eq-default (c .predicates) (record { channel = 0; range = Unset }) {n = p} (omega arith)) (record { known = inl refl; ends = tt })
+      some-channel = leb→le 1 (c .setup .channels) (a .0);
+      few-channels = leb→le (c .setup .channels) MOST-CHANNELS (b .0);
+      proper = λ p. elim (decLt p (length (c .setup .predicates))) [
+        | yes i ↦ proper (predicate c p) (c .setup .channels) (all-at (λ q. predicate-obeys (predicate-at (c .setup .predicates) q) (c .setup .channels)) (length (c .setup .predicates)) (b .1) p i)
+        | no i ↦ rw (List·getD-eq-default (c .setup .predicates) (record { channel = 0; range = Unset }) {n = p} (omega arith)) (record { known = inl refl; ends = tt })
       ];
     }
 
-pub channels-pass : (c : Card) → Channels c → T (channels-obey (c .predicates) (c .channels))
+pub channels-pass : (c : Card) → Channels c → T (channels-obey (c .setup .predicates) (c .setup .channels))
 unfolding predicates-obey channels-obey
 channels-pass c r =
-    yes-and (leb 1 (c .channels)) (leb (c .channels) MOST-CHANNELS && predicates-obey (c .predicates) (c .channels)) (le→leb 1 (c .channels) (r .some-channel))
-    (yes-and (leb (c .channels) MOST-CHANNELS) (predicates-obey (c .predicates) (c .channels)) (le→leb (c .channels) MOST-CHANNELS (r .few-channels))
-    (at-all (λ q. predicate-obeys (predicate-at (c .predicates) q) (c .channels)) (length (c .predicates)) (λ p i. proper-passes (predicate c p) (c .channels) (r .proper p))))
+    yes-and (leb 1 (c .setup .channels)) (leb (c .setup .channels) MOST-CHANNELS && predicates-obey (c .setup .predicates) (c .setup .channels)) (le→leb 1 (c .setup .channels) (r .some-channel))
+    (yes-and (leb (c .setup .channels) MOST-CHANNELS) (predicates-obey (c .setup .predicates) (c .setup .channels)) (le→leb (c .setup .channels) MOST-CHANNELS (r .few-channels))
+    (at-all (λ q. predicate-obeys (predicate-at (c .setup .predicates) q) (c .setup .channels)) (length (c .setup .predicates)) (λ p i. proper-passes (predicate c p) (c .setup .channels) (r .proper p))))
 
 -- what the test of the lengths may rely on
 pub few-channels : (ps : List Predicate) (channels : ℕ) → channels-obey ps channels ≡ true → channels ≤ MOST-CHANNELS

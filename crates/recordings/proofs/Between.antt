@@ -30,7 +30,7 @@ pub record Sampled (c : Card) (step : ℕ) : Type 0 where
   pub rising : (i : ℕ) → suc i < rows c → time c i < time c (suc i)
   pub no-gap : (i : ℕ) → suc i < rows c → time c (suc i) ≤ time c i + step
   pub some-step : 1 ≤ step
-  pub known : (p : ℕ) → (predicate c p .range ≡ Unset) ⊎ (predicate c p .channel < c .channels)
+  pub known : (p : ℕ) → (predicate c p .range ≡ Unset) ⊎ (predicate c p .channel < c .setup .channels)
 
 module _ {c : Card} {step : ℕ} (ok : Sampled c step) where
   samples-dense : Dense step (first-time c) (last-time c) (samples c)

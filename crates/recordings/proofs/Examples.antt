@@ -19,11 +19,11 @@ use Rattle.recordings.specs.Examples.{example, ramp}
 
 -- the sentences of acceptance for a recording of one channel, as tests that compute
 record Computed (c : Card) (step drift : ℕ) : Type 0 where
-  one-channel : c .channels ≡ 1
-  proper : (p : ℕ) → Proper (predicate c p) (c .channels)
+  one-channel : c .setup .channels ≡ 1
+  proper : (p : ℕ) → Proper (predicate c p) (c .setup .channels)
   some-row : T (leb 1 (rows c))
   few-rows : T (leb (rows c) MOST-ROWS)
-  all-values : length (c .values) ≡ rows c * c .channels
+  all-values : length (c .values) ≡ rows c * c .setup .channels
   rising : T (all-below (λ i. ltb (time c i) (time c (suc i))) (rows c - 1))
   small-times : T (all-below (λ i. leb (time c i) LATEST) (rows c))
   in-range : T (all-below (λ m. leb (natAbs (getD (c .values) m (pos 0))) FARTHEST) (length (c .values)))

@@ -69,7 +69,7 @@ module _ {c : Card} (ok : Recorded c) where
 
   -- a distance that is not free is smaller than TOP
   pub distance-below : (p i : ℕ) → Open (predicate c p .range) ⊎ Within 2_000_000_001 (distance-at TOP c p i)
-  distance-below p i = distance-small TOP (predicate c p .range) _ (ok .channels .proper p .ends) (in-range-at (i * c .channels + predicate c p .channel))
+  distance-below p i = distance-small TOP (predicate c p .range) _ (ok .channels .proper p .ends) (in-range-at (i * c .setup .channels + predicate c p .channel))
 
   pub recorded-bounded : Bounded TOP c
   recorded-bounded = record { bound = λ p i. go p i (distance-below p i) }

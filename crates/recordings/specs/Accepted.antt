@@ -57,15 +57,15 @@ pub record Proper (p : Predicate) (channels : ℕ) : Type 0 where
 -- ---- the sentence of each refusal that looks at a recording, step or drift: what holds where the refusal does not apply
 -- 4: 1 to 8 channels, and every predicate proper
 pub record Channels (c : Card) : Type 0 where
-  pub some-channel : 1 ≤ c .channels
-  pub few-channels : c .channels ≤ MOST-CHANNELS
-  pub proper : (p : ℕ) → Proper (predicate c p) (c .channels)
+  pub some-channel : 1 ≤ c .setup .channels
+  pub few-channels : c .setup .channels ≤ MOST-CHANNELS
+  pub proper : (p : ℕ) → Proper (predicate c p) (c .setup .channels)
 
 -- 5: 1 to 4,096 samples, and the values rows × channels long, rows being the count of times
 pub record Lengths (c : Card) : Type 0 where
   pub some-row : 1 ≤ rows c
   pub few-rows : rows c ≤ MOST-ROWS
-  pub all-values : length (c .values) ≡ rows c * c .channels
+  pub all-values : length (c .values) ≡ rows c * c .setup .channels
 
 -- 6: times strictly rising, at most 2,000,000,000
 pub record Times (c : Card) : Type 0 where
@@ -88,7 +88,7 @@ pub record Gapless (c : Card) (step : ℕ) : Type 0 where
 
 -- 11: no neighbouring values of a channel differ by more than 2 × drift
 pub record Steady (c : Card) (drift : ℕ) : Type 0 where
-  pub no-jump : (i ch : ℕ) → suc i < rows c → ch < c .channels → natAbs (value c ch (suc i) -ℤ value c ch i) ≤ 2 * drift
+  pub no-jump : (i ch : ℕ) → suc i < rows c → ch < c .setup .channels → natAbs (value c ch (suc i) -ℤ value c ch i) ≤ 2 * drift
 
 -- ---- refusals 4 to 7 do not apply
 pub record Recorded (c : Card) : Type 0 where

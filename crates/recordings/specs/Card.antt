@@ -1,4 +1,4 @@
--- All that a requirement is read against: a card's recording and the predicates that the requirement names.
+-- All that a requirement is read against: a card's recording, and its setup: the channels and the predicates that the requirement names.
 -- Assumes nothing.
 use mathlib.Core.List.{List, _++_}
 use Prim.Native.Nat.{ℕ, suc, _+_, _-_, _*_}
@@ -7,11 +7,11 @@ use denote.Ref.{RefT, now}
 use lib.IntN.{ℤ, pos}
 use Rattle.logic.specs.Reading.{Places}
 use Rattle.recordings.specs.declared.Predicate.{Predicate}
+use Rattle.recordings.specs.declared.Setup.{Setup}
 use Rattle.recordings.specs.declared.Range.the-variants.{Unset}
 
 pub record Card : Type 0 where
-  pub predicates : List Predicate
-  pub channels : ℕ
+  pub setup : Setup
   pub times : List ℕ
   pub values : List ℤ
 
@@ -23,7 +23,7 @@ time c i = getD (c .times) i 0
 
 -- sample i, channel ch stands at place i × channels + ch
 abbrev pub value : Card → ℕ → ℕ → ℤ
-value c ch i = getD (c .values) (i * c .channels + ch) (pos 0)
+value c ch i = getD (c .values) (i * c .setup .channels + ch) (pos 0)
 
 -- a number that no predicate has is unset
 abbrev pub unset-predicate : Predicate
@@ -37,7 +37,7 @@ abbrev pub predicate-at : List Predicate → ℕ → Predicate
 predicate-at ps p = getD ps p unset-predicate
 
 abbrev pub predicate : Card → ℕ → Predicate
-predicate c p = predicate-at (c .predicates) p
+predicate c p = predicate-at (c .setup .predicates) p
 
 abbrev pub first-time : Card → ℕ
 first-time c = time c 0
@@ -54,9 +54,9 @@ abbrev pub span : Card → Places
 span c = record { first = first-time c; end = suc (last-time c); time = λ t. t }
 
 -- what the library's callers hand over, as a card
-abbrev pub card : List Predicate → ℕ → List ℕ → List ℤ → Card
-card predicates channels times values = record { predicates = predicates; channels = channels; times = times; values = values }
+abbrev pub card : Setup → List ℕ → List ℤ → Card
+card setup times values = record { setup = setup; times = times; values = values }
 
 -- the card of two slices, as they are at a call's entry or exit
-abbrev pub lent : List Predicate → ℕ → RefT (List ℕ) → RefT (List ℤ) → Card
-lent predicates channels times values = card predicates channels (now times) (now values)
+abbrev pub lent : Setup → RefT (List ℕ) → RefT (List ℤ) → Card
+lent setup times values = card setup (now times) (now values)

@@ -20,7 +20,7 @@ pub record OneStep (c : Card) (step i t : ℕ) : Type 0 where
 
 -- h gives each channel a whole number at each second; in a history it differs by at most the drift from that channel's value at every sample at most one step off
 pub record History (c : Card) (step drift : ℕ) (h : ℕ → ℕ → ℤ) : Type 0 where
-  pub follows : (ch i t : ℕ) → ch < c .channels → i < rows c → Second c t → OneStep c step i t → natAbs (h ch t -ℤ value c ch i) ≤ drift
+  pub follows : (ch i t : ℕ) → ch < c .setup .channels → i < rows c → Second c t → OneStep c step i t → natAbs (h ch t -ℤ value c ch i) ≤ drift
 
 -- a predicate is true at a second where its channel's number then is inside its range
 abbrev pub true-when : Card → (ℕ → ℕ → ℤ) → ℕ → ℕ → Bool

@@ -1,4 +1,4 @@
-// Predicates on a card's channels, the three verdicts, and the limits of a recording. Their meaning is in specs/.
+// Predicates on a card's channels, a card's setup, the three verdicts, and the limits of a recording. Their meaning is in specs/.
 ghost use mathlib.Core.Path.{_≡_};
 ghost use Rattle.recordings.specs.Distance.{is-unset};
 
@@ -45,6 +45,12 @@ pub fn is_unset(range: Range) -> bool
 pub struct Predicate {
     pub channel: usize,
     pub range: Range,
+}
+
+// What a card is judged with beside its samples. It is handed on whole, so that what joins it moves no signature.
+pub struct Setup {
+    pub channels: usize,
+    pub predicates: [Predicate; 16],
 }
 
 pub enum Verdict {

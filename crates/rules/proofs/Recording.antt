@@ -17,18 +17,18 @@ use Rattle.predicates.proofs.Predicates.{value-in-range, in-range-passes}
 use Rattle.rules.specs.Recording.{lengths-obey, all-rising, all-early, times-obey, values-obey}
 
 -- ---- 5
-pub lengths-are : (c : Card) → T (lengths-obey (c .channels) (rows c) (length (c .values))) → Lengths c
+pub lengths-are : (c : Card) → T (lengths-obey (c .setup .channels) (rows c) (length (c .values))) → Lengths c
 unfolding lengths-obey
 lengths-are c t =
-    let a = and-yes (leb (rows c) MOST-ROWS) (leb 1 (rows c) && eqb (length (c .values)) (rows c * c .channels)) t in
-    let b = and-yes (leb 1 (rows c)) (eqb (length (c .values)) (rows c * c .channels)) (a .1) in
-    record { some-row = leb→le 1 (rows c) (b .0); few-rows = leb→le (rows c) MOST-ROWS (a .0); all-values = eqb→eq (length (c .values)) (rows c * c .channels) (b .1) }
+    let a = and-yes (leb (rows c) MOST-ROWS) (leb 1 (rows c) && eqb (length (c .values)) (rows c * c .setup .channels)) t in
+    let b = and-yes (leb 1 (rows c)) (eqb (length (c .values)) (rows c * c .setup .channels)) (a .1) in
+    record { some-row = leb→le 1 (rows c) (b .0); few-rows = leb→le (rows c) MOST-ROWS (a .0); all-values = eqb→eq (length (c .values)) (rows c * c .setup .channels) (b .1) }
 
-pub lengths-pass : (c : Card) → Lengths c → T (lengths-obey (c .channels) (rows c) (length (c .values)))
+pub lengths-pass : (c : Card) → Lengths c → T (lengths-obey (c .setup .channels) (rows c) (length (c .values)))
 unfolding lengths-obey
 lengths-pass c r =
-    yes-and (leb (rows c) MOST-ROWS) (leb 1 (rows c) && eqb (length (c .values)) (rows c * c .channels)) (le→leb (rows c) MOST-ROWS (r .few-rows))
-    (yes-and (leb 1 (rows c)) (eqb (length (c .values)) (rows c * c .channels)) (le→leb 1 (rows c) (r .some-row)) (yes-eqb (r .all-values)))
+    yes-and (leb (rows c) MOST-ROWS) (leb 1 (rows c) && eqb (length (c .values)) (rows c * c .setup .channels)) (le→leb (rows c) MOST-ROWS (r .few-rows))
+    (yes-and (leb 1 (rows c)) (eqb (length (c .values)) (rows c * c .setup .channels)) (le→leb 1 (rows c) (r .some-row)) (yes-eqb (r .all-values)))
 
 -- what the test of the times may rely on
 pub some-row : (channels rows values : ℕ) → lengths-obey channels rows values ≡ true → 1 ≤ rows

@@ -21,8 +21,8 @@ exact c t = (three, λ _. (record { sound = channels-are c; complete = channels-
   where
     three : Exact (check-at (checks c t) 0)
     three = record {
-      sound = λ h. let a = and-yes (table-obeys t) (all-named (t .nodes) (t .count) (c .predicates)) h in (table-rules t (a .0), named c t (a .1));
-      complete = λ s. yes-and (table-obeys t) (all-named (t .nodes) (t .count) (c .predicates)) (table-passes t (s .0)) (named-passes c t (s .1));
+      sound = λ h. let a = and-yes (table-obeys t) (all-named (t .nodes) (t .count) (c .setup .predicates)) h in (table-rules t (a .0), named c t (a .1));
+      complete = λ s. yes-and (table-obeys t) (all-named (t .nodes) (t .count) (c .setup .predicates)) (table-passes t (s .0)) (named-passes c t (s .1));
     }
 
 -- the number is 0 exactly when the table is ruled, what it names is set, and the recording is as the semantics ask

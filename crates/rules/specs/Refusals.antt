@@ -13,14 +13,14 @@ use Rattle.rules.specs.Recording.{lengths-obey, times-obey, values-obey}
 -- 3 and 4: the table, the channels and the predicates
 abbrev pub table-checks : Card → Table → List Check
 table-checks c t =
-    record { number = 3; sentence = TableRules t × Named c t; passes = requirement-obeys t (c .predicates) }
-    ∷ record { number = 4; sentence = Channels c; passes = channels-obey (c .predicates) (c .channels) }
+    record { number = 3; sentence = TableRules t × Named c t; passes = requirement-obeys t (c .setup .predicates) }
+    ∷ record { number = 4; sentence = Channels c; passes = channels-obey (c .setup .predicates) (c .setup .channels) }
     ∷ []
 
 -- 5 to 7: the samples
 abbrev pub sample-checks : Card → List Check
 sample-checks c =
-    record { number = 5; sentence = Lengths c; passes = lengths-obey (c .channels) (rows c) (length (c .values)) }
+    record { number = 5; sentence = Lengths c; passes = lengths-obey (c .setup .channels) (rows c) (length (c .values)) }
     ∷ record { number = 6; sentence = Times c; passes = times-obey (c .times) }
     ∷ record { number = 7; sentence = Values (c .values); passes = values-obey (c .values) }
     ∷ []

@@ -10,7 +10,7 @@ ghost use Rattle.recordings.specs.Card.{lent};
 ghost use Rattle.recordings.specs.Accepted.{MOST-CHANNELS};
 use recordings::LATEST;
 use recordings::MOST_ROWS;
-use recordings::Predicate;
+use recordings::Setup;
 use tables::Table;
 
 // `values` is the count of values.
@@ -77,15 +77,11 @@ fn values_obey(values: &[i64]) -> bool
 }
 
 // The first of refusals 3 to 7 that applies, 0 where none does.
-pub fn refusal(
-    table: Table,
-    predicates: [Predicate; 16],
-    channels: usize,
-    times: &[u64],
-    values: &[i64],
-) -> u64
-    ensures { λ r. ⌜ r ≡ first (checks (lent predicates channels (times .entry) (values .entry)) table) ⌝ }
+pub fn refusal(table: Table, setup: Setup, times: &[u64], values: &[i64]) -> u64
+    ensures { λ r. ⌜ r ≡ first (checks (lent setup (times .entry) (values .entry)) table) ⌝ }
 {
+    let predicates = setup.predicates;
+    let channels = setup.channels;
     let three = predicates::requirement_obeys(table, predicates);
     if !three {
         return 3;

@@ -18,7 +18,7 @@ use Rattle.recordings.specs.Card.{Card, rows, time, value}
 use Rattle.recordings.specs.Accepted.{LONGEST-STEP, LARGEST-DRIFT, Step, Gapless, Steady, Recorded, Accepted}
 use Rattle.refusals.specs.First.{first, Exact, AllExact, check-at}
 use Rattle.refusals.proofs.First.{passed, none-fails}
-use Rattle.sampling.specs.Sampling.{step-obeys, times-close, near, values-near, checks, samples-alone, Measured}
+use Rattle.sampling.specs.Sampling.{step-obeys, times-close, near, values-near, checks, Measured}
 
 -- ---- 9
 pub step-is : (step drift : ℕ) → T (step-obeys step drift) → Step step drift
@@ -66,38 +66,38 @@ near-flags a b drift p q r = rw (p, q, r) (sym (near-both a b drift))
 next-place : (i ch n : ℕ) → suc i * n + ch ≡ i * n + ch + n
 next-place i ch n = omega (arith, suc-mul i n)
 
-pub steady : (c : Card) (drift : ℕ) → length (c .values) ≡ rows c * c .channels → T (values-near (c .channels) (c .values) drift) → Steady c drift
+pub steady : (c : Card) (drift : ℕ) → length (c .values) ≡ rows c * c .setup .channels → T (values-near (c .setup .channels) (c .values) drift) → Steady c drift
 unfolding values-near near
 steady c drift l t = record { no-jump = λ i ch h k. apart i ch h k }
   where
-    there : (i ch : ℕ) → suc i < rows c → ch < c .channels → i * c .channels + ch < length (c .values) - c .channels
-    there i ch h k = omega (arith, earlier-row (suc i) (rows c) (c .channels) h, suc-mul i (c .channels))
+    there : (i ch : ℕ) → suc i < rows c → ch < c .setup .channels → i * c .setup .channels + ch < length (c .values) - c .setup .channels
+    there i ch h k = omega (arith, earlier-row (suc i) (rows c) (c .setup .channels) h, suc-mul i (c .setup .channels))
 
-    apart : (i ch : ℕ) → suc i < rows c → ch < c .channels → natAbs (value c ch (suc i) -ℤ value c ch i) ≤ 2 * drift
-    apart i ch h k = rw (next-place i ch (c .channels))
-        (leb→le (natAbs (getD (c .values) (i * c .channels + ch + c .channels) (pos 0) -ℤ value c ch i)) (2 * drift)
-        (all-at (λ m. near (getD (c .values) m (pos 0)) (getD (c .values) (m + c .channels) (pos 0)) drift) (length (c .values) - c .channels) t (i * c .channels + ch) (there i ch h k)))
+    apart : (i ch : ℕ) → suc i < rows c → ch < c .setup .channels → natAbs (value c ch (suc i) -ℤ value c ch i) ≤ 2 * drift
+    apart i ch h k = rw (next-place i ch (c .setup .channels))
+        (leb→le (natAbs (getD (c .values) (i * c .setup .channels + ch + c .setup .channels) (pos 0) -ℤ value c ch i)) (2 * drift)
+        (all-at (λ m. near (getD (c .values) m (pos 0)) (getD (c .values) (m + c .setup .channels) (pos 0)) drift) (length (c .values) - c .setup .channels) t (i * c .setup .channels + ch) (there i ch h k)))
 
-pub steady-passes : (c : Card) (drift : ℕ) → 1 ≤ c .channels → length (c .values) ≡ rows c * c .channels → Steady c drift → T (values-near (c .channels) (c .values) drift)
+pub steady-passes : (c : Card) (drift : ℕ) → 1 ≤ c .setup .channels → length (c .values) ≡ rows c * c .setup .channels → Steady c drift → T (values-near (c .setup .channels) (c .values) drift)
 unfolding values-near near
-steady-passes c drift s l r = at-all (λ m. near (getD (c .values) m (pos 0)) (getD (c .values) (m + c .channels) (pos 0)) drift) (length (c .values) - c .channels) apart
+steady-passes c drift s l r = at-all (λ m. near (getD (c .values) m (pos 0)) (getD (c .values) (m + c .setup .channels) (pos 0)) drift) (length (c .values) - c .setup .channels) apart
   where
-    parts : (m : ℕ) → m / c .channels * c .channels + m % c .channels ≡ m
-    parts m = div-add-mod' m (c .channels)
+    parts : (m : ℕ) → m / c .setup .channels * c .setup .channels + m % c .setup .channels ≡ m
+    parts m = div-add-mod' m (c .setup .channels)
 
-    inner : (m : ℕ) → m < length (c .values) - c .channels → suc (m / c .channels) < rows c
-    inner m h = elim (decLt (suc (m / c .channels)) (rows c)) [
+    inner : (m : ℕ) → m < length (c .values) - c .setup .channels → suc (m / c .setup .channels) < rows c
+    inner m h = elim (decLt (suc (m / c .setup .channels)) (rows c)) [
       | yes i ↦ i
-      | no i ↦ let n : rows c ≤ suc (m / c .channels) = omega arith in absurd (omega (arith, mul-le-mul-right (c .channels) n, suc-mul (m / c .channels) (c .channels), parts m))
+      | no i ↦ let n : rows c ≤ suc (m / c .setup .channels) = omega arith in absurd (omega (arith, mul-le-mul-right (c .setup .channels) n, suc-mul (m / c .setup .channels) (c .setup .channels), parts m))
     ]
 
-    apart : (m : ℕ) → m < length (c .values) - c .channels → T (near (getD (c .values) m (pos 0)) (getD (c .values) (m + c .channels) (pos 0)) drift)
-    apart m h = le→leb (natAbs (getD (c .values) (m + c .channels) (pos 0) -ℤ getD (c .values) m (pos 0))) (2 * drift)
-        (rw (next-place (m / c .channels) (m % c .channels) (c .channels), parts m) at (r .no-jump (m / c .channels) (m % c .channels) (inner m h) (mod-lt m s)))
+    apart : (m : ℕ) → m < length (c .values) - c .setup .channels → T (near (getD (c .values) m (pos 0)) (getD (c .values) (m + c .setup .channels) (pos 0)) drift)
+    apart m h = le→leb (natAbs (getD (c .values) (m + c .setup .channels) (pos 0) -ℤ getD (c .values) m (pos 0))) (2 * drift)
+        (rw (next-place (m / c .setup .channels) (m % c .setup .channels) (c .setup .channels), parts m) at (r .no-jump (m / c .setup .channels) (m % c .setup .channels) (inner m h) (mod-lt m s)))
 
 -- ---- all of them
-pub measured : {c : Card} → Recorded c → Measured (c .channels) (c .times) (c .values)
-measured {c} r = record { some-row = r .lengths .some-row; some-values = omega (arith, r .lengths .all-values, mul-le-mul-right (c .channels) (r .lengths .some-row)); in-range = r .values }
+pub measured : {c : Card} → Recorded c → Measured (c .setup .channels) (c .times) (c .values)
+measured {c} r = record { some-row = r .lengths .some-row; some-values = omega (arith, r .lengths .all-values, mul-le-mul-right (c .setup .channels) (r .lengths .some-row)); in-range = r .values }
 
 pub exact : (c : Card) (step drift : ℕ) → Recorded c → AllExact (checks c step drift)
 exact c step drift r = (record { sound = step-is step drift; complete = step-passes step drift }, λ _. (record { sound = gapless c step; complete = gapless-passes c step }, λ _. (eleven, λ _. tt)))
@@ -119,8 +119,3 @@ accepted-passes c step drift a = none-fails (checks c step drift) (exact c step 
     each (suc zero) h = a .gapless
     each (suc (suc zero)) h = a .steady
     each (suc (suc (suc j))) h = absurd (omega arith)
-
--- the tests of 9 to 11 do not look at the predicates
-pub first-alone : (c : Card) (step drift : ℕ) → first (checks (samples-alone (c .channels) (c .times) (c .values)) step drift) ≡ first (checks c step drift)
-unfolding first
-first-alone c step drift = refl

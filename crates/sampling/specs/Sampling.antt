@@ -7,7 +7,7 @@ use lib.Dec.{leb}
 use lib.ListN.{length, getD}
 use lib.IntN.{ℤ, pos, _-ℤ_, natAbs}
 use Rattle.lists.specs.Fold.{all-below}
-use Rattle.recordings.specs.Card.{Card, card}
+use Rattle.recordings.specs.Card.{Card}
 use Rattle.recordings.specs.Accepted.{LONGEST-STEP, LARGEST-DRIFT, InRange, Values, Step, Gapless, Steady}
 use Rattle.refusals.specs.First.{Check}
 
@@ -32,12 +32,8 @@ abbrev pub checks : Card → ℕ → ℕ → List Check
 checks c step drift =
     record { number = 9; sentence = Step step drift; passes = step-obeys step drift }
     ∷ record { number = 10; sentence = Gapless c step; passes = times-close (c .times) step }
-    ∷ record { number = 11; sentence = Steady c drift; passes = values-near (c .channels) (c .values) drift }
+    ∷ record { number = 11; sentence = Steady c drift; passes = values-near (c .setup .channels) (c .values) drift }
     ∷ []
-
--- no predicate is looked at
-abbrev pub samples-alone : ℕ → List ℕ → List ℤ → Card
-samples-alone channels times values = card [] channels times values
 
 -- what the tests may rely on, from refusals 5, 7 and 9
 pub record Comparable (from to : ℤ) (drift : ℕ) : Type 0 where

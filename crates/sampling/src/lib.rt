@@ -5,9 +5,11 @@ ghost use Prim.Native.Nat.{_-_, _≤_};
 ghost use lib.Dec.{leb};
 ghost use lib.ListN.{length};
 ghost use Rattle.refusals.specs.First.{first};
-ghost use Rattle.sampling.specs.Sampling.{step-obeys, times-close, near, Comparable, values-near, checks, samples-alone, Measured, Comparables};
+ghost use Rattle.recordings.specs.Card.{lent};
+ghost use Rattle.sampling.specs.Sampling.{step-obeys, times-close, near, Comparable, values-near, checks, Measured, Comparables};
 use recordings::LARGEST_DRIFT;
 use recordings::LONGEST_STEP;
+use recordings::Setup;
 
 fn step_obeys(step: u64, drift: u64) -> bool
     ensures { λ r. ⌜ r ≡ step-obeys step drift ⌝ }
@@ -67,9 +69,9 @@ fn values_near(channels: usize, values: &[i64], drift: u64) -> bool
 }
 
 // The first of refusals 9 to 11 that applies, 0 where none does.
-pub fn refusal(channels: usize, times: &[u64], values: &[i64], step: u64, drift: u64) -> u64
-    requires { ⌜ Measured channels (now times) (now values) ⌝ }
-    ensures { λ r. ⌜ r ≡ first (checks (samples-alone channels (now (times .entry)) (now (values .entry))) step drift) ⌝ }
+pub fn refusal(setup: Setup, times: &[u64], values: &[i64], step: u64, drift: u64) -> u64
+    requires { ⌜ Measured (setup .channels) (now times) (now values) ⌝ }
+    ensures { λ r. ⌜ r ≡ first (checks (lent setup (times .entry) (values .entry)) step drift) ⌝ }
 {
     let nine = step_obeys(step, drift);
     if !nine {
@@ -79,6 +81,7 @@ pub fn refusal(channels: usize, times: &[u64], values: &[i64], step: u64, drift:
     if !ten {
         return 10;
     }
+    let channels = setup.channels;
     let eleven = values_near(channels, values, drift);
     if !eleven {
         return 11;

@@ -29,7 +29,7 @@ module _ (s : List ℕ) (h : Head) (rs : Requirements) where
     pub lines-missing : rs .count < 1 → false ≡ lines-kept s h rs
     lines-missing l = rw (o, lt-leb _ _ l)
 
-    pub lines-there : 1 ≤ rs .count → (b : Bool) → b ≡ rows-kept s (rs .next) (h .channels) → b ≡ lines-kept s h rs
+    pub lines-there : 1 ≤ rs .count → (b : Bool) → b ≡ rows-kept s (rs .next) (h .setup .channels) → b ≡ lines-kept s h rs
     lines-there l b e = rw (o, le-leb _ _ l) e
 
   -- by the refusal's number

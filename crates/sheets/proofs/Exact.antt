@@ -59,7 +59,7 @@ module _ (s : List ℕ) (l : ltb limit (length s) ≡ false) (o : head-of s .ok 
   abbrev head : Head
   head = head-of s .head
 
-  is-written : (ps : List Place) (n : ℕ) → requirements-at s (head-of s .next) ≡ found ps n → 1 ≤ length ps → rows-kept s n (head .channels) ≡ true → IsWritten s
+  is-written : (ps : List Place) (n : ℕ) → requirements-at s (head-of s .next) ≡ found ps n → 1 ≤ length ps → rows-kept s n (head .setup .channels) ≡ true → IsWritten s
   is-written ps n e some kept =
       let x = head-is s o in
       let y = requirements-are s (head-of s .next) ps n e in
@@ -74,7 +74,7 @@ module _ (s : List ℕ) (l : ltb limit (length s) ≡ false) (o : head-of s .ok 
           begins = x .1;
           some = omega arith;
           over = y .over;
-          listed = λ w. kept-listed (head .channels) s n kept w;
+          listed = λ w. kept-listed (head .setup .channels) s n kept w;
         },
       )
 
@@ -84,7 +84,7 @@ module _ (s : List ℕ) (l : ltb limit (length s) ≡ false) (o : head-of s .ok 
   found-either : (x : Found) → requirements-at s (head-of s .next) ≡ x → IsWritten s ⊎ (sheet-of s ≡ blank 1)
   found-either (found ps n) e =
       by-test (leb 1 (length ps))
-      (λ p. by-test (rows-kept s n (head .channels))
+      (λ p. by-test (rows-kept s n (head .setup .channels))
       (λ k. inl (is-written ps n e (leb-true 1 (length ps) p) k))
       (λ k. inr (sym (none-written (found ps n) e (rw (p, k) refl)))))
       (λ p. inr (sym (none-written (found ps n) e (rw p refl))))
@@ -137,7 +137,7 @@ module _ {s : List ℕ} {h : Head} {rs rows : List (List ℕ)} (w : Written s h 
   lines-stand =
       let c : length (places-from at rs) ≡ length rs = places-length at rs in
       sym (lines-there s h (stored (found (places-from at rs) next)) refl (omega (arith, w .some)) true
-      (sym (listed-kept (h .channels) s next (λ z. rw (written-rows) (w .listed z)))))
+      (sym (listed-kept (h .setup .channels) s next (λ z. rw (written-rows) (w .listed z)))))
 
   read-as : (x : Sheet) → x ≡ behind-head s h (stored (found (places-from at rs) next)) → x ≡ sheet-of s
   read-as x e =

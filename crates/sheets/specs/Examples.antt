@@ -25,7 +25,7 @@ example =
 abbrev pub contents : Sheet
 contents = record {
   number = 0;
-  head = record { channels = 1; predicates = set unset 0 (record { channel = 0; range = AtLeast (pos 5) }); step = 1; drift = 2 };
+  head = record { setup = record { channels = 1; predicates = set unset 0 (record { channel = 0; range = AtLeast (pos 5) }) }; step = 1; drift = 2 };
   count = 1;
   requirements = set nowhere 0 (record { from = 45; to = 53 });
   rows = 54;

@@ -23,7 +23,7 @@ pub record Written (text : List ℕ) (head : Head) (requirements rows : List (Li
   -- the first line that does not begin with `req=` is where the rows begin
   pub over : Over rows
   -- rows are read only where the channels are 1 to 8
-  pub listed : channels-in-range (head .channels) ≡ true → AreRows (head .channels) rows
+  pub listed : channels-in-range (head .setup .channels) ≡ true → AreRows (head .setup .channels) rows
 
 -- a text is written as a sheet, whatever it says
 abbrev pub IsWritten : List ℕ → Type 0

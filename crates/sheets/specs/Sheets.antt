@@ -21,7 +21,7 @@ rows-kept s at channels = not (channels-in-range channels && is-broken (rows-of 
 
 -- each requirement's line has its line feed, there is one at least, and what follows them is in order
 abbrev pub lines-kept : List ℕ → Head → Requirements → Bool
-lines-kept s h rs = rs .ok && (leb 1 (rs .count) && rows-kept s (rs .next) (h .channels))
+lines-kept s h rs = rs .ok && (leb 1 (rs .count) && rows-kept s (rs .next) (h .setup .channels))
 
 -- the first refusal that applies: 1 for the whole text before 12
 abbrev pub sheet-refusal : Bool → ℕ → ℕ

@@ -46,7 +46,7 @@ fn keeps_lines(s: &[u8], head: Head, found: Requirements) -> bool
         return false;
     }
     let rows = found.next;
-    let channels = head.channels;
+    let channels = head.setup.channels;
     keeps_rows(s, rows, channels)
 }
 

@@ -45,8 +45,8 @@ table-handed s h nodes r =
     rw (h, x .2) (rw (length-nodes 0 a) at (table-read-back (nodes-of 0 a) (rw (length-nodes 0 a) few) nodes r))
 
 pub predicates-handed : (s : List ℕ) → sheet-of s .number ≡ 0 → (ranges : List ℕ) (ends : List ℤ) → 32 ≤ length ranges → 32 ≤ length ends
-    → predicates-from (handed (sheet-of s .number) (ranges-of (sheet-of s .head .predicates)) ranges) (handed (sheet-of s .number) (ends-of (sheet-of s .head .predicates)) ends) ≡ sheet-of s .head .predicates
-predicates-handed s h ranges ends wide long = rw h (predicates-back (sheet-of s .head .predicates) (lines-keep (sheet-sound s h .written .begins .predicates)) ranges ends wide long)
+    → predicates-from (handed (sheet-of s .number) (ranges-of (sheet-of s .head .setup .predicates)) ranges) (handed (sheet-of s .number) (ends-of (sheet-of s .head .setup .predicates)) ends) ≡ sheet-of s .head .setup .predicates
+predicates-handed s h ranges ends wide long = rw h (predicates-back (sheet-of s .head .setup .predicates) (lines-keep (sheet-sound s h .written .begins .predicates)) ranges ends wide long)
 
 -- requirement k stands in the text from number 2k up to number 2k + 1; behind the last, both are 0
 pub places-handed : (s : List ℕ) → sheet-of s .number ≡ 0 → (places : List ℕ) → 32 ≤ length places → (k : ℕ) → k < 16

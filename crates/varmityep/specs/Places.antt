@@ -13,12 +13,12 @@ use Rattle.margins.specs.Answers.{MarginOutcome as Margin}
 use Rattle.verdicts.specs.Answer.{VerdictOutcome as Judgement}
 use Rattle.sheets.specs.declared.Sheet.{Sheet}
 use Rattle.sheet_rows.specs.declared.Answer.{Answer as Rows}
-use Rattle.flat.specs.Predicates.{range-from, predicates-from}
+use Rattle.flat.specs.Predicates.{range-from, setup-from}
 use Rattle.flat.specs.Written.{written}
 
--- what a requirement is read against: predicates in flat numbers, and a recording
+-- what a requirement is read against: a setup in flat numbers, and a recording
 unfoldable pub card-from : List ℕ → List ℤ → ℕ → List ℕ → List ℤ → Card
-card-from ranges ends channels times values = card (predicates-from ranges ends) channels times values
+card-from ranges ends channels times values = card (setup-from ranges ends channels) times values
 
 -- one predicate in four numbers
 abbrev pub predicate-of : ℕ → ℕ → ℤ → ℤ → Predicate
@@ -47,7 +47,7 @@ verdict-handed j old = handed (j .number) (verdict-number (j .verdict) ∷ j .ho
 
 -- channels, step, drift, the rows' first place, the count of requirements
 abbrev pub sheet-numbers : Sheet → List ℕ
-sheet-numbers s = s .head .channels ∷ s .head .step ∷ s .head .drift ∷ s .rows ∷ s .count ∷ []
+sheet-numbers s = s .head .setup .channels ∷ s .head .step ∷ s .head .drift ∷ s .rows ∷ s .count ∷ []
 
 -- measured rows, filled rows
 abbrev pub row-places : Rows → List ℕ

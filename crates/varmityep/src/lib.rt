@@ -48,16 +48,17 @@ pub extern "C" fn varmityep_sheet(
     ensures number { λ r. ⌜ r ≡ sheet-of (now (text .entry)) .number ⌝ }
     ensures numbers { λ _. ⌜ now (numbers .exit) ≡ handed (sheet-of (now (text .entry)) .number) (sheet-numbers (sheet-of (now (text .entry)))) (now (numbers .entry)) ⌝ }
     ensures places { λ _. ⌜ now (places .exit) ≡ handed (sheet-of (now (text .entry)) .number) (places-of (sheet-of (now (text .entry)) .requirements)) (now (places .entry)) ⌝ }
-    ensures ranges { λ _. ⌜ now (ranges .exit) ≡ handed (sheet-of (now (text .entry)) .number) (ranges-of (sheet-of (now (text .entry)) .head .predicates)) (now (ranges .entry)) ⌝ }
-    ensures ends { λ _. ⌜ now (ends .exit) ≡ handed (sheet-of (now (text .entry)) .number) (ends-of (sheet-of (now (text .entry)) .head .predicates)) (now (ends .entry)) ⌝ }
+    ensures ranges { λ _. ⌜ now (ranges .exit) ≡ handed (sheet-of (now (text .entry)) .number) (ranges-of (sheet-of (now (text .entry)) .head .setup .predicates)) (now (ranges .entry)) ⌝ }
+    ensures ends { λ _. ⌜ now (ends .exit) ≡ handed (sheet-of (now (text .entry)) .number) (ends-of (sheet-of (now (text .entry)) .head .setup .predicates)) (now (ends .entry)) ⌝ }
 {
     let sheet = sheets::read_sheet(text);
     if sheet.number != 0 {
         return sheet.number;
     }
     let head = sheet.head;
+    let setup = head.setup;
     let contents = [
-        head.channels as u64,
+        setup.channels as u64,
         head.step,
         head.drift,
         sheet.rows as u64,
@@ -67,7 +68,7 @@ pub extern "C" fn varmityep_sheet(
     let requirements = sheet.requirements;
     let stand = flat::places_of(requirements);
     flat::write_numbers(&stand, places);
-    let predicates = head.predicates;
+    let predicates = setup.predicates;
     flat::write_predicates(predicates, ranges, ends);
     0
 }
@@ -196,8 +197,8 @@ pub extern "C" fn varmityep_margin(
     ensures result { λ _. ⌜ now (result .exit) ≡ margin-handed (margin-judged (card-from (now (ranges .entry)) (now (ends .entry)) channels (now (times .entry)) (now (values .entry))) (table-from (now (nodes .entry)) count) (length (now (work .entry)))) (now (result .entry)) ⌝ }
 {
     let table = flat::table_from(nodes, count);
-    let predicates = flat::predicates_from(ranges, ends);
-    let answer = margins::margin(table, predicates, channels as usize, times, values, work);
+    let setup = flat::setup_from(ranges, ends, channels);
+    let answer = margins::margin(table, setup, times, values, work);
     hand_margin(answer, result)
 }
 
@@ -248,16 +249,7 @@ pub extern "C" fn varmityep_verdict(
     ensures result { λ _. ⌜ now (result .exit) ≡ verdict-handed (verdict-judged (card-from (now (ranges .entry)) (now (ends .entry)) channels (now (times .entry)) (now (values .entry))) (table-from (now (nodes .entry)) count) step drift (length (now (work .entry)))) (now (result .entry)) ⌝ }
 {
     let table = flat::table_from(nodes, count);
-    let predicates = flat::predicates_from(ranges, ends);
-    let answer = verdicts::verdict(
-        table,
-        predicates,
-        channels as usize,
-        times,
-        values,
-        step,
-        drift,
-        work,
-    );
+    let setup = flat::setup_from(ranges, ends, channels);
+    let answer = verdicts::verdict(table, setup, times, values, step, drift, work);
     hand_verdict(answer, result)
 }

@@ -15,7 +15,7 @@ ghost use Rattle.verdicts.specs.Rows.{strong-window, left-sign, row-of, 
 ghost use Rattle.verdicts.specs.Answer.{verdict-outcome, verdict-judged, verdict-cells};
 ghost use Rattle.recordings.specs.Card.{lent};
 use logic::Window;
-use recordings::Predicate;
+use recordings::Setup;
 use recordings::Verdict;
 use tables::Node;
 use tables::Table;
@@ -67,16 +67,15 @@ fn left_row(node: Node, affirmed: bool) -> usize
 // Row `row` of the cells, the rows before it being filled.
 fn strong_row(
     table: Table,
-    predicates: [Predicate; 16],
-    channels: usize,
+    setup: Setup,
     times: &[u64],
     values: &[i64],
     step: u64,
     work: &mut [i64],
     row: usize,
 )
-    requires { ⌜ Filled (lent predicates channels times values) table step (now work) row ⌝ }
-    ensures { λ _. ⌜ now (work .exit) ≡ fill (row * length (now (times .entry))) (length (now (times .entry))) (row-value (lent predicates channels (times .entry) (values .entry)) step (table .nodes) row) (now (work .entry)) ⌝ }
+    requires { ⌜ Filled (lent setup times values) table step (now work) row ⌝ }
+    ensures { λ _. ⌜ now (work .exit) ≡ fill (row * length (now (times .entry))) (length (now (times .entry))) (row-value (lent setup (times .entry) (values .entry)) step (table .nodes) row) (now (work .entry)) ⌝ }
 {
     let k = row / 2;
     let affirmed = row % 2 == 0;
@@ -86,8 +85,7 @@ fn strong_row(
     let right = row_for(affirmed, node.right);
     nodes::node_row(
         node,
-        predicates,
-        channels,
+        setup,
         times,
         values,
         affirmed,
@@ -102,20 +100,19 @@ fn strong_row(
 // All rows of the cells.
 fn strong_rows(
     table: Table,
-    predicates: [Predicate; 16],
-    channels: usize,
+    setup: Setup,
     times: &[u64],
     values: &[i64],
     step: u64,
     work: &mut [i64],
 )
-    requires { ⌜ Ready (lent predicates channels times values) table step (length (now work)) ⌝ }
-    ensures { λ _. ⌜ now (work .exit) ≡ cells (lent predicates channels (times .entry) (values .entry)) step (table .nodes) (table .count) (now (work .entry)) ⌝ }
+    requires { ⌜ Ready (lent setup times values) table step (length (now work)) ⌝ }
+    ensures { λ _. ⌜ now (work .exit) ≡ cells (lent setup (times .entry) (values .entry)) step (table .nodes) (table .count) (now (work .entry)) ⌝ }
 {
     let end = 2 * table.count;
     let mut row = 0;
     while row < end {
-        strong_row(table, predicates, channels, times, values, step, work, row);
+        strong_row(table, setup, times, values, step, work, row);
         row += 1;
     }
 }
@@ -145,18 +142,17 @@ fn decided(drift: u64, hold: i64, fail: i64) -> Verdict
 // Judges a recording against a requirement table. The work slice gets 2 × n × rows cells; under a refusal it stays as it was.
 pub fn verdict(
     table: Table,
-    predicates: [Predicate; 16],
-    channels: usize,
+    setup: Setup,
     times: &[u64],
     values: &[i64],
     step: u64,
     drift: u64,
     work: &mut [i64],
 ) -> Answer
-    ensures answer { λ r. ⌜ verdict-outcome r ≡ verdict-judged (lent predicates channels (times .entry) (values .entry)) table step drift (length (now (work .entry))) ⌝ }
-    ensures cells { λ _. ⌜ now (work .exit) ≡ verdict-cells (lent predicates channels (times .entry) (values .entry)) table step drift (now (work .entry)) ⌝ }
+    ensures answer { λ r. ⌜ verdict-outcome r ≡ verdict-judged (lent setup (times .entry) (values .entry)) table step drift (length (now (work .entry))) ⌝ }
+    ensures cells { λ _. ⌜ now (work .exit) ≡ verdict-cells (lent setup (times .entry) (values .entry)) table step drift (now (work .entry)) ⌝ }
 {
-    let early = rules::refusal(table, predicates, channels, times, values);
+    let early = rules::refusal(table, setup, times, values);
     if early != 0 {
         return Answer::Refused(early);
     }
@@ -165,11 +161,11 @@ pub fn verdict(
     if work.len() < 2 * count * rows {
         return Answer::Refused(8);
     }
-    let late = sampling::refusal(channels, times, values, step, drift);
+    let late = sampling::refusal(setup, times, values, step, drift);
     if late != 0 {
         return Answer::Refused(late);
     }
-    strong_rows(table, predicates, channels, times, values, step, work);
+    strong_rows(table, setup, times, values, step, work);
     let root = 2 * (count - 1);
     let hold = rows::cell_at(rows, work, root, 0);
     let fail = rows::cell_at(rows, work, root + 1, 0);

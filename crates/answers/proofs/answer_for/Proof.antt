@@ -26,7 +26,7 @@ use Rattle.rules.proofs.refusal.Reads as refusal-reads
 few-rows : (c : tie.Else2) → c .before .before .before .before .before .before .before .before .before .before .before .before .args .read .rows ≤ ROWS
 few-rows c = let s = c .before .before .before .before .before .before .before .before .before .before .before .before in rows-few (rows-part (s .args .text .now) (s .args .t2)) (s .args .t2 .head) (s .pre .1 .checked) (s .args .read) (s .pre .2 .answer) (c .if2 .left)
 
-few-values : (c : tie.Else2) → c .before .before .before .before .before .before .before .before .before .before .before .before .args .read .rows * c .before .before .before .before .before .before .before .before .before .before .before .before .args .t2 .head .channels ≤ VALUES
+few-values : (c : tie.Else2) → c .before .before .before .before .before .before .before .before .before .before .before .before .args .read .rows * c .before .before .before .before .before .before .before .before .before .before .before .before .args .t2 .head .setup .channels ≤ VALUES
 few-values c = let s = c .before .before .before .before .before .before .before .before .before .before .before .before in values-few (rows-part (s .args .text .now) (s .args .t2)) (s .args .t2 .head) (s .pre .1 .checked) (s .args .read) (s .pre .2 .answer) (c .if2 .left)
 
 mul-place : tie.Need-mul-place

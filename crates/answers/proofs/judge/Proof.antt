@@ -20,7 +20,7 @@ use Rattle.margins.proofs.margin.Reads as margin-reads
 use Rattle.verdicts.proofs.verdict.Reads as verdict-reads
 
 abbrev card-of : tie.Start → Card
-card-of s = card (s .args .predicates) (s .args .channels) (s .args .times .now) (s .args .values .now)
+card-of s = card (s .args .setup) (s .args .times .now) (s .args .values .now)
 
 slice-aggregate-verdict : tie.Need-slice-aggregate-verdict
 slice-aggregate-verdict c = search needs
@@ -59,7 +59,7 @@ returns-2 c =
     let j = c .before .before .before .before .before .before .answer2 .given .0 .0 in
     let v : verdict-outcome (c .before .before .before .before .before .before .before .before .before .verdict .result) ≡ verdict-judged (card-of s) (s .args .table) (s .args .step) (s .args .drift) CELLS = c .before .before .before .before .before .before .before .before .before .verdict .ensures .0 in
     let e = rw (c .before .before .before .before .before .before .answer2 .given .1) at v in
-    let l : length (c .before .before .before .before .before .before .before .before .before .verdict .last .1 .1 .1 .1 .1 .1 .1 .0) ≡ CELLS = search needs in
+    let l : length (c .before .before .before .before .before .before .before .before .before .verdict .last .1 .1 .1 .1 .1 .1 .0) ≡ CELLS = search needs in
     let m : margin-outcome (c .before .before .before .margin .result) ≡ margin-judged (card-of s) (s .args .table) CELLS = c .before .before .before .margin .ensures .0 ∙ ap (margin-judged (card-of s) (s .args .table)) l in
     let h : back (j .hold) ≡ j .hold = search needs in
     let f : back (j .fail) ≡ j .fail = search needs in

@@ -16,19 +16,19 @@ use Rattle.margins.proofs.fill_margins.Statement.{statement}
 use Rattle.margins.proofs.fill_margins.Tie as tie
 
 abbrev Inv-loop : tie.InvT-loop
-Inv-loop predicates channels times values work₀ nodes count k₀ work k =
+Inv-loop setup times values work₀ nodes count k₀ work k =
     (k ≤ count)
-    × (work ≡ fill-rows (length times) (λ q. margin (card predicates channels times values) (tree nodes q)) k work₀)
+    × (work ≡ fill-rows (length times) (λ q. margin (card setup times values) (tree nodes q)) k work₀)
     × (length work ≡ length work₀)
 
 abbrev μ-loop : tie.MeasureT-loop
-μ-loop predicates channels times values work₀ nodes count k₀ work k = count - k
+μ-loop setup times values work₀ nodes count k₀ work k = count - k
 
 abbrev start : tie.At-loop Inv-loop μ-loop → tie.Start Inv-loop μ-loop
 start c = c .before .before .before
 
 abbrev card-of : tie.Start Inv-loop μ-loop → Card
-card-of s = card (s .args .predicates) (s .args .channels) (s .args .times .now) (s .args .values .now)
+card-of s = card (s .args .setup) (s .args .times .now) (s .args .values .now)
 
 -- the rows before k hold the margins of their nodes
 hold : (c : tie.At-loop Inv-loop μ-loop) → c .loop .k < start c .args .table .count → Holds (card-of (start c)) (c .loop .work) (c .loop .k) (tree (start c .args .table .nodes))
@@ -74,7 +74,7 @@ loop-again c =
     let k = l .loop .k in (
       omega arith,
       filled-next (card-of s) (s .args .table .nodes) k (s .args .work .now) (s .pre .sound .ruled .each k t) (l .loop .inv .1) (c .before .margin-row .ensures (tree (s .args .table .nodes)) (hold l t)),
-      c .before .margin-row .kept .1 .1 .1 .1 .1 .0 ∙ l .loop .inv .2,
+      c .before .margin-row .kept .1 .1 .1 .1 .0 ∙ l .loop .inv .2,
     )
 
 same-length : tie.Need-same-length Inv-loop μ-loop

@@ -14,7 +14,7 @@ use Rattle.margins.proofs.margin.Statement.{statement}
 use Rattle.margins.proofs.margin.Tie as tie
 
 abbrev card-of : tie.Start → Card
-card-of s = card (s .args .predicates) (s .args .channels) (s .args .times .now) (s .args .values .now)
+card-of s = card (s .args .setup) (s .args .times .now) (s .args .values .now)
 
 -- what number 0 says
 fine : (c : tie.Else1) → Sound (card-of (c .before .before .before)) (c .before .before .before .args .table) × (c .before .before .before .args .table .count * length (c .before .before .before .args .times .now) ≤ length (c .before .before .before .args .work .now))
@@ -57,7 +57,7 @@ mul-value : tie.Need-mul-value
 mul-value c = omega (arith, last-row c)
 
 slice-copy-out-value : tie.Need-slice-copy-out-value
-slice-copy-out-value c = omega (arith, last-row c, c .before .fill-margins .kept .1 .1 .1 .1 .1 .0)
+slice-copy-out-value c = omega (arith, last-row c, c .before .fill-margins .kept .1 .1 .1 .1 .0)
 
 same-length : tie.Need-same-length
 same-length c = search needs

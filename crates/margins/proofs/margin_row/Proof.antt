@@ -20,7 +20,7 @@ use Rattle.margins.proofs.margin_row.Statement.{statement}
 use Rattle.margins.proofs.margin_row.Tie as tie
 
 abbrev card-of : tie.Start → Card
-card-of s = card (s .args .predicates) (s .args .channels) (s .args .times .now) (s .args .values .now)
+card-of s = card (s .args .setup) (s .args .times .now) (s .args .values .now)
 
 -- the child of "not"
 child : (s : tie.Start) → s .args .node .kind ≡ not-kind → s .args .node .left < s .args .k

@@ -10,7 +10,7 @@ use Rattle.margins.proofs.refusal_of.Statement.{statement}
 use Rattle.margins.proofs.refusal_of.Tie as tie
 
 abbrev card-of : tie.Start → Card
-card-of s = card (s .args .predicates) (s .args .channels) (s .args .times .now) (s .args .values .now)
+card-of s = card (s .args .setup) (s .args .times .now) (s .args .values .now)
 
 refusal-requires : tie.Need-refusal-requires
 refusal-requires c κs = search needs

@@ -58,8 +58,8 @@ returns c = true-arm _ _ _ _ _ _ _ _ (c .before .before .before .before .before 
 mul-predicate : tie.Need-mul-predicate
 mul-predicate c = omega (arith, c .before .before .before .pre .numbered (c .if2 .taken))
 
-array-copy-out-predicate : tie.Need-array-copy-out-predicate
-array-copy-out-predicate c = omega (arith, c .before .before .before .pre .numbered (c .if2 .taken))
+element-copy-out-predicate : tie.Need-element-copy-out-predicate
+element-copy-out-predicate c = omega (arith, c .before .before .before .pre .numbered (c .if2 .taken))
 
 predicate-row-requires : tie.Need-predicate-row-requires
 predicate-row-requires c κs = let s = c .before .before .before .before .before in (s .pre .room, leaf (s .pre) (c .before .before .if2 .taken))
@@ -148,7 +148,7 @@ node-row-spec =
     same-length
     returns
     mul-predicate
-    array-copy-out-predicate
+    element-copy-out-predicate
     predicate-row-requires
     same-length-2
     returns-2

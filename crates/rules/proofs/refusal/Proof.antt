@@ -14,19 +14,19 @@ use Rattle.rules.proofs.refusal.Statement.{statement}
 use Rattle.rules.proofs.refusal.Tie as tie
 
 -- past the branch on a test, the test holds
-passed-3 : (c : tie.Else1) → requirement-obeys (c .before .before .before .args .table) (c .before .before .before .args .predicates) ≡ true
+passed-3 : (c : tie.Else1) → requirement-obeys (c .before .before .before .before .args .table) (c .before .before .before .before .args .setup .predicates) ≡ true
 passed-3 c = sym (c .before .requirement-obeys .ensures) ∙ not-false _ (c .if1 .left)
 
-passed-4 : (c : tie.Else2) → channels-obey (c .before .before .before .before .before .args .predicates) (c .before .before .before .before .before .args .channels) ≡ true
+passed-4 : (c : tie.Else2) → channels-obey (c .before .before .before .before .before .before .args .setup .predicates) (c .before .before .before .before .before .before .args .setup .channels) ≡ true
 passed-4 c = sym (c .before .channels-obey .ensures) ∙ not-false _ (c .if2 .left)
 
-passed-5 : (c : tie.Else3) → lengths-obey (c .before .before .before .before .before .before .before .args .channels) (length (c .before .before .before .before .before .before .before .args .times .now)) (length (c .before .before .before .before .before .before .before .args .values .now)) ≡ true
+passed-5 : (c : tie.Else3) → lengths-obey (c .before .before .before .before .before .before .before .before .args .setup .channels) (length (c .before .before .before .before .before .before .before .before .args .times .now)) (length (c .before .before .before .before .before .before .before .before .args .values .now)) ≡ true
 passed-5 c = sym (c .before .lengths-obey .ensures) ∙ not-false _ (c .if3 .left)
 
-passed-6 : (c : tie.Else4) → times-obey (c .before .before .before .before .before .before .before .before .before .args .times .now) ≡ true
+passed-6 : (c : tie.Else4) → times-obey (c .before .before .before .before .before .before .before .before .before .before .args .times .now) ≡ true
 passed-6 c = sym (c .before .times-obey .ensures) ∙ not-false _ (c .if4 .left)
 
-passed-7 : (c : tie.Else5) → values-obey (c .before .before .before .before .before .before .before .before .before .before .before .args .values .now) ≡ true
+passed-7 : (c : tie.Else5) → values-obey (c .before .before .before .before .before .before .before .before .before .before .before .before .args .values .now) ≡ true
 passed-7 c = sym (c .before .values-obey .ensures) ∙ not-false _ (c .if5 .left)
 
 requirement-obeys-requires : tie.Need-requirement-obeys-requires

@@ -18,7 +18,7 @@ passed-9 c = sym (c .before .step-obeys .ensures) ∙ not-false _ (c .if1 .left)
 passed-10 : (c : tie.Else2) → times-close (c .before .before .before .before .before .args .times .now) (c .before .before .before .before .before .args .step) ≡ true
 passed-10 c = sym (c .before .times-close .ensures) ∙ not-false _ (c .if2 .left)
 
-passed-11 : (c : tie.Else3) → values-near (c .before .before .before .before .before .before .before .args .channels) (c .before .before .before .before .before .before .before .args .values .now) (c .before .before .before .before .before .before .before .args .drift) ≡ true
+passed-11 : (c : tie.Else3) → values-near (c .before .before .before .before .before .before .before .args .setup .channels) (c .before .before .before .before .before .before .before .args .values .now) (c .before .before .before .before .before .before .before .args .drift) ≡ true
 passed-11 c = sym (c .before .values-near .ensures) ∙ not-false _ (c .if3 .left)
 
 step-obeys-requires : tie.Need-step-obeys-requires

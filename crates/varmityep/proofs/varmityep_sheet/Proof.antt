@@ -57,7 +57,7 @@ returns-2 c =
     let m = p .before .before .before .before .before .before in
     let q = m .before .before .before in
     let n = q .before .before .before .before in
-    let z = n .before .before .before .before in
+    let z = n .before .before .before .before .before in
     let s = z .before .before .read-sheet .ensures in
     rw (rw s at (z .if1 .left)) (refl, (rw s at (n .write-numbers .ensures), (rw (q .places-of .ensures, s) at (m .write-numbers2 .ensures), (rw s at (p .write-predicates .ensures .0), rw s at (p .write-predicates .ensures .1)))))
 

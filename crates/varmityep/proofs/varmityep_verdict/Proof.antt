@@ -8,8 +8,8 @@ use Rattle.varmityep.proofs.varmityep_verdict.Tie as tie
 table-from-requires : tie.Need-table-from-requires
 table-from-requires c κs = search needs
 
-predicates-from-requires : tie.Need-predicates-from-requires
-predicates-from-requires c κs = search needs
+setup-from-requires : tie.Need-setup-from-requires
+setup-from-requires c κs = search needs
 
 verdict-requires : tie.Need-verdict-requires
 verdict-requires c κs = search needs
@@ -30,15 +30,15 @@ returns c =
     let m = w .before .before .before in
     let p = m .before .before in
     let t = p .before in
-    let e = rw (t .table-from .ensures, p .predicates-from .ensures) at (m .verdict .ensures .0) in
-    (rw (w .hand-verdict .ensures .0, e), (rw (t .table-from .ensures, p .predicates-from .ensures) at (m .verdict .ensures .1), rw e at (w .hand-verdict .ensures .1)))
+    let e = rw (t .table-from .ensures, p .setup-from .ensures) at (m .verdict .ensures .0) in
+    (rw (w .hand-verdict .ensures .0, e), (rw (t .table-from .ensures, p .setup-from .ensures) at (m .verdict .ensures .1), rw e at (w .hand-verdict .ensures .1)))
 
 pub varmityep-verdict-spec : {M : Type 1} → statement M
 varmityep-verdict-spec =
     tie.close
     (tie.spec
     table-from-requires
-    predicates-from-requires
+    setup-from-requires
     verdict-requires
     hand-verdict-requires
     same-length

@@ -13,11 +13,11 @@ use Rattle.verdicts.proofs.strong_rows.Tie as tie
 use Rattle.recordings.specs.Card.{card}
 
 abbrev Inv-loop : tie.InvT-loop
-Inv-loop table predicates channels times values step work₀ end row₀ work row =
-    (end ≡ 2 * table .count) × (row ≤ end) × (work ≡ fill-rows (length times) (row-value (card predicates channels times values) step (table .nodes)) row work₀)
+Inv-loop table setup times values step work₀ end row₀ work row =
+    (end ≡ 2 * table .count) × (row ≤ end) × (work ≡ fill-rows (length times) (row-value (card setup times values) step (table .nodes)) row work₀)
 
 abbrev μ-loop : tie.MeasureT-loop
-μ-loop table predicates channels times values step work₀ end row₀ work row = end - row
+μ-loop table setup times values step work₀ end row₀ work row = end - row
 
 mul-end : tie.Need-mul-end Inv-loop μ-loop
 mul-end c = omega (arith, c .before .before .pre .sound .ruled .few-nodes)

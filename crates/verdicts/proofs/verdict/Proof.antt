@@ -14,7 +14,7 @@ use Rattle.refusals.specs.First.{first}
 use Rattle.rules.specs.Refusals.{checks, Sound}
 use Rattle.rules.proofs.Refusals.{sound}
 use Rattle.sampling.specs.Sampling.{checks as sampling-checks}
-use Rattle.sampling.proofs.Sampling.{measured, accepted, first-alone}
+use Rattle.sampling.proofs.Sampling.{measured, accepted}
 use Rattle.verdicts.specs.Cells.{strong}
 use Rattle.verdicts.specs.Rows.{Ready}
 use Rattle.verdicts.specs.Answer.{verdict-refusal}
@@ -27,7 +27,7 @@ use Rattle.recordings.specs.Accepted.{LONGEST-STEP, LARGEST-DRIFT}
 
 -- what is handed over
 abbrev card-of : tie.Start → Card
-card-of s = card (s .args .predicates) (s .args .channels) (s .args .times .now) (s .args .values .now)
+card-of s = card (s .args .setup) (s .args .times .now) (s .args .values .now)
 
 -- past the first branch refusals 3 to 7 do not apply
 early-zero : (c : tie.Else1) → first (checks (card-of (c .before .before .before)) (c .before .before .before .args .table)) ≡ 0
@@ -38,7 +38,7 @@ sound-at c = sound (card-of (c .before .before .before)) (c .before .before .bef
 
 -- past the third refusals 9 to 11 do not either
 late-zero : (c : tie.Else3) → first (sampling-checks (card-of (c .before .before .before .before .before .before)) (c .before .before .before .before .before .before .args .step) (c .before .before .before .before .before .before .args .drift)) ≡ 0
-late-zero c = sym (first-alone (card-of (c .before .before .before .before .before .before)) _ _) ∙ (sym (c .before .refusal2 .ensures) ∙ c .if3 .left)
+late-zero c = sym (c .before .refusal2 .ensures) ∙ c .if3 .left
 
 small-at : (c : tie.Else3) → (c .before .before .before .before .before .before .args .step ≤ LONGEST-STEP) × (c .before .before .before .before .before .before .args .drift ≤ LARGEST-DRIFT)
 small-at c =
@@ -78,7 +78,7 @@ refusal-requires-2 c κs = measured (sound-at (c .before) .recorded)
 returns-3 : tie.Need-returns-3
 returns-3 c =
     let s = c .before .before .before .before .before .before in
-    let r = refused-late (card-of s) (s .args .table) (s .args .step) (s .args .drift) (length (s .args .work .now)) (early-zero (c .before .before .before)) (c .before .before .if2 .left) ∙ (sym (first-alone (card-of s) (s .args .step) (s .args .drift)) ∙ sym (c .before .refusal2 .ensures)) in
+    let r = refused-late (card-of s) (s .args .table) (s .args .step) (s .args .drift) (length (s .args .work .now)) (early-zero (c .before .before .before)) (c .before .before .if2 .left) ∙ sym (c .before .refusal2 .ensures) in
     (refused-outcome (card-of s) (s .args .table) (s .args .step) (s .args .drift) (length (s .args .work .now)) _ r (c .if3 .taken), cells-kept (card-of s) (s .args .table) (s .args .step) (s .args .drift) (s .args .work .now) _ r (c .if3 .taken))
 
 strong-rows-requires : tie.Need-strong-rows-requires
