@@ -3,13 +3,14 @@
 -- Assumes nothing.
 use mathlib.Core.Path.{_≡_, refl, sym, ap, ap₂, _∙_, subst}
 use mathlib.Core.Bool.{Bool, true, false, not, cond, _&&_, _||_}
-use Prim.Native.Nat.{ℕ, _≤_, _<_}
+use Prim.Native.Nat.{ℕ, _+_, _*_, _≤_, _<_}
 use native.Mathlib.Omega.{arith}
+use native.Mathlib.Nat.{mul-add, mul-lt-mul-of-pos-left, lt-of-mul-lt-mul-left}
 use lib.Dec.{T}
-use lib.IntN.{ℤ, pos, negℤ, sucℤ, negℤ-negℤ}
+use lib.IntN.{ℤ, pos, negℤ, sucℤ, _*ℤ_, negℤ-negℤ}
 use lib.Signed.{ltZ}
 use Rattle.numbers.specs.Order.{smaller-of, larger-of, Within}
-use Rattle.numbers.proofs.Parts.{plus, minus, lt-parts, parts-lt, nlt-parts, parts-nlt, plus-neg, minus-neg, suc-parts, abs-parts, within-either}
+use Rattle.numbers.proofs.Parts.{plus, minus, lt-parts, parts-lt, nlt-parts, parts-nlt, plus-neg, minus-neg, suc-parts, abs-parts, plus-times, minus-times, times-neg, within-either}
 use Rattle.lists.proofs.Below.{same-test}
 use Rattle.logic.specs.declared.Extremum.{Extremum}
 use Rattle.logic.specs.declared.Extremum.the-variants.{Largest, Smallest}
@@ -111,6 +112,13 @@ sign-step top h = record {
 pub sign-negated : (a : ℤ) (c : Bool) → Sign a c → Sign (negℤ a) (not c)
 sign-negated a c h = record { when-true = h .when-false; when-false = rw (negℤ-negℤ a) (h .when-true ∙ sym (booleans-dual .twice c)) }
 
+pub sign-not-zero : {z : ℤ} {b : Bool} → Sign z b → z ≡ pos 0 → ⊥
+sign-not-zero {z} {b} s e = clash b (rw e at (s .when-true)) (rw e at (s .when-false))
+  where
+    clash : (b : Bool) → false ≡ b → false ≡ not b → ⊥
+    clash true p q = subst T (sym p) tt
+    clash false p q = subst T (sym q) tt
+
 -- z decides b by more than e: above e it says true, below -e it says false
 pub record Decides (e : ℕ) (z : ℤ) (b : Bool) : Type 0 where
   pub when-true : T (above (pos e) z) → T b
@@ -134,6 +142,25 @@ decides-step e top = record {
     nothing : (x : Extremum) → Decides e (margin-nothing top x) (boolean-nothing x)
     nothing Largest = record { when-true = λ t. absurd (low t); when-false = λ t. tt }
     nothing Smallest = record { when-true = λ t. tt; when-false = λ t. absurd (low t) }
+
+-- ---- k times a margin, as a scale makes it
+above-times : (k e f : ℕ) (z : ℤ) → k * e ≤ f → T (above (pos f) (pos k *ℤ z)) → T (above (pos e) z)
+above-times k e f z h t =
+    let l : k * (e + minus z) < k * plus z = omega (arith, lt-parts (pos f) (pos k *ℤ z) t, plus-times k z, minus-times k z, mul-add k e (minus z)) in
+    parts-lt (pos e) z (omega (arith, lt-of-mul-lt-mul-left k l))
+
+-- it has the same sign
+pub sign-times : (k : ℕ) → 0 < k → {z : ℤ} {b : Bool} → Sign z b → Sign (pos k *ℤ z) b
+sign-times k h {z} s = record { when-true = same z ∙ s .when-true; when-false = rw (times-neg k z) (same (negℤ z) ∙ s .when-false) }
+  where
+    same : (a : ℤ) → above (pos 0) (pos k *ℤ a) ≡ above (pos 0) a
+    same a =
+        same-test (above-times k 0 0 a (omega arith))
+        (λ t. let l : minus a < plus a = omega (arith, lt-parts (pos 0) a t) in parts-lt (pos 0) (pos k *ℤ a) (omega (arith, mul-lt-mul-of-pos-left l h, plus-times k a, minus-times k a)))
+
+-- and decides by k times as much
+pub decides-times : (k e f : ℕ) → k * e ≤ f → {z : ℤ} {b : Bool} → Decides e z b → Decides f (pos k *ℤ z) b
+decides-times k e f h {z} s = record { when-true = λ t. s .when-true (above-times k e f z h t); when-false = λ t. s .when-false (above-times k e f (negℤ z) h (rw (times-neg k z) at t)) }
 
 -- no margin is further from zero than top
 pub bounded-step : (top : ℕ) → Step (margins top) booleans (λ z b. Within top z)

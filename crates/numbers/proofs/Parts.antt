@@ -3,10 +3,11 @@
 -- Assumes nothing.
 use mathlib.Core.Path.{_≡_, refl, sym, ap, subst}
 use mathlib.Core.Bool.{Bool, true, false, not, cond}
-use Prim.Native.Nat.{ℕ, zero, suc, _+_, _-_, _^_, _≤_, _<_, min, max}
+use Prim.Native.Nat.{ℕ, zero, suc, _+_, _-_, _*_, _^_, _≤_, _<_, min, max}
 use native.Mathlib.Omega.{arith}
+use native.Mathlib.Nat.{mul-add, mul-le-mul-left, mul-le-mul-right}
 use lib.Dec.{T, not-T, ltb, leb, ltb→lt, lt→ltb, leb→le, le→leb, nltb→le, nleb→lt}
-use lib.IntN.{ℤ, pos, negsuc, negℤ, sucℤ, _-ℤ_, _+ℤ_, subℕ, natAbs}
+use lib.IntN.{ℤ, pos, negsuc, negℤ, sucℤ, _-ℤ_, _+ℤ_, _*ℤ_, subℕ, natAbs}
 use lib.Signed.{ltZ, leZ, mag}
 use mir.Syntax.{w64}
 use mir.Val.{SFits}
@@ -125,6 +126,23 @@ add-parts (negsuc a) (negsuc b) = omega arith
 pub sub-parts : (a b : ℤ) → plus (a -ℤ b) + (minus a + plus b) ≡ minus (a -ℤ b) + (plus a + minus b)
 sub-parts a b = omega (arith, add-parts a (negℤ b), plus-neg b, minus-neg b)
 
+-- a natural number of times a whole number
+pub plus-times : (k : ℕ) (a : ℤ) → plus (pos k *ℤ a) ≡ k * plus a
+plus-times k (pos n) = refl
+plus-times k (negsuc n) = rw (plus-neg (pos (k * suc n))) (omega arith)
+
+pub minus-times : (k : ℕ) (a : ℤ) → minus (pos k *ℤ a) ≡ k * minus a
+minus-times k (pos n) = omega arith
+minus-times k (negsuc n) = minus-neg (pos (k * suc n))
+
+pub times-neg : (k : ℕ) (a : ℤ) → negℤ (pos k *ℤ a) ≡ pos k *ℤ negℤ a
+times-neg k a =
+    parts-eq (negℤ (pos k *ℤ a)) (pos k *ℤ negℤ a)
+    (rw (plus-neg (pos k *ℤ a), minus-neg (pos k *ℤ a), plus-times k a, minus-times k a, plus-times k (negℤ a), minus-times k (negℤ a), plus-neg a, minus-neg a) refl)
+
+pub times-one : (a : ℤ) → pos 1 *ℤ a ≡ a
+times-one a = parts-eq (pos 1 *ℤ a) a (omega (arith, plus-times 1 a, minus-times 1 a))
+
 -- the smaller and the larger: the positive part rises with the number and the negative part falls
 pub record Smaller (a b c : ℤ) : Type 0 where
   pub up : plus c ≡ min (plus a) (plus b)
@@ -166,6 +184,11 @@ within-diff {a} {b} h k = record { size = omega (arith, abs-parts (a -ℤ b), pa
 
 pub within-suc : {n : ℕ} {a : ℤ} → Within n a → Within (suc n) (sucℤ a)
 within-suc {a} h = record { size = omega (arith, abs-parts (sucℤ a), parts-apart (sucℤ a), suc-parts a, abs-parts a) }
+
+pub within-times : {m n : ℕ} {a : ℤ} (k : ℕ) → k ≤ m → Within n a → Within (m * n) (pos k *ℤ a)
+within-times {m} {n} {a} k h w =
+    let l : plus a + minus a ≤ n = omega (arith, abs-parts a, w .size) in
+    record { size = omega (arith, abs-parts (pos k *ℤ a), plus-times k a, minus-times k a, mul-add k (plus a) (minus a), mul-le-mul-left k l, mul-le-mul-right n h) }
 
 -- whichever of two a test takes: the smaller and the larger of two are such
 pub within-either : {n : ℕ} {a b : ℤ} (t : Bool) → Within n a → Within n b → Within n (cond t b a)

@@ -1,7 +1,7 @@
-// The smaller and the larger of two signed 64-bit numbers, whether one is at most the other, their difference, and a number's negative.
-// Only these functions compare or subtract margins, so that no proof above them sees how a sign is stored.
+// The smaller and the larger of two signed 64-bit numbers, whether one is at most the other, their difference and their product, and a number's negative.
+// Only these functions compare, subtract or multiply margins, so that no proof above them sees how a sign is stored.
 ghost use mathlib.Core.Path.{_≡_};
-ghost use lib.IntN.{negℤ, _-ℤ_, natAbs};
+ghost use lib.IntN.{negℤ, _-ℤ_, _*ℤ_, natAbs};
 ghost use lib.Signed.{leZ};
 ghost use mir.Syntax.{w64};
 ghost use mir.Val.{SFits};
@@ -38,6 +38,13 @@ pub fn difference(a: i64, b: i64) -> i64
     ensures { λ r. ⌜ r ≡ a -ℤ b ⌝ }
 {
     a - b
+}
+
+pub fn product(a: i64, b: i64) -> i64
+    requires { ⌜ SFits w64 (a *ℤ b) ⌝ }
+    ensures { λ r. ⌜ r ≡ a *ℤ b ⌝ }
+{
+    a * b
 }
 
 // The number without its sign. The least number's is one more than any signed number, so it is taken in two steps.
