@@ -22,7 +22,7 @@ module _ (a b : List ℕ) (room : ℕ) (alike : (j : ℕ) → j < room → getD 
   same-nodes zero h = refl
   same-nodes (suc k) h = rw (same-nodes k (omega arith), same-node k (omega arith))
 
-padded-at : (ns : List ℕ) (room j : ℕ) → j < room → getD (written ns (replicate room 0)) j 0 ≡ getD ns j 0
+pub padded-at : (ns : List ℕ) (room j : ℕ) → j < room → getD (written ns (replicate room 0)) j 0 ≡ getD ns j 0
 unfolding written
 padded-at ns room j h = rw length-replicate (go (decLt j (length ns)))
   where

@@ -8,7 +8,6 @@ use Rattle.lists.specs.Fill.{fill}
 use Rattle.recordings.specs.declared.Predicate.{Predicate}
 use Rattle.recordings.specs.declared.Range.{Range}
 use Rattle.recordings.specs.declared.Range.the-variants.{Unset, Free, AtLeast, AtMost, Between}
-use Rattle.recordings.specs.declared.Setup.{Setup}
 use Rattle.predicate_lines.specs.Form.{unset}
 
 -- ---- written
@@ -61,7 +60,3 @@ predicate-from ranges ends p =
 
 unfoldable pub predicates-from : List ℕ → List ℤ → List Predicate
 predicates-from ranges ends = fill 0 16 (predicate-from ranges ends) unset
-
--- a card's setup
-abbrev pub setup-from : List ℕ → List ℤ → ℕ → Setup
-setup-from ranges ends channels = record { channels = channels; predicates = predicates-from ranges ends }

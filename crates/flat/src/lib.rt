@@ -1,8 +1,10 @@
-// Tables, predicates and places as flat numbers in slices of any length, for callers that have no types of ours. Nothing is asked of a slice: a place that it doesn't have
+// Tables, predicates, scales and places as flat numbers in slices of any length, for callers that have no types of ours. Nothing is asked of a slice: a place that it doesn't have
 // reads as 0 and is not written.
 use building::CELLS;
+use recordings::MOST_CHANNELS;
 use recordings::Predicate;
 use recordings::Range;
+use recordings::Scales;
 use recordings::Setup;
 use requirement_lines::Place;
 use tables::Node;
@@ -15,7 +17,8 @@ ghost use Rattle.building.specs.Storing.{cells-of};
 ghost use Rattle.flat.specs.Written.{written};
 ghost use Rattle.flat.specs.Tables.{table-from};
 ghost use Rattle.flat.specs.Places.{places-of};
-ghost use Rattle.flat.specs.Predicates.{range-number, lo-of, hi-of, ranges-of, ends-of, range-from, predicate-from, predicates-from, setup-from};
+ghost use Rattle.flat.specs.Predicates.{range-number, lo-of, hi-of, ranges-of, ends-of, range-from, predicate-from, predicates-from};
+ghost use Rattle.flat.specs.Scales.{each-obeys, scales-from, setup-from};
 
 // Writes numbers into a slice from its front on.
 pub fn write_numbers(new: &[u64], out: &mut [u64])
@@ -136,12 +139,42 @@ pub fn predicates_from(ranges: &[u64], ends: &[i64]) -> [Predicate; 16]
     predicates
 }
 
-// The setup of flat numbers.
-pub fn setup_from(ranges: &[u64], ends: &[i64], channels: u64) -> Setup
-    ensures { λ r. ⌜ r ≡ setup-from (now (ranges .entry)) (now (ends .entry)) channels ⌝ }
+// Whether every scale is in range.
+fn each_obeys(scales: &[u64]) -> bool
+    ensures { λ r. ⌜ r ≡ each-obeys (now (scales .entry)) ⌝ }
 {
+    let mut ok = true;
+    let mut i = 0;
+    while i < scales.len() {
+        let obeys = scales::scale_obeys(scales[i]);
+        ok = ok & obeys;
+        i += 1;
+    }
+    ok
+}
+
+// The first eight scales of a slice; one of all that is out of range makes them 0, so that it is judged.
+fn scales_from(scales: &[u64]) -> Scales
+    ensures { λ r. ⌜ r ≡ scales-from (now (scales .entry)) ⌝ }
+{
+    let mut each = [0u64; MOST_CHANNELS];
+    if each_obeys(scales) {
+        write_numbers(scales, &mut each);
+    }
+    Scales {
+        count: scales.len(),
+        each: each,
+    }
+}
+
+// The setup of flat numbers.
+pub fn setup_from(ranges: &[u64], ends: &[i64], channels: u64, scales: &[u64]) -> Setup
+    ensures { λ r. ⌜ r ≡ setup-from (now (ranges .entry)) (now (ends .entry)) channels (now (scales .entry)) ⌝ }
+{
+    let all = scales_from(scales);
     Setup {
         channels: channels as usize,
+        scales: all,
         predicates: predicates_from(ranges, ends),
     }
 }
@@ -221,6 +254,14 @@ pub fn places_of(places: [Place; 16]) -> [u64; 32]
         numbers[2 * k + 1] = place.to as u64;
     }
     numbers
+}
+
+// Writes all eight scales into a slice.
+pub fn write_scales(scales: Scales, out: &mut [u64])
+    ensures { λ _. ⌜ now (out .exit) ≡ written (scales .each) (now (out .entry)) ⌝ }
+{
+    let each = scales.each;
+    write_numbers(&each, out);
 }
 
 // Writes predicates into two slices.

@@ -1,35 +1,52 @@
--- Behind the first line of a text that begins with a head, lines that begin as predicates' do stand by rising number: they are the first of the head's predicate lines,
--- which end at a line with another key.
+-- Those of a head's lines that begin as predicates' do are its predicate lines, since every other line has another key. So they stand by rising number.
 -- Assumes nothing.
-use mathlib.Core.Path.{_≡_, refl, sym, ap, _∙_}
-use mathlib.Core.List.{List, [], _∷_, _++_, append-assoc, append-nil}
+use mathlib.Core.Path.{_≡_, refl, ap, _∙_}
+use mathlib.Core.List.{List, [], _∷_, _++_, append-nil}
 use mathlib.Core.Bool.{true, false}
 use Prim.Native.Nat.{ℕ}
-use Rattle.text.proofs.Tests.{false-true}
+use Rattle.text.specs.Mark.{prefix-of}
 use Rattle.lines.proofs.Lines.{Each, none, also}
-use Rattle.predicate_lines.specs.Form.{is-predicate}
+use Rattle.scale_lines.specs.Form.{ScaleLine}
+use Rattle.scale_lines.proofs.Exact.{each-scale}
+use Rattle.recordings.specs.declared.Predicate.{Predicate}
+use Rattle.predicate_lines.specs.Form.{PredicateLine, is-predicate}
 use Rattle.predicate_lines.specs.Rising.{Rising}
-use Rattle.predicate_lines.proofs.Rising.{lines-rise, rising-front}
+use Rattle.predicate_lines.proofs.Exact.{each-line}
+use Rattle.predicate_lines.proofs.Rising.{lines-rise}
 use Rattle.heads.specs.declared.Head.{Head}
 use Rattle.heads.specs.Form.{HeadForm}
-use Rattle.heads.proofs.Exact.{step-other}
+use Rattle.heads.specs.Order.{predicates-among}
 
--- lines that end at the first which begins otherwise: those in front that begin as a predicate's do are among them
-among : {ps : List (List ℕ)} → Each (λ (l : List ℕ). is-predicate l ≡ true) ps → (rest ls : List (List ℕ)) (l : List ℕ) (more : List (List ℕ)) → is-predicate l ≡ false → ls ++ (l ∷ more) ≡ ps ++ rest
-    → (ms : List (List ℕ)) × (ls ≡ ps ++ ms)
-among none rest ls l more h e = (ls, refl)
-among (also {l = p} {ls = ps} d begin) rest [] l more h e = let f : l ≡ p = cc in absurd (false-true (sym h ∙ (ap is-predicate f ∙ d)))
-among (also {l = p} {ls = ps} d begin) rest (k ∷ ls) l more h e =
-    let f : k ≡ p = cc in
-    let g : ls ++ (l ∷ more) ≡ ps ++ rest = cc in
-    let r = among begin rest ls l more h g in
-    (r .0, ap (λ (x : List ℕ). x ∷ ls) f ∙ ap (λ (x : List (List ℕ)). p ∷ x) (r .1))
+-- a line that begins otherwise is passed over, and one that begins as a predicate's does is kept
+among-others : {ls : List (List ℕ)} (ms : List (List ℕ)) → Each (λ (l : List ℕ). is-predicate l ≡ false) ls → predicates-among (ls ++ ms) ≡ predicates-among ms
+unfolding predicates-among
+among-others ms none = refl
+among-others ms (also p h) = rw p (among-others ms h)
 
-pub head-rising : {ls : List (List ℕ)} {h : Head} → HeadForm ls h → (more : List (List ℕ)) (first : List ℕ) (ps rest : List (List ℕ))
-    → ls ++ more ≡ first ∷ (ps ++ rest) → Each (λ (l : List ℕ). is-predicate l ≡ true) ps → Rising ps
-head-rising f more first ps rest e begin =
-    let g : f .chan ∷ (f .ps ++ (f .step ∷ f .drift ∷ more)) ≡ first ∷ (ps ++ rest) =
-    sym (ap (λ (x : List (List ℕ)). x ++ more) (f .sequence) ∙ ap (λ (x : List (List ℕ)). f .chan ∷ x) (append-assoc (f .ps) (f .step ∷ f .drift ∷ []) more)) ∙ e in
-    let i : f .ps ++ (f .step ∷ f .drift ∷ more) ≡ ps ++ rest = cc in
-    let m = among begin rest (f .ps) (f .step) (f .drift ∷ more) (rw (append-nil (f .step)) at (step-other (f .steps) [])) i in
-    rising-front ps (m .0) (rw (m .1) at (lines-rise (f .predicates)))
+among-predicates : {ls : List (List ℕ)} (ms : List (List ℕ)) → Each (λ (l : List ℕ). is-predicate l ≡ true) ls → predicates-among (ls ++ ms) ≡ ls ++ predicates-among ms
+unfolding predicates-among
+among-predicates ms none = refl
+among-predicates ms (also {l} p h) = rw p (ap (λ (x : List (List ℕ)). l ∷ x) (among-predicates ms h))
+
+-- ---- a head's lines
+
+scale-other : (l : List ℕ) (channel scale : ℕ) → ScaleLine l channel scale → is-predicate l ≡ false
+unfolding prefix-of
+scale-other l channel scale line = ap is-predicate (line .spelled)
+
+predicate-key : (l : List ℕ) (k : ℕ) (p : Predicate) → PredicateLine l k p → is-predicate l ≡ true
+unfolding prefix-of
+predicate-key l k p line = ap is-predicate (line .spelled)
+
+module _ {ls : List (List ℕ)} {h : Head} (f : HeadForm ls h) where
+  head-predicates : predicates-among ls ≡ f .ps
+  unfolding prefix-of predicates-among
+  head-predicates =
+      ap predicates-among (f .sequence)
+      ∙ (among-others (f .ps ++ (f .step ∷ f .drift ∷ [])) (also {l = f .chan} (ap is-predicate (f .channels .spelled)) (each-scale scale-other (f .scales)))
+      ∙ (among-predicates (f .step ∷ f .drift ∷ []) (each-line predicate-key (f .predicates))
+      ∙ (ap (λ (x : List (List ℕ)). f .ps ++ x) (among-others {ls = f .step ∷ f .drift ∷ []} [] (also (ap is-predicate (f .steps .spelled)) (also (ap is-predicate (f .drifts .spelled)) none)))
+      ∙ append-nil (f .ps))))
+
+  pub head-rising : Rising (predicates-among ls)
+  head-rising = rw head-predicates (lines-rise (f .predicates))

@@ -1,10 +1,11 @@
-// The head of a sheet: `chan=`, `p=` lines, `step=`, `drift=`, in this order. Each line reader answers the place of the next line, so one line more is one reader more.
+// The head of a sheet: `chan=`, `c=` lines, `p=` lines, `step=`, `drift=`, in this order. Each line reader answers the place of the next line, so one line more is one reader more.
 use predicate_lines::Predicates;
+use recordings::Scales;
 use recordings::Setup;
 use text::Field;
 ghost use mathlib.Core.Path.{_≡_};
 ghost use Rattle.heads.specs.Form.{no-head};
-ghost use Rattle.heads.specs.Reading.{broken-head, behind-channels, head-of};
+ghost use Rattle.heads.specs.Reading.{broken-head, behind-scales, head-of};
 
 // What the head's lines say.
 pub struct Head {
@@ -24,10 +25,12 @@ pub struct HeadLines {
 pub fn no_head() -> Head
     ensures { λ r. ⌜ r ≡ no-head ⌝ }
 {
-    let none = predicate_lines::unset_predicates();
+    let scales = scale_lines::no_scales();
+    let predicates = predicate_lines::unset_predicates();
     let setup = Setup {
         channels: 0,
-        predicates: none,
+        scales: scales,
+        predicates: predicates,
     };
     Head {
         setup: setup,
@@ -47,9 +50,9 @@ fn broken() -> HeadLines
     }
 }
 
-// What follows the channels' line.
-fn read_behind(s: &[u8], channels: usize, predicates: Predicates) -> HeadLines
-    ensures { λ r. ⌜ r ≡ behind-channels (now (s .entry)) channels predicates ⌝ }
+// What follows the scale lines.
+fn read_behind(s: &[u8], channels: usize, scales: Scales, predicates: Predicates) -> HeadLines
+    ensures { λ r. ⌜ r ≡ behind-scales (now (s .entry)) channels scales predicates ⌝ }
 {
     if !predicates.ok {
         return broken();
@@ -64,6 +67,7 @@ fn read_behind(s: &[u8], channels: usize, predicates: Predicates) -> HeadLines
     let all = predicates.all;
     let setup = Setup {
         channels: channels,
+        scales: scales,
         predicates: all,
     };
     let head = Head {
@@ -85,6 +89,10 @@ pub fn read_head(s: &[u8]) -> HeadLines
     let Field::Number(channels, next) = number_lines::read_number(s, 0, b"chan=") else {
         return broken();
     };
-    let predicates = predicate_lines::read_predicates(s, next);
-    read_behind(s, channels as usize, predicates)
+    let scales = scale_lines::read_scales(s, next, channels as usize);
+    if !scales.ok {
+        return broken();
+    }
+    let predicates = predicate_lines::read_predicates(s, scales.next);
+    read_behind(s, channels as usize, scales.scales, predicates)
 }

@@ -5,14 +5,15 @@ use mathlib.Core.List.{List, [], _∷_}
 use Prim.Native.Nat.{ℕ, _*_, _+_, _≤_, _<_}
 use lib.Dec.{leb→le, le→leb}
 use lib.IntN.{ℤ, pos}
+use lib.Signed.{ltZ}
 use lib.ListN.{length, getD}
 use Rattle.numbers.specs.Order.{Within}
 use Rattle.lists.specs.Fill.{fill-rows}
 use Rattle.lists.proofs.Filled.{rows-in, rows-out}
 use Rattle.recordings.specs.Distance.{TOP}
 use Rattle.recordings.specs.Card.{Card, rows}
-use Rattle.recordings.specs.Margin.{margin}
-use Rattle.recordings.proofs.Margins.{margin-bounded, margin-not-zero}
+use Rattle.recordings.specs.Margin.{margin, true-of}
+use Rattle.recordings.proofs.Margins.{recorded-positive, margin-bounded, margin-truth, margin-not-zero}
 use Rattle.tables.specs.declared.Table.{Table}
 use Rattle.tables.specs.Tree.{tree, root}
 use Rattle.refusals.specs.First.{AllExact, Refused}
@@ -56,7 +57,11 @@ module _ (c : Card) (t : Table) (cells : ℕ) where
   margin-is e = unless-none _ _ e
 
   pub margin-nonzero : margin-judged c t cells .number ≡ 0 → margin-judged c t cells .margin ≡ pos 0 → ⊥
-  margin-nonzero e h = margin-not-zero c (root t) 0 (sym (margin-is e) ∙ h)
+  margin-nonzero e h = margin-not-zero (recorded-positive (number-none e .0 .recorded)) (root t) 0 (sym (margin-is e) ∙ h)
+
+  -- it is above 0 exactly when the requirement is true of the samples
+  pub margin-sign : margin-judged c t cells .number ≡ 0 → ltZ (pos 0) (margin-judged c t cells .margin) ≡ true-of c (root t) 0
+  margin-sign e = rw (margin-is e) (margin-truth (recorded-positive (number-none e .0 .recorded)) (root t) 0)
 
   pub margin-within : margin-judged c t cells .number ≡ 0 → Within TOP (margin-judged c t cells .margin)
   margin-within e = rw (margin-is e) (margin-bounded (number-none e .0 .recorded) (root t) 0)

@@ -14,9 +14,10 @@ use Rattle.logic.specs.declared.Extremum.the-variants.{Smallest}
 use Rattle.logic.specs.Formula.{dual, future}
 use Rattle.logic.specs.Reading.{margin-extreme, margin-nothing}
 use Rattle.logic.specs.Negation.{turn}
-use Rattle.recordings.specs.Card.{Card, rows, predicate, samples}
+use Rattle.recordings.specs.Card.{Card, rows, scale, predicate, samples}
 use Rattle.recordings.specs.Distance.{TOP}
 use Rattle.recordings.specs.Margin.{distance-at}
+use Rattle.recordings.proofs.Margins.{channel-scaled}
 use Rattle.rows.specs.Cells.{signed, Above, Leaf}
 use Rattle.temporal.specs.declared.Left.{Left}
 use Rattle.temporal.specs.Reading.{temporal-at, LeftEarlier}
@@ -40,9 +41,14 @@ module _ {w : List ℤ} {c : Card} {n : Node} {left right row : ℕ} (a : NodeAs
   pub row-asks : (l : Left) (operand : ℕ) → LeftEarlier row l → operand < row → TemporalAsks w (c .times) l operand row
   row-asks l operand h k = record { left-earlier = h; right-earlier = k; right-bounded = a .bounded operand k; room = a .room; times-rise = record { rising = a .recorded .times .rising } }
 
-  pub leaf : n .kind ≡ predicate-kind → Leaf (c .values) (c .setup .channels) (predicate c (n .left)) (rows c)
+  -- a node names what is set, so its channel is there
+  pub channel-known : n .kind ≡ predicate-kind → predicate c (n .left) .channel < c .setup .channels
+  channel-known e = elim (a .recorded .channels .proper (n .left) .known) [ inl u ↦ absurd (a .set e u) | inr k ↦ k ]
+
+  pub leaf : n .kind ≡ predicate-kind → Leaf (c .values) (c .setup .channels) (predicate c (n .left)) (scale c (predicate c (n .left) .channel)) (rows c)
   leaf e = record {
-    known = elim (a .recorded .channels .proper (n .left) .known) [ inl u ↦ absurd (a .set e u) | inr k ↦ k ];
+    small-scale = channel-scaled (a .recorded) _ (channel-known e) .most;
+    known = channel-known e;
     ends = a .recorded .channels .proper (n .left) .ends;
     all-values = omega (arith, a .recorded .lengths .all-values);
     in-range = a .recorded .values;

@@ -38,7 +38,19 @@ pub fn node_row(
         let named = node.left;
         let predicate = setup.predicates[named];
         let channels = setup.channels;
-        return rows::predicate_row(predicate, channels, values, rows, affirmed, work, row);
+        let scales = setup.scales;
+        let channel = predicate.channel;
+        let scale = scales.each[channel];
+        return rows::predicate_row(
+            predicate,
+            scale,
+            channels,
+            values,
+            rows,
+            affirmed,
+            work,
+            row,
+        );
     }
     if kind == tables::NOT {
         return rows::signed_row(rows, true, work, left, row);

@@ -1,10 +1,10 @@
 -- Lines have the form exactly where each is a predicate's and their numbers rise: the least number still allowed is one above the line before, so every later number is above it.
 -- Assumes nothing.
 use mathlib.Core.Path.{_≡_, sym, ap, _∙_}
-use mathlib.Core.List.{List, [], _∷_, _++_, append-nil}
+use mathlib.Core.List.{List, [], _∷_, append-nil}
 use Prim.Native.Nat.{ℕ, zero, suc, _+_, _≤_, _<_}
 use native.Mathlib.Omega.{arith}
-use lib.ListN.{length, getD, set, length-append, List·getD-append}
+use lib.ListN.{length, getD, set}
 use Rattle.recordings.specs.declared.Predicate.{Predicate}
 use Rattle.recordings.specs.Card.{unset-predicate}
 use Rattle.predicate_lines.specs.declared.Line.{Line}
@@ -59,11 +59,3 @@ rising-from (l ∷ ls) r least h ps =
 
 pub rising-lines : (ls : List (List ℕ)) → Rising ls → (qs : List Predicate) × PredicateLines ls qs
 rising-lines ls r = rising-from ls r 0 (λ i h n a. omega arith) unset
-
--- the first of lines whose numbers rise rise too
-pub rising-front : (ls ms : List (List ℕ)) → Rising (ls ++ ms) → Rising ls
-rising-front ls ms r = record {
-  each = λ i h. rw (List·getD-append ls ms [] i h) at (r .each i (omega (arith, length-append ls ms)));
-  rise = λ i j l h m n a b. r .rise i j l (omega (arith, length-append ls ms)) m n
-      (rw (List·getD-append ls ms [] i (omega arith)) a) (rw (List·getD-append ls ms [] j h) b);
-}

@@ -19,10 +19,10 @@ use Rattle.logic.proofs.Carry.{carried, itself}
 use Rattle.logic.proofs.Line.{climbs}
 use Rattle.logic.proofs.Crossing.{Dense, Close, bridge}
 use Rattle.recordings.specs.declared.Range.the-variants.{Unset}
-use Rattle.recordings.specs.Card.{Card, rows, time, predicate, first-time, last-time, samples, span}
+use Rattle.recordings.specs.Card.{Card, rows, time, scale, predicate, first-time, last-time, samples, span}
 use Rattle.recordings.specs.Margin.{distance-at, robustness}
 use Rattle.recordings.specs.History.{Second, OneStep, History, true-when, true-over}
-use Rattle.recordings.proofs.Distances.{distance-decides}
+use Rattle.recordings.proofs.Distances.{scaled-decides}
 
 -- all that the argument asks of a recording: a sample, rising times, no gap above the step, and known channels
 pub record Sampled (c : Card) (step : ℕ) : Type 0 where
@@ -59,7 +59,7 @@ module _ {c : Card} {step : ℕ} (ok : Sampled c step) where
     atom-decides : (p i t : ℕ) → Close step (samples c) (span c) i t → Decides drift (distance-at top c p i) (true-when c h p t)
     atom-decides p i t n = elim (ok .known p) [
       | inl u ↦ rw u (decides-step drift top .nothing Smallest)
-      | inr u ↦ distance-decides drift top (predicate c p .range) _ _ (history .follows (predicate c p .channel) i t u (n .here .high) (record { from-first = n .there .low; to-last = omega (arith, n .there .high) }) (record { after = n .near .down; before = n .near .up }))
+      | inr u ↦ scaled-decides drift top (scale c (predicate c p .channel)) (predicate c p .range) _ _ (history .follows (predicate c p .channel) i t u (n .here .high) (record { from-first = n .there .low; to-last = omega (arith, n .there .high) }) (record { after = n .near .down; before = n .near .up }))
     ]
 
     literal : (b : Bool) (p i t : ℕ) → Close step (samples c) (span c) i t → T (above (pos drift) (read (margins top) (samples c) (distance-at top c) (strengthened step b (atom p)) i)) → T (read booleans (span c) (true-when c h) (push b (atom p)) t)

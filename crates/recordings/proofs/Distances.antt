@@ -3,20 +3,20 @@
 use mathlib.Core.Path.{_≡_, refl}
 use mathlib.Core.Bool.{Bool, true, false, not, cond}
 use mathlib.Core.Logic.{_⊎_, inl, inr}
-use Prim.Native.Nat.{ℕ, suc, _+_, _≤_, _<_}
+use Prim.Native.Nat.{ℕ, suc, _+_, _*_, _≤_, _<_}
 use native.Mathlib.Omega.{arith}
 use lib.Dec.{T}
-use lib.IntN.{ℤ, pos, negℤ, sucℤ, _-ℤ_, natAbs}
+use lib.IntN.{ℤ, pos, negℤ, sucℤ, _-ℤ_, _*ℤ_, natAbs}
 use lib.Signed.{leZ, ltZ}
 use Rattle.numbers.specs.Order.{Within}
-use Rattle.numbers.proofs.Parts.{plus, minus, lt-parts, parts-lt, le-parts, parts-le, nle-parts, parts-nle, plus-neg, minus-neg, abs-parts, suc-parts, sub-parts, within-diff, within-suc, within-more, within-either}
+use Rattle.numbers.proofs.Parts.{plus, minus, lt-parts, parts-lt, le-parts, parts-le, nle-parts, parts-nle, plus-neg, minus-neg, abs-parts, suc-parts, sub-parts, within-diff, within-suc, within-more, within-times, within-either}
 use Rattle.lists.proofs.Below.{same-test}
 use Rattle.logic.specs.declared.Extremum.the-variants.{Smallest}
-use Rattle.logic.proofs.Margins.{Sign, sign-step, Decides, decides-step}
+use Rattle.logic.proofs.Margins.{Sign, sign-step, sign-times, Decides, decides-step, decides-times}
 use Rattle.recordings.specs.declared.Range.{Range}
 use Rattle.recordings.specs.declared.Range.the-variants.{Unset, Free, AtLeast, AtMost, Between}
-use Rattle.recordings.specs.Distance.{contains, clearance, distance}
-use Rattle.recordings.specs.Accepted.{FARTHEST, InRange, Ends}
+use Rattle.recordings.specs.Distance.{contains, clearance, distance, is-free, scaled-distance}
+use Rattle.recordings.specs.Accepted.{FARTHEST, MOST-SCALE, InRange, Ends}
 
 -- ---- the clearance
 -- from a to b, and from c to d: two differences at most e apart
@@ -55,7 +55,7 @@ clearance-small n a b h k = within-either (leZ a b) (within-more (omega arith) (
 
 -- ---- the distance from a range
 -- a number at most e from the value: what the value's distance says of it
-pub distance-decides : (e top : ℕ) (r : Range) (v x : ℤ) → natAbs (x -ℤ v) ≤ e → Decides e (distance top r v) (contains r x)
+distance-decides : (e top : ℕ) (r : Range) (v x : ℤ) → natAbs (x -ℤ v) ≤ e → Decides e (distance top r v) (contains r x)
 distance-decides e top r v x h = go r
   where
     low : (lo : ℤ) → Decides e (clearance lo v) (leZ lo x)
@@ -72,7 +72,7 @@ distance-decides e top r v x h = go r
     go (Between lo hi) = decides-step e top .extremes Smallest (low lo) (high hi)
 
 -- the sign is the predicate's truth
-pub distance-sign : (top : ℕ) → 0 < top → (r : Range) (v : ℤ) → Sign (distance top r v) (contains r v)
+distance-sign : (top : ℕ) → 0 < top → (r : Range) (v : ℤ) → Sign (distance top r v) (contains r v)
 distance-sign top h Unset v = sign-step top h .nothing Smallest
 distance-sign top h Free v = sign-step top h .nothing Smallest
 distance-sign top h (AtLeast lo) v = clearance-sign lo v
@@ -81,23 +81,54 @@ distance-sign top h (Between lo hi) v = sign-step top h .extremes Smallest (clea
 
 -- a range that takes every number
 abbrev pub Open : Range → Type 0
-Open Unset = Unit
-Open Free = Unit
-Open (AtLeast lo) = ⊥
-Open (AtMost hi) = ⊥
-Open (Between lo hi) = ⊥
+Open r = T (is-free r)
 
 -- the distance of a value in range is at most 2,000,000,001 from zero, unless the range is open
-pub distance-small : (top : ℕ) (r : Range) (v : ℤ) → Ends r → InRange v → Open r ⊎ Within 2_000_000_001 (distance top r v)
-distance-small top Unset v h k = inl tt
-distance-small top Free v h k = inl tt
-distance-small top (AtLeast lo) v h k = inr (clearance-small FARTHEST lo v h k)
-distance-small top (AtMost hi) v h k = inr (clearance-small FARTHEST v hi k h)
-distance-small top (Between lo hi) v h k = inr (within-either (ltZ (clearance v hi) (clearance lo v)) (clearance-small FARTHEST lo v (h .0) k) (clearance-small FARTHEST v hi k (h .1)))
+pub distance-small : (top : ℕ) (r : Range) (v : ℤ) → Ends r → InRange v → (Open r → ⊥) → Within 2_000_000_001 (distance top r v)
+distance-small top Unset v h k o = absurd (o tt)
+distance-small top Free v h k o = absurd (o tt)
+distance-small top (AtLeast lo) v h k o = clearance-small FARTHEST lo v h k
+distance-small top (AtMost hi) v h k o = clearance-small FARTHEST v hi k h
+distance-small top (Between lo hi) v h k o = within-either (ltZ (clearance v hi) (clearance lo v)) (clearance-small FARTHEST lo v (h .0) k) (clearance-small FARTHEST v hi k (h .1))
 
-pub distance-open : (top : ℕ) (r : Range) (v : ℤ) → Open r → distance top r v ≡ pos top
-distance-open top Unset v o = refl
-distance-open top Free v o = refl
-distance-open top (AtLeast lo) v o = absurd o
-distance-open top (AtMost hi) v o = absurd o
-distance-open top (Between lo hi) v o = absurd o
+-- ---- in the channel's unit
+-- the top, or k times the distance: what holds of both holds of the scaled distance
+scaled-case : (P : ℤ → Bool → Type 0) (top k : ℕ) (r : Range) (v x : ℤ) → P (pos top) true → P (pos k *ℤ distance top r v) (contains r x) → P (scaled-distance top k r v) (contains r x)
+scaled-case P top k Unset v x free other = free
+scaled-case P top k Free v x free other = free
+scaled-case P top k (AtLeast lo) v x free other = other
+scaled-case P top k (AtMost hi) v x free other = other
+scaled-case P top k (Between lo hi) v x free other = other
+
+-- a number at most e from the value in the scaled unit: what the value's scaled distance says of it
+pub scaled-decides : (e top k : ℕ) (r : Range) (v x : ℤ) → k * natAbs (x -ℤ v) ≤ e → Decides e (scaled-distance top k r v) (contains r x)
+scaled-decides e top k r v x h = scaled-case (Decides e) top k r v x (decides-step e top .nothing Smallest) (decides-times k (natAbs (x -ℤ v)) e h (distance-decides (natAbs (x -ℤ v)) top r v x (omega arith)))
+
+pub scaled-sign : (top k : ℕ) → 0 < top → 0 < k → (r : Range) (v : ℤ) → Sign (scaled-distance top k r v) (contains r v)
+scaled-sign top k h s r v = scaled-case Sign top k r v v (sign-step top h .nothing Smallest) (sign-times k s (distance-sign top h r v))
+
+-- free apart, it is the scale times the distance
+pub scaled-times : (top k : ℕ) (r : Range) (v : ℤ) → (Open r → ⊥) → scaled-distance top k r v ≡ pos k *ℤ distance top r v
+scaled-times top k Unset v o = absurd (o tt)
+scaled-times top k Free v o = absurd (o tt)
+scaled-times top k (AtLeast lo) v o = refl
+scaled-times top k (AtMost hi) v o = refl
+scaled-times top k (Between lo hi) v o = refl
+
+pub free-or-not : (r : Range) → Open r ⊎ (Open r → ⊥)
+free-or-not r = go (is-free r)
+  where
+    go : (b : Bool) → T b ⊎ (T b → ⊥)
+    go true = inl tt
+    go false = inr (λ t. t)
+
+-- and, for a value in range, at most 1,000 × 2,000,000,001 from zero
+pub scaled-small : (top k : ℕ) → k ≤ MOST-SCALE → (r : Range) (v : ℤ) → Ends r → InRange v → Open r ⊎ Within 2_000_000_001_000 (scaled-distance top k r v)
+scaled-small top k m r v h n = elim (free-or-not r) [ inl o ↦ inl o | inr o ↦ inr (rw (scaled-times top k r v o) (within-times k m (distance-small top r v h n o))) ]
+
+pub scaled-open : (top k : ℕ) (r : Range) (v : ℤ) → Open r → scaled-distance top k r v ≡ pos top
+scaled-open top k Unset v o = refl
+scaled-open top k Free v o = refl
+scaled-open top k (AtLeast lo) v o = absurd o
+scaled-open top k (AtMost hi) v o = absurd o
+scaled-open top k (Between lo hi) v o = absurd o

@@ -1,7 +1,7 @@
 -- Demand 3 is not empty, and acceptance gives no history: the program's example has one, the ramp has none. Both are accepted; each sentence of acceptance is
 -- one test that computes over the recording.
 -- Assumes nothing.
-use mathlib.Core.Path.{_≡_, refl}
+use mathlib.Core.Path.{_≡_, refl, sym, _∙_}
 use mathlib.Core.Bool.{Bool}
 use mathlib.Core.Logic.{inl, inr}
 use Prim.Native.Nat.{ℕ, zero, suc, _+_, _-_, _*_, _≤_, _<_}
@@ -12,15 +12,18 @@ use lib.IntN.{ℤ, pos, _-ℤ_, natAbs}
 use Rattle.numbers.proofs.Parts.{abs-parts, sub-parts}
 use Rattle.lists.specs.Fold.{all-below}
 use Rattle.lists.proofs.Below.{all-at}
-use Rattle.recordings.specs.Card.{Card, rows, time, value, unset-predicate, predicate-at, predicate}
+use Rattle.recordings.specs.Card.{Card, rows, time, scale, value, unset-predicate, predicate-at, predicate}
 use Rattle.recordings.specs.History.{OneStep, History}
-use Rattle.recordings.specs.Accepted.{MOST-ROWS, LATEST, FARTHEST, LONGEST-STEP, LARGEST-DRIFT, Proper, Accepted}
+use Rattle.recordings.specs.Accepted.{MOST-ROWS, LATEST, FARTHEST, MOST-SCALE, LONGEST-STEP, LARGEST-DRIFT, Proper, Accepted}
 use Rattle.recordings.specs.Examples.{example, ramp}
 
 -- the sentences of acceptance for a recording of one channel, as tests that compute
 record Computed (c : Card) (step drift : ℕ) : Type 0 where
   one-channel : c .setup .channels ≡ 1
   proper : (p : ℕ) → Proper (predicate c p) (c .setup .channels)
+  one-scale : c .setup .scales .count ≡ 1
+  some-scale : T (leb 1 (scale c 0))
+  small-scale : T (leb (scale c 0) MOST-SCALE)
   some-row : T (leb 1 (rows c))
   few-rows : T (leb (rows c) MOST-ROWS)
   all-values : length (c .values) ≡ rows c * c .setup .channels
@@ -31,13 +34,18 @@ record Computed (c : Card) (step drift : ℕ) : Type 0 where
   short-step : T (leb step LONGEST-STEP)
   small-drift : T (leb drift LARGEST-DRIFT)
   no-gap : T (all-below (λ i. leb (time c (suc i)) (time c i + step)) (rows c - 1))
-  no-jump : T (all-below (λ i. leb (natAbs (value c 0 (suc i) -ℤ value c 0 i)) (2 * drift)) (rows c - 1))
+  no-jump : T (all-below (λ i. leb (scale c 0 * natAbs (value c 0 (suc i) -ℤ value c 0 i)) (2 * drift)) (rows c - 1))
 
 accepted : {c : Card} {step drift : ℕ} → Computed c step drift → Accepted c step drift
 accepted {c} {step} {drift} t = record {
   recorded = record {
     channels = record { some-channel = omega (arith, t .one-channel); few-channels = omega (arith, t .one-channel); proper = t .proper };
-    lengths = record { some-row = leb→le 1 (rows c) (t .some-row); few-rows = leb→le (rows c) MOST-ROWS (t .few-rows); all-values = t .all-values };
+    scaled = record {
+      each = λ ch h k.
+          let e : ch ≡ 0 = omega (arith, t .one-scale) in
+          rw e (record { some = leb→le 1 (scale c 0) (t .some-scale); most = leb→le (scale c 0) MOST-SCALE (t .small-scale) });
+    };
+    lengths = record { all-scales = t .one-scale ∙ sym (t .one-channel); some-row = leb→le 1 (rows c) (t .some-row); few-rows = leb→le (rows c) MOST-ROWS (t .few-rows); all-values = t .all-values };
     times = record {
       rising = λ i h. ltb→lt _ _ (all-at (λ j. ltb (time c j) (time c (suc j))) (rows c - 1) (t .rising) i (omega arith));
       small-times = λ i h. leb→le _ _ (all-at (λ j. leb (time c j) LATEST) (rows c) (t .small-times) i h);
@@ -51,7 +59,7 @@ accepted {c} {step} {drift} t = record {
   steady = record {
     no-jump = λ i ch h k.
         let e : ch ≡ 0 = omega (arith, t .one-channel) in
-        rw e (leb→le _ _ (all-at (λ j. leb (natAbs (value c 0 (suc j) -ℤ value c 0 j)) (2 * drift)) (rows c - 1) (t .no-jump) i (omega arith)));
+        rw e (leb→le _ _ (all-at (λ j. leb (scale c 0 * natAbs (value c 0 (suc j) -ℤ value c 0 j)) (2 * drift)) (rows c - 1) (t .no-jump) i (omega arith)));
   };
 }
 
@@ -70,6 +78,9 @@ pub example-accepted : Accepted example 1 2
 example-accepted = accepted (record {
   one-channel = refl;
   proper = at-least-five;
+  one-scale = refl;
+  some-scale = tt;
+  small-scale = tt;
   some-row = tt;
   few-rows = tt;
   all-values = refl;
@@ -88,7 +99,7 @@ abbrev pub course : ℕ → ℕ → ℤ
 course ch t = value example 0 t
 
 pub example-has-history : History example 1 2 course
-example-has-history = record { follows = λ ch i t h k s o. let e : ch ≡ 0 = omega arith in rw e (near i t k (omega (arith, s .to-last))) }
+example-has-history = record { follows = λ ch i t h k s o. let e : ch ≡ 0 = omega arith in rw e (omega (arith, near i t k (omega (arith, s .to-last)))) }
   where
     apart : ℕ → ℕ → Bool
     apart t i = leb (natAbs (value example 0 t -ℤ value example 0 i)) 2
@@ -101,6 +112,9 @@ pub ramp-accepted : Accepted ramp 1 1
 ramp-accepted = accepted (record {
   one-channel = refl;
   proper = unset-proper 16;
+  one-scale = refl;
+  some-scale = tt;
+  small-scale = tt;
   some-row = tt;
   few-rows = tt;
   all-values = refl;
@@ -120,4 +134,4 @@ ramp-has-no-history h history =
     omega (arith, at-one 0 (lit< tt) (record { after = lit≤ tt; before = lit≤ tt }), at-one 2 (lit< tt) (record { after = lit≤ tt; before = lit≤ tt }), abs-parts (h 0 1 -ℤ pos 5), sub-parts (h 0 1) (pos 5), abs-parts (h 0 1 -ℤ pos 9), sub-parts (h 0 1) (pos 9))
   where
     at-one : (i : ℕ) → i < 3 → OneStep ramp 1 i 1 → natAbs (h 0 1 -ℤ value ramp 0 i) ≤ 1
-    at-one i k o = history .follows 0 i 1 (lit< tt) k (record { from-first = lit≤ tt; to-last = lit≤ tt }) o
+    at-one i k o = omega (arith, history .follows 0 i 1 (lit< tt) k (record { from-first = lit≤ tt; to-last = lit≤ tt }) o)

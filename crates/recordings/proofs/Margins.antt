@@ -1,13 +1,13 @@
 -- The margin's sign is the truth over the samples, no margin is zero or beyond the top, and pushing "not" down changes neither margin nor truth. Each is one
 -- relation that the reading's operations keep.
 -- Assumes nothing.
-use mathlib.Core.Path.{_≡_, sym, subst}
-use mathlib.Core.Bool.{Bool, true, false, not}
+use mathlib.Core.Path.{_≡_}
+use mathlib.Core.Bool.{Bool}
 use mathlib.Core.Logic.{_⊎_, inl, inr}
 use Prim.Native.Nat.{ℕ, _+_, _*_, _≤_, _<_}
 use native.Mathlib.Omega.{arith}
 use native.Mathlib.Decide.{decLt}
-use lib.Dec.{T, lit<, lit≤}
+use lib.Dec.{lit<, lit≤}
 use lib.ListN.{length, getD, List·getD-eq-default}
 use lib.IntN.{ℤ, pos}
 use lib.Signed.{ltZ}
@@ -18,36 +18,38 @@ use Rattle.logic.specs.Reading.{booleans, margins}
 use Rattle.logic.specs.Negation.{push}
 use Rattle.logic.proofs.Steps.{read-step}
 use Rattle.logic.proofs.Duality.{signed, pushed, booleans-dual}
-use Rattle.logic.proofs.Margins.{Sign, sign-step, sign-negated, bounded-step, margins-dual}
-use Rattle.recordings.specs.Card.{Card, value, predicate, samples, span}
+use Rattle.logic.proofs.Margins.{Sign, sign-step, sign-negated, sign-not-zero, bounded-step, margins-dual}
+use Rattle.logic.specs.declared.Extremum.the-variants.{Smallest}
+use Rattle.recordings.specs.declared.Range.the-variants.{Unset}
+use Rattle.recordings.specs.Card.{Card, scale, value, predicate, samples, span}
 use Rattle.recordings.specs.Distance.{TOP}
 use Rattle.recordings.specs.Margin.{distance-at, true-at, robustness, margin, true-of}
 use Rattle.recordings.specs.History.{true-when, true-over}
-use Rattle.recordings.specs.Accepted.{InRange, Recorded}
-use Rattle.recordings.proofs.Distances.{Open, distance-sign, distance-small, distance-open}
+use Rattle.recordings.specs.Accepted.{ScaleInRange, InRange, Recorded}
+use Rattle.recordings.proofs.Distances.{Open, scaled-sign, scaled-small, scaled-open}
 
 pub top-positive : 0 < TOP
 top-positive = lit< tt
 
 -- ---- sign and truth
-pub robustness-sign : (top : ℕ) → 0 < top → (c : Card) (φ : Formula ℕ) (i : ℕ) → Sign (robustness top c φ i) (true-of c φ i)
+-- a distance times 0 would say nothing, so every set predicate's channel has a scale above 0; refusals 4, 13 and 5 see to it
+pub record Positive (c : Card) : Type 0 where
+  pub positive : (p : ℕ) → (predicate c p .range ≡ Unset) ⊎ (0 < scale c (predicate c p .channel))
+
+pub robustness-sign : (top : ℕ) → 0 < top → {c : Card} → Positive c → (φ : Formula ℕ) (i : ℕ) → Sign (robustness top c φ i) (true-of c φ i)
 unfolding robustness true-of
-robustness-sign top h c φ i = read-step (sign-step top h) (samples c) sign-negated (λ p j. distance-sign top h (predicate c p .range) (value c (predicate c p .channel) j)) φ i
+robustness-sign top h {c} s φ i = read-step (sign-step top h) (samples c) sign-negated atom-sign φ i
+  where
+    atom-sign : (p j : ℕ) → Sign (distance-at top c p j) (true-at c p j)
+    atom-sign p j = elim (s .positive p) [ inl u ↦ rw u (sign-step top h .nothing Smallest) | inr k ↦ scaled-sign top _ h k (predicate c p .range) (value c (predicate c p .channel) j) ]
 
 -- a requirement is true of the samples exactly when its margin is above zero
-pub margin-truth : (c : Card) (φ : Formula ℕ) (i : ℕ) → ltZ (pos 0) (margin c φ i) ≡ true-of c φ i
-margin-truth c φ i = robustness-sign TOP top-positive c φ i .when-true
+pub margin-truth : {c : Card} → Positive c → (φ : Formula ℕ) (i : ℕ) → ltZ (pos 0) (margin c φ i) ≡ true-of c φ i
+margin-truth k φ i = robustness-sign TOP top-positive k φ i .when-true
 
 -- margins are never zero
-pub margin-not-zero : (c : Card) (φ : Formula ℕ) (i : ℕ) → margin c φ i ≡ pos 0 → ⊥
-margin-not-zero c φ i e = clash (true-of c φ i) (rw e at (s .when-true)) (rw e at (s .when-false))
-  where
-    s : Sign (margin c φ i) (true-of c φ i)
-    s = robustness-sign TOP top-positive c φ i
-
-    clash : (b : Bool) → false ≡ b → false ≡ not b → ⊥
-    clash true p q = subst T (sym p) tt
-    clash false p q = subst T (sym q) tt
+pub margin-not-zero : {c : Card} → Positive c → (φ : Formula ℕ) (i : ℕ) → margin c φ i ≡ pos 0 → ⊥
+margin-not-zero k φ i = sign-not-zero (robustness-sign TOP top-positive k φ i)
 
 -- ---- bounds
 -- every predicate's distance lies within the top at every sample
@@ -60,22 +62,35 @@ robustness-bounded top c h φ i = read-step (bounded-step top) (samples c) {at�
 
 module _ {c : Card} (ok : Recorded c) where
   -- what stands past the values reads as 0
-  in-range-at : (m : ℕ) → InRange (getD (c .values) m (pos 0))
+  pub in-range-at : (m : ℕ) → InRange (getD (c .values) m (pos 0))
   in-range-at m = go (decLt m (length (c .values)))
     where
       go : Dec (m < length (c .values)) → InRange (getD (c .values) m (pos 0))
       go (yes h) = ok .values .each m h
       go (no h) = rw (List·getD-eq-default (c .values) (pos 0) {n = m} (omega arith)) (record { size = lit≤ tt })
 
+  -- each channel has a scale, one of those that were judged
+  pub channel-scaled : (ch : ℕ) → ch < c .setup .channels → ScaleInRange (scale c ch)
+  channel-scaled ch h = ok .scaled .each ch (omega (arith, ok .lengths .all-scales)) (omega (arith, ok .channels .few-channels))
+
+  scale-judged : (p : ℕ) → (predicate c p .range ≡ Unset) ⊎ ScaleInRange (scale c (predicate c p .channel))
+  scale-judged p = elim (ok .channels .proper p .known) [ inl u ↦ inl u | inr h ↦ inr (channel-scaled _ h) ]
+
+  pub recorded-positive : Positive c
+  recorded-positive = record { positive = λ p. elim (scale-judged p) [ inl u ↦ inl u | inr k ↦ inr (k .some) ] }
+
   -- a distance that is not free is smaller than TOP
-  pub distance-below : (p i : ℕ) → Open (predicate c p .range) ⊎ Within 2_000_000_001 (distance-at TOP c p i)
-  distance-below p i = distance-small TOP (predicate c p .range) _ (ok .channels .proper p .ends) (in-range-at (i * c .setup .channels + predicate c p .channel))
+  pub distance-below : (p i : ℕ) → Open (predicate c p .range) ⊎ Within 2_000_000_001_000 (distance-at TOP c p i)
+  distance-below p i = elim (scale-judged p) [
+    | inl u ↦ inl (rw u tt)
+    | inr k ↦ scaled-small TOP _ (k .most) (predicate c p .range) _ (ok .channels .proper p .ends) (in-range-at (i * c .setup .channels + predicate c p .channel))
+  ]
 
   pub recorded-bounded : Bounded TOP c
   recorded-bounded = record { bound = λ p i. go p i (distance-below p i) }
     where
-      go : (p i : ℕ) → Open (predicate c p .range) ⊎ Within 2_000_000_001 (distance-at TOP c p i) → Within TOP (distance-at TOP c p i)
-      go p i (inl o) = rw (distance-open TOP (predicate c p .range) (value c (predicate c p .channel) i) o) (record { size = lit≤ tt })
+      go : (p i : ℕ) → Open (predicate c p .range) ⊎ Within 2_000_000_001_000 (distance-at TOP c p i) → Within TOP (distance-at TOP c p i)
+      go p i (inl o) = rw (scaled-open TOP (scale c (predicate c p .channel)) (predicate c p .range) (value c (predicate c p .channel) i) o) (record { size = lit≤ tt })
       go p i (inr w) = within-more (lit≤ tt) w
 
   -- no margin is further from zero than TOP

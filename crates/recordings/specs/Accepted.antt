@@ -1,4 +1,4 @@
--- What is accepted: the conditions of refusals 4 to 7 and 9 to 11, none of which applies, each as a sentence. Their tests stand in predicates, rules and sampling.
+-- What is accepted: the conditions of refusals 4, 13, 5 to 7 and 9 to 11, none of which applies, each as a sentence. Their tests stand in predicates, rules and sampling.
 -- Assumes nothing.
 use mathlib.Core.Path.{_≡_}
 use mathlib.Core.Logic.{_⊎_}
@@ -12,7 +12,7 @@ use Rattle.numbers.specs.Order.{Within}
 use Rattle.recordings.specs.declared.Predicate.{Predicate}
 use Rattle.recordings.specs.declared.Range.{Range}
 use Rattle.recordings.specs.declared.Range.the-variants.{Unset, Free, AtLeast, AtMost, Between}
-use Rattle.recordings.specs.Card.{Card, rows, time, value, predicate}
+use Rattle.recordings.specs.Card.{Card, rows, time, scale, value, predicate}
 
 -- ---- the limits; `src/` has the same names
 -- a recording has 1 to 4,096 samples and 1 to 8 channels
@@ -29,6 +29,14 @@ LATEST = 2_000_000_000
 -- values and ends of ranges lie from −1,000,000,000 to 1,000,000,000
 abbrev pub FARTHEST : ℕ
 FARTHEST = 1_000_000_000
+
+-- a scale is 1 to 1,000
+abbrev pub MOST-SCALE : ℕ
+MOST-SCALE = 1_000
+
+pub record ScaleInRange (k : ℕ) : Type 0 where
+  pub some : 1 ≤ k
+  pub most : k ≤ MOST-SCALE
 
 abbrev pub InRange : ℤ → Type 0
 InRange v = Within FARTHEST v
@@ -61,8 +69,13 @@ pub record Channels (c : Card) : Type 0 where
   pub few-channels : c .setup .channels ≤ MOST-CHANNELS
   pub proper : (p : ℕ) → Proper (predicate c p) (c .setup .channels)
 
--- 5: 1 to 4,096 samples, and the values rows × channels long, rows being the count of times
+-- 13: no scale that was passed is out of range; there are eight at most, whatever their count
+pub record Scaled (c : Card) : Type 0 where
+  pub each : (ch : ℕ) → ch < c .setup .scales .count → ch < MOST-CHANNELS → ScaleInRange (scale c ch)
+
+-- 5: one scale for each channel, 1 to 4,096 samples, and the values rows × channels long, rows being the count of times
 pub record Lengths (c : Card) : Type 0 where
+  pub all-scales : c .setup .scales .count ≡ c .setup .channels
   pub some-row : 1 ≤ rows c
   pub few-rows : rows c ≤ MOST-ROWS
   pub all-values : length (c .values) ≡ rows c * c .setup .channels
@@ -86,13 +99,14 @@ pub record Step (step drift : ℕ) : Type 0 where
 pub record Gapless (c : Card) (step : ℕ) : Type 0 where
   pub no-gap : (i : ℕ) → suc i < rows c → time c (suc i) ≤ time c i + step
 
--- 11: no neighbouring values of a channel differ by more than 2 × drift
+-- 11: no neighbouring values of a channel differ, in the scaled unit, by more than 2 × drift
 pub record Steady (c : Card) (drift : ℕ) : Type 0 where
-  pub no-jump : (i ch : ℕ) → suc i < rows c → ch < c .setup .channels → natAbs (value c ch (suc i) -ℤ value c ch i) ≤ 2 * drift
+  pub no-jump : (i ch : ℕ) → suc i < rows c → ch < c .setup .channels → scale c ch * natAbs (value c ch (suc i) -ℤ value c ch i) ≤ 2 * drift
 
--- ---- refusals 4 to 7 do not apply
+-- ---- refusals 4, 13 and 5 to 7 do not apply
 pub record Recorded (c : Card) : Type 0 where
   pub channels : Channels c
+  pub scaled : Scaled c
   pub lengths : Lengths c
   pub times : Times c
   pub values : Values (c .values)

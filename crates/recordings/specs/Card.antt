@@ -1,4 +1,4 @@
--- All that a requirement is read against: a card's recording, and its setup: the channels and the predicates that the requirement names.
+-- All that a requirement is read against: a card's recording, and its setup: the channels, their scales and the predicates that the requirement names.
 -- Assumes nothing.
 use mathlib.Core.List.{List, _++_}
 use Prim.Native.Nat.{ℕ, suc, _+_, _-_, _*_}
@@ -7,6 +7,7 @@ use denote.Ref.{RefT, now}
 use lib.IntN.{ℤ, pos}
 use Rattle.logic.specs.Reading.{Places}
 use Rattle.recordings.specs.declared.Predicate.{Predicate}
+use Rattle.recordings.specs.declared.Scales.{Scales}
 use Rattle.recordings.specs.declared.Setup.{Setup}
 use Rattle.recordings.specs.declared.Range.the-variants.{Unset}
 
@@ -25,6 +26,10 @@ time c i = getD (c .times) i 0
 abbrev pub value : Card → ℕ → ℕ → ℤ
 value c ch i = getD (c .values) (i * c .setup .channels + ch) (pos 0)
 
+-- channel ch's scale
+abbrev pub scale : Card → ℕ → ℕ
+scale c ch = getD (c .setup .scales .each) ch 0
+
 -- a number that no predicate has is unset
 abbrev pub unset-predicate : Predicate
 unset-predicate = record { channel = 0; range = Unset }
@@ -32,6 +37,13 @@ unset-predicate = record { channel = 0; range = Unset }
 -- as a caller passes them: the first are given, the others of the sixteen are unset
 abbrev pub sixteen : List Predicate → List Predicate
 sixteen ps = ps ++ replicate (16 - length ps) unset-predicate
+
+-- scales as a caller passes them: the first of the eight are given, the others are 0
+abbrev pub eight : List ℕ → List ℕ
+eight ks = ks ++ replicate (8 - length ks) 0
+
+abbrev pub passed : List ℕ → Scales
+passed ks = record { count = length ks; each = eight ks }
 
 abbrev pub predicate-at : List Predicate → ℕ → Predicate
 predicate-at ps p = getD ps p unset-predicate

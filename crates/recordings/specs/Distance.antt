@@ -1,10 +1,10 @@
--- The distance of a value from a predicate's range, over the whole numbers: signed and never zero.
+-- The distance of a value from a predicate's range, over the whole numbers: signed and never zero; and the same in its channel's unit.
 -- Assumes nothing.
 use mathlib.Core.Bool.{Bool, true, false, not, cond, _&&_}
 use mathlib.Core.Path.{_≡_}
 use Prim.Native.Nat.{ℕ, _≤_}
 use lib.Dec.{T}
-use lib.IntN.{ℤ, pos, negℤ, sucℤ, _-ℤ_, natAbs}
+use lib.IntN.{ℤ, pos, negℤ, sucℤ, _-ℤ_, _*ℤ_, natAbs}
 use lib.Signed.{leZ}
 use Rattle.numbers.specs.Order.{smaller-of}
 use Rattle.recordings.specs.declared.Range.{Range}
@@ -12,7 +12,7 @@ use Rattle.recordings.specs.declared.Range.the-variants.{Unset, Free, At
 
 -- no margin is further from zero
 abbrev pub TOP : ℕ
-TOP = 4_000_000_000
+TOP = 4_000_000_000_000
 
 -- the one range that sets no predicate
 abbrev pub is-unset : Range → Bool
@@ -41,6 +41,18 @@ distance top Free v = pos top
 distance top (AtLeast lo) v = clearance lo v
 distance top (AtMost hi) v = clearance v hi
 distance top (Between lo hi) v = smaller-of (clearance lo v) (clearance v hi)
+
+-- free, or unset, which reads so
+abbrev pub is-free : Range → Bool
+is-free Unset = true
+is-free Free = true
+is-free (AtLeast lo) = false
+is-free (AtMost hi) = false
+is-free (Between lo hi) = false
+
+-- a distance is multiplied by its channel's scale; free alone stays at the top
+abbrev pub scaled-distance : ℕ → ℕ → Range → ℤ → ℤ
+scaled-distance top k r v = cond (is-free r) (pos top) (pos k *ℤ distance top r v)
 
 -- of the numbers that pass the test, the nearest to x is n away
 pub record Nearest (test : ℤ → Bool) (x : ℤ) (n : ℕ) : Type 0 where

@@ -5,12 +5,12 @@ use Prim.Native.Nat.{ℕ}
 use lib.IntN.{ℤ}
 use Rattle.logic.specs.Formula.{Formula}
 use Rattle.logic.specs.Reading.{read, booleans, margins}
-use Rattle.recordings.specs.Card.{Card, value, predicate, samples}
-use Rattle.recordings.specs.Distance.{TOP, distance, contains}
+use Rattle.recordings.specs.Card.{Card, scale, value, predicate, samples}
+use Rattle.recordings.specs.Distance.{TOP, scaled-distance, contains}
 
--- a predicate at a sample: its distance, its truth
+-- a predicate at a sample: its distance in its channel's unit, its truth
 abbrev pub distance-at : ℕ → Card → ℕ → ℕ → ℤ
-distance-at top c p i = distance top (predicate c p .range) (value c (predicate c p .channel) i)
+distance-at top c p i = scaled-distance top (scale c (predicate c p .channel)) (predicate c p .range) (value c (predicate c p .channel) i)
 
 abbrev pub true-at : Card → ℕ → ℕ → Bool
 true-at c p i = contains (predicate c p .range) (value c (predicate c p .channel) i)

@@ -1,10 +1,11 @@
--- Values and ends lie within 1,000,000,000, so distances lie within TOP: each sum, difference and negative that is taken of them fits 64 bits.
+-- Values and ends lie within 1,000,000,000 and scales within 1,000, so distances lie within TOP: each sum, difference, product and negative that is taken of them fits 64 bits.
 -- Assumes nothing.
-use mathlib.Core.Path.{_≡_, refl, _∙_}
+use mathlib.Core.Path.{_≡_, refl, _∙_, subst}
 use mathlib.Core.Logic.{⊎-elim}
-use mathlib.Core.Bool.{true, false}
+use mathlib.Core.Bool.{Bool, true, false, cond}
+use Prim.Native.Nat.{ℕ, _≤_}
 use native.Mathlib.Omega.{arith}
-use lib.IntN.{ℤ, pos, sucℤ, _+ℤ_, _-ℤ_}
+use lib.IntN.{ℤ, pos, sucℤ, _+ℤ_, _-ℤ_, _*ℤ_}
 use lib.Signed.{leZ}
 use mir.Syntax.{w64}
 use mir.Val.{SFits}
@@ -12,9 +13,9 @@ use Rattle.numbers.specs.Order.{Within}
 use Rattle.numbers.proofs.Parts.{parts-eq, add-parts, suc-parts, within-more, within-diff, within-suc, within-fits}
 use Rattle.numbers.proofs.Bits.{back, back-is}
 use Rattle.recordings.specs.declared.Range.{Range}
-use Rattle.recordings.specs.Distance.{TOP, clearance, distance}
-use Rattle.recordings.specs.Accepted.{InRange, Ends}
-use Rattle.recordings.proofs.Distances.{Open, distance-small, distance-open}
+use Rattle.recordings.specs.Distance.{TOP, clearance, distance, is-free, scaled-distance}
+use Rattle.recordings.specs.Accepted.{MOST-SCALE, InRange, Ends}
+use Rattle.recordings.proofs.Distances.{Open, scaled-small, scaled-open}
 
 pub plus-one : (z : ℤ) → z +ℤ pos 1 ≡ sucℤ z
 plus-one z = parts-eq _ _ (omega (arith, add-parts z (pos 1), suc-parts z))
@@ -47,7 +48,11 @@ clearance-back a b h k e = e ∙ rw (back-is (fit h), back-is (fit k)) refl
 pub difference-back : (a b : ℤ) {r : ℤ} → InRange a → InRange b → r ≡ back b -ℤ back a → r ≡ b -ℤ a
 difference-back a b h k e = e ∙ rw (back-is (fit h), back-is (fit k)) refl
 
--- no distance is further from zero than TOP
-pub distance-within : (r : Range) (v : ℤ) → Ends r → InRange v → Within TOP (distance TOP r v)
-distance-within r v e h =
-    ⊎-elim (λ (o : Open r). rw (distance-open TOP r v o) (record { size = omega arith })) (λ w. within-more (omega arith) w) (distance-small TOP r v e h)
+-- no distance is further from zero than TOP in its channel's unit
+pub scaled-within : (k : ℕ) → k ≤ MOST-SCALE → (r : Range) (v : ℤ) → Ends r → InRange v → Within TOP (scaled-distance TOP k r v)
+scaled-within k m r v e h =
+    ⊎-elim (λ (o : Open r). rw (scaled-open TOP k r v o) (record { size = omega arith })) (λ w. within-more (omega arith) w) (scaled-small TOP k m r v e h)
+
+-- nor is the product that is taken where the range is not free
+pub times-fits : (k : ℕ) → k ≤ MOST-SCALE → (r : Range) (v : ℤ) → Ends r → InRange v → is-free r ≡ false → SFits w64 (pos k *ℤ distance TOP r v)
+times-fits k m r v e h f = top-fits (subst (λ (b : Bool). Within TOP (cond b (pos TOP) (pos k *ℤ distance TOP r v))) f (scaled-within k m r v e h))

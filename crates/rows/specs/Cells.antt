@@ -7,7 +7,7 @@ use lib.IntN.{ℤ, pos, negℤ}
 use lib.ListN.{length, getD}
 use Rattle.numbers.specs.Order.{Within}
 use Rattle.recordings.specs.Distance.{TOP}
-use Rattle.recordings.specs.Accepted.{Ends, Values}
+use Rattle.recordings.specs.Accepted.{MOST-SCALE, Ends, Values}
 use Rattle.recordings.specs.declared.Predicate.{Predicate}
 
 -- the value of row r at place i
@@ -28,8 +28,9 @@ pub record Above (w : List ℤ) (n child row : ℕ) : Type 0 where
 pub record Bounded (w : List ℤ) (n child : ℕ) : Type 0 where
   pub bounded : (i : ℕ) → i < n → Within TOP (cell w n child i)
 
--- the recording has what a predicate reads: its channel at every place, all in range
-pub record Leaf (values : List ℤ) (channels : ℕ) (p : Predicate) (n : ℕ) : Type 0 where
+-- the recording has what a predicate reads: its channel at every place, all in range, and the scale
+pub record Leaf (values : List ℤ) (channels : ℕ) (p : Predicate) (scale n : ℕ) : Type 0 where
+  pub small-scale : scale ≤ MOST-SCALE
   pub known : p .channel < channels
   pub ends : Ends (p .range)
   pub all-values : n * channels ≤ length values

@@ -9,8 +9,8 @@ ghost use lib.ListN.{length, getD};
 ghost use Rattle.lists.specs.Fill.{fill};
 ghost use Rattle.logic.specs.declared.Extremum.the-variants.{Smallest};
 ghost use Rattle.logic.specs.Reading.{margin-extreme, margin-nothing};
-ghost use Rattle.recordings.specs.Distance.{TOP, clearance, distance};
-ghost use Rattle.recordings.specs.Accepted.{InRange, Ends};
+ghost use Rattle.recordings.specs.Distance.{TOP, clearance, distance, scaled-distance};
+ghost use Rattle.recordings.specs.Accepted.{MOST-SCALE, InRange, Ends};
 ghost use Rattle.rows.specs.Cells.{cell, signed, Above, Bounded, Leaf};
 use logic::Extremum;
 use recordings::Predicate;
@@ -59,7 +59,7 @@ fn clearance_of(a: i64, b: i64) -> i64
 }
 
 // The distance of a value from a range.
-pub fn distance_of(range: Range, value: i64) -> i64
+fn distance_of(range: Range, value: i64) -> i64
     requires { ⌜ InRange value × Ends range ⌝ }
     ensures { λ r. ⌜ r ≡ distance TOP range value ⌝ }
 {
@@ -73,6 +73,19 @@ pub fn distance_of(range: Range, value: i64) -> i64
             clearance_of(value, hi),
         ),
     }
+}
+
+// The same in the channel's unit: free alone stays at TOP.
+pub fn scaled_distance(range: Range, scale: u64, value: i64) -> i64
+    requires { ⌜ InRange value × Ends range × (scale ≤ MOST-SCALE) ⌝ }
+    ensures { λ r. ⌜ r ≡ scaled-distance TOP scale range value ⌝ }
+{
+    let far = distance_of(range, value);
+    let free = recordings::is_free(range);
+    if free {
+        return TOP;
+    }
+    numbers::product(scale as i64, far)
 }
 
 // A value, or, where it is denied, its negative.
@@ -108,6 +121,7 @@ pub fn true_row(rows: usize, affirmed: bool, work: &mut [i64], row: usize)
 // The first `rows` places of a part, with a channel's distances from a range.
 fn fill_distances(
     predicate: Predicate,
+    scale: u64,
     channels: usize,
     values: &[i64],
     rows: usize,
@@ -115,15 +129,15 @@ fn fill_distances(
     part: &mut [i64],
 )
     requires { ⌜ rows ≤ length (now part) ⌝ }
-    requires { ⌜ Leaf (now values) channels predicate rows ⌝ }
-    ensures { λ _. ⌜ now (part .exit) ≡ fill 0 rows (λ i. signed affirmed (distance TOP (predicate .range) (getD (now (values .entry)) (i * channels + predicate .channel) (pos 0)))) (now (part .entry)) ⌝ }
+    requires { ⌜ Leaf (now values) channels predicate scale rows ⌝ }
+    ensures { λ _. ⌜ now (part .exit) ≡ fill 0 rows (λ i. signed affirmed (scaled-distance TOP scale (predicate .range) (getD (now (values .entry)) (i * channels + predicate .channel) (pos 0)))) (now (part .entry)) ⌝ }
 {
     let channel = predicate.channel;
     let range = predicate.range;
     let mut i = 0;
     while i < rows {
         let value = values[i * channels + channel];
-        let far = distance_of(range, value);
+        let far = scaled_distance(range, scale, value);
         part[i] = signed_of(affirmed, far);
         i += 1;
     }
@@ -132,6 +146,7 @@ fn fill_distances(
 // The row of a predicate, or of its negation.
 pub fn predicate_row(
     predicate: Predicate,
+    scale: u64,
     channels: usize,
     values: &[i64],
     rows: usize,
@@ -140,12 +155,13 @@ pub fn predicate_row(
     row: usize,
 )
     requires { ⌜ row * rows + rows ≤ length (now work) ⌝ }
-    requires { ⌜ Leaf (now values) channels predicate rows ⌝ }
-    ensures { λ _. ⌜ now (work .exit) ≡ fill (row * rows) rows (λ i. signed affirmed (distance TOP (predicate .range) (getD (now (values .entry)) (i * channels + predicate .channel) (pos 0)))) (now (work .entry)) ⌝ }
+    requires { ⌜ Leaf (now values) channels predicate scale rows ⌝ }
+    ensures { λ _. ⌜ now (work .exit) ≡ fill (row * rows) rows (λ i. signed affirmed (scaled-distance TOP scale (predicate .range) (getD (now (values .entry)) (i * channels + predicate .channel) (pos 0)))) (now (work .entry)) ⌝ }
 {
     let from = row * rows;
     fill_distances(
         predicate,
+        scale,
         channels,
         values,
         rows,

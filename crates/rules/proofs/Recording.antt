@@ -14,27 +14,29 @@ use Rattle.recordings.specs.Card.{Card, rows, time}
 use Rattle.recordings.specs.Accepted.{MOST-ROWS, LATEST, Lengths, Times, Values}
 use Rattle.predicates.specs.Predicates.{value-obeys}
 use Rattle.predicates.proofs.Predicates.{value-in-range, in-range-passes}
-use Rattle.rules.specs.Recording.{lengths-obey, all-rising, all-early, times-obey, values-obey}
+use Rattle.rules.specs.Recording.{samples-obey, lengths-obey, all-rising, all-early, times-obey, values-obey}
 
 -- ---- 5
-pub lengths-are : (c : Card) → T (lengths-obey (c .setup .channels) (rows c) (length (c .values))) → Lengths c
-unfolding lengths-obey
+pub lengths-are : (c : Card) → T (lengths-obey (c .setup .scales .count) (c .setup .channels) (rows c) (length (c .values))) → Lengths c
+unfolding samples-obey lengths-obey
 lengths-are c t =
-    let a = and-yes (leb (rows c) MOST-ROWS) (leb 1 (rows c) && eqb (length (c .values)) (rows c * c .setup .channels)) t in
+    let k = and-yes (eqb (c .setup .scales .count) (c .setup .channels)) (samples-obey (c .setup .channels) (rows c) (length (c .values))) t in
+    let a = and-yes (leb (rows c) MOST-ROWS) (leb 1 (rows c) && eqb (length (c .values)) (rows c * c .setup .channels)) (k .1) in
     let b = and-yes (leb 1 (rows c)) (eqb (length (c .values)) (rows c * c .setup .channels)) (a .1) in
-    record { some-row = leb→le 1 (rows c) (b .0); few-rows = leb→le (rows c) MOST-ROWS (a .0); all-values = eqb→eq (length (c .values)) (rows c * c .setup .channels) (b .1) }
+    record { all-scales = eqb→eq (c .setup .scales .count) (c .setup .channels) (k .0); some-row = leb→le 1 (rows c) (b .0); few-rows = leb→le (rows c) MOST-ROWS (a .0); all-values = eqb→eq (length (c .values)) (rows c * c .setup .channels) (b .1) }
 
-pub lengths-pass : (c : Card) → Lengths c → T (lengths-obey (c .setup .channels) (rows c) (length (c .values)))
-unfolding lengths-obey
+pub lengths-pass : (c : Card) → Lengths c → T (lengths-obey (c .setup .scales .count) (c .setup .channels) (rows c) (length (c .values)))
+unfolding samples-obey lengths-obey
 lengths-pass c r =
-    yes-and (leb (rows c) MOST-ROWS) (leb 1 (rows c) && eqb (length (c .values)) (rows c * c .setup .channels)) (le→leb (rows c) MOST-ROWS (r .few-rows))
-    (yes-and (leb 1 (rows c)) (eqb (length (c .values)) (rows c * c .setup .channels)) (le→leb 1 (rows c) (r .some-row)) (yes-eqb (r .all-values)))
+    yes-and (eqb (c .setup .scales .count) (c .setup .channels)) (samples-obey (c .setup .channels) (rows c) (length (c .values))) (yes-eqb (r .all-scales))
+    (yes-and (leb (rows c) MOST-ROWS) (leb 1 (rows c) && eqb (length (c .values)) (rows c * c .setup .channels)) (le→leb (rows c) MOST-ROWS (r .few-rows))
+    (yes-and (leb 1 (rows c)) (eqb (length (c .values)) (rows c * c .setup .channels)) (le→leb 1 (rows c) (r .some-row)) (yes-eqb (r .all-values))))
 
 -- what the test of the times may rely on
-pub some-row : (channels rows values : ℕ) → lengths-obey channels rows values ≡ true → 1 ≤ rows
-unfolding lengths-obey
-some-row channels rows values e =
-    let a = and-yes (leb rows MOST-ROWS) (leb 1 rows && eqb values (rows * channels)) (holds e) in
+pub some-row : (scales channels rows values : ℕ) → lengths-obey scales channels rows values ≡ true → 1 ≤ rows
+unfolding samples-obey lengths-obey
+some-row scales channels rows values e =
+    let a = and-yes (leb rows MOST-ROWS) (leb 1 rows && eqb values (rows * channels)) (and-yes (eqb scales channels) (samples-obey channels rows values) (holds e) .1) in
     leb→le 1 rows (and-yes (leb 1 rows) (eqb values (rows * channels)) (a .1) .0)
 
 -- ---- 6

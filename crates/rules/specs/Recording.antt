@@ -10,9 +10,12 @@ use Rattle.lists.specs.Fold.{all-below}
 use Rattle.recordings.specs.Accepted.{MOST-ROWS, LATEST}
 use Rattle.predicates.specs.Predicates.{value-obeys}
 
--- ---- 5: no sample, over 4,096, or values not rows × channels long
-unfoldable pub lengths-obey : ℕ → ℕ → ℕ → Bool
-lengths-obey channels rows values = leb rows MOST-ROWS && (leb 1 rows && eqb values (rows * channels))
+-- ---- 5: not one scale for each channel; no sample, over 4,096, or values not rows × channels long
+unfoldable pub samples-obey : ℕ → ℕ → ℕ → Bool
+samples-obey channels rows values = leb rows MOST-ROWS && (leb 1 rows && eqb values (rows * channels))
+
+unfoldable pub lengths-obey : ℕ → ℕ → ℕ → ℕ → Bool
+lengths-obey scales channels rows values = eqb scales channels && samples-obey channels rows values
 
 -- ---- 6: times not rising, or one too large
 unfoldable pub all-rising : List ℕ → Bool

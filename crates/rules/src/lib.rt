@@ -1,10 +1,10 @@
-// Refusals 3 to 7: what a table, its predicates and a recording are judged by before a margin is taken. Their sentences are listed in specs/Refusals.
+// Refusals 3, 4, 13 and 5 to 7: what a table, a setup and a recording are judged by before a margin is taken. Their sentences are listed in specs/Refusals.
 // No test branches on what it has found so far; none counts past what an earlier one has bounded.
 ghost use mathlib.Core.Path.{_≡_};
 ghost use Prim.Native.Nat.{_≤_};
 ghost use lib.ListN.{length};
 ghost use Rattle.refusals.specs.First.{first};
-ghost use Rattle.rules.specs.Recording.{lengths-obey, all-rising, all-early, times-obey, values-obey};
+ghost use Rattle.rules.specs.Recording.{samples-obey, lengths-obey, all-rising, all-early, times-obey, values-obey};
 ghost use Rattle.rules.specs.Refusals.{checks};
 ghost use Rattle.recordings.specs.Card.{lent};
 ghost use Rattle.recordings.specs.Accepted.{MOST-CHANNELS};
@@ -14,14 +14,23 @@ use recordings::Setup;
 use tables::Table;
 
 // `values` is the count of values.
-fn lengths_obey(channels: usize, rows: usize, values: usize) -> bool
+fn samples_obey(channels: usize, rows: usize, values: usize) -> bool
     requires { ⌜ channels ≤ MOST-CHANNELS ⌝ }
-    ensures { λ r. ⌜ r ≡ lengths-obey channels rows values ⌝ }
+    ensures { λ r. ⌜ r ≡ samples-obey channels rows values ⌝ }
 {
     if MOST_ROWS < rows {
         return false;
     }
     (1 <= rows) & (values == rows * channels)
+}
+
+// `scales` is the count of scales.
+fn lengths_obey(scales: usize, channels: usize, rows: usize, values: usize) -> bool
+    requires { ⌜ channels ≤ MOST-CHANNELS ⌝ }
+    ensures { λ r. ⌜ r ≡ lengths-obey scales channels rows values ⌝ }
+{
+    let samples = samples_obey(channels, rows, values);
+    (scales == channels) & samples
 }
 
 // `gaps` is the count of neighbours.
@@ -76,11 +85,12 @@ fn values_obey(values: &[i64]) -> bool
     ok
 }
 
-// The first of refusals 3 to 7 that applies, 0 where none does.
+// The first of refusals 3, 4, 13 and 5 to 7 that applies, 0 where none does.
 pub fn refusal(table: Table, setup: Setup, times: &[u64], values: &[i64]) -> u64
     ensures { λ r. ⌜ r ≡ first (checks (lent setup (times .entry) (values .entry)) table) ⌝ }
 {
     let predicates = setup.predicates;
+    let scales = setup.scales;
     let channels = setup.channels;
     let three = predicates::requirement_obeys(table, predicates);
     if !three {
@@ -90,7 +100,11 @@ pub fn refusal(table: Table, setup: Setup, times: &[u64], values: &[i64]) -> u64
     if !four {
         return 4;
     }
-    let five = lengths_obey(channels, times.len(), values.len());
+    let thirteen = scales::scales_obey(scales);
+    if !thirteen {
+        return 13;
+    }
+    let five = lengths_obey(scales.count, channels, times.len(), values.len());
     if !five {
         return 5;
     }

@@ -1,12 +1,13 @@
 // Refusals 9 to 11: whether step and drift are in range, and whether neighbouring samples are near enough in time and in value. Their sentences are in recordings/specs/Accepted.
 // Differences are compared; nothing is added to a time or a value.
 ghost use mathlib.Core.Path.{_≡_};
-ghost use Prim.Native.Nat.{_-_, _≤_};
+ghost use Prim.Native.Nat.{_-_, _≤_, _<_};
 ghost use lib.Dec.{leb};
 ghost use lib.ListN.{length};
 ghost use Rattle.refusals.specs.First.{first};
 ghost use Rattle.recordings.specs.Card.{lent};
-ghost use Rattle.sampling.specs.Sampling.{step-obeys, times-close, near, Comparable, values-near, checks, Measured, Comparables};
+ghost use Rattle.recordings.specs.Accepted.{Recorded};
+ghost use Rattle.sampling.specs.Sampling.{step-obeys, times-close, near, Comparable, channel-near, values-near, checks, Comparables};
 use recordings::LARGEST_DRIFT;
 use recordings::LONGEST_STEP;
 use recordings::Setup;
@@ -42,35 +43,53 @@ fn times_close(times: &[u64], step: u64) -> bool
     ok
 }
 
-fn near(from: i64, to: i64, drift: u64) -> bool
-    requires { ⌜ Comparable from to drift ⌝ }
-    ensures { λ r. ⌜ r ≡ near from to drift ⌝ }
+fn near(scale: u64, from: i64, to: i64, drift: u64) -> bool
+    requires { ⌜ Comparable scale from to drift ⌝ }
+    ensures { λ r. ⌜ r ≡ near scale from to drift ⌝ }
 {
-    let most = (2 * drift) as i64;
-    let up = numbers::difference(to, from);
-    let down = numbers::difference(from, to);
-    (up <= most) & (down <= most)
+    let apart = numbers::magnitude(numbers::difference(to, from));
+    scale * apart <= 2 * drift
 }
 
-// A channel's next value stands `channels` places on.
-fn values_near(channels: usize, values: &[i64], drift: u64) -> bool
-    requires { ⌜ Comparables channels (now values) drift ⌝ }
-    ensures { λ r. ⌜ r ≡ values-near channels (now (values .entry)) drift ⌝ }
+// `gaps` is the count of neighbours.
+fn channel_near(setup: Setup, times: &[u64], values: &[i64], channel: usize, drift: u64) -> bool
+    requires { ⌜ Comparables (lent setup times values) drift × (channel < setup .channels) ⌝ }
+    ensures { λ r. ⌜ r ≡ channel-near (lent setup (times .entry) (values .entry)) channel drift ⌝ }
 {
-    let count = values.len() - channels;
+    let channels = setup.channels;
+    let scales = setup.scales;
+    let scale = scales.each[channel];
+    let gaps = times.len() - 1;
     let mut ok = true;
-    let mut m = 0;
-    while m < count {
-        let obeys = near(values[m], values[m + channels], drift);
+    let mut i = 0;
+    while i < gaps {
+        let from = values[i * channels + channel];
+        let to = values[(i + 1) * channels + channel];
+        let obeys = near(scale, from, to, drift);
         ok = ok & obeys;
-        m += 1;
+        i += 1;
+    }
+    ok
+}
+
+fn values_near(setup: Setup, times: &[u64], values: &[i64], drift: u64) -> bool
+    requires { ⌜ Comparables (lent setup times values) drift ⌝ }
+    ensures { λ r. ⌜ r ≡ values-near (lent setup (times .entry) (values .entry)) drift ⌝ }
+{
+    let channels = setup.channels;
+    let mut ok = true;
+    let mut channel = 0;
+    while channel < channels {
+        let obeys = channel_near(setup, times, values, channel, drift);
+        ok = ok & obeys;
+        channel += 1;
     }
     ok
 }
 
 // The first of refusals 9 to 11 that applies, 0 where none does.
 pub fn refusal(setup: Setup, times: &[u64], values: &[i64], step: u64, drift: u64) -> u64
-    requires { ⌜ Measured (setup .channels) (now times) (now values) ⌝ }
+    requires { ⌜ Recorded (lent setup times values) ⌝ }
     ensures { λ r. ⌜ r ≡ first (checks (lent setup (times .entry) (values .entry)) step drift) ⌝ }
 {
     let nine = step_obeys(step, drift);
@@ -81,8 +100,7 @@ pub fn refusal(setup: Setup, times: &[u64], values: &[i64], step: u64, drift: u6
     if !ten {
         return 10;
     }
-    let channels = setup.channels;
-    let eleven = values_near(channels, values, drift);
+    let eleven = values_near(setup, times, values, drift);
     if !eleven {
         return 11;
     }

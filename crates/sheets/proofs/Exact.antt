@@ -20,13 +20,10 @@ use Rattle.row_lines.specs.Form.{Row, AreRows}
 use Rattle.row_lines.specs.Reading.{limit, channels-in-range, is-broken, rows-of}
 use Rattle.row_lines.specs.Same.{Alike, no-line, same, filled, SameButFilled}
 use Rattle.row_lines.proofs.Exact.{unbroken-rows, rows-unbroken, alike-sym, alike-rows, NoRow, alike-front}
-use Rattle.predicate_lines.specs.Form.{is-predicate}
-use Rattle.predicate_lines.specs.Rising.{Rising}
 use Rattle.heads.specs.declared.Head.{Head}
 use Rattle.heads.specs.declared.HeadLines.{HeadLines}
 use Rattle.heads.specs.Reading.{head-place, head-of}
 use Rattle.heads.proofs.Exact.{head-is, head-taken, head-lines}
-use Rattle.heads.proofs.Order.{head-rising}
 use Rattle.requirement_lines.specs.declared.Place.{Place}
 use Rattle.requirement_lines.specs.declared.Requirements.{Requirements}
 use Rattle.requirement_lines.specs.Form.{requirement-line, requirement-lines, places-from, is-requirement, Over, MOST-REQUIREMENTS, sixteen}
@@ -221,13 +218,6 @@ sheet-crowded s = (
       (written-or-blank s)),
   (λ c. written-crowded (c .written) (c .many)),
 )
-
--- ---- predicates that are out of number order break the form
-
--- the lines behind a text's first one that begin as predicates' do, if their numbers do not rise
-pub unordered-refused : (s first : List ℕ) (ps rest : List (List ℕ)) → lines s ≡ first ∷ (ps ++ rest) → Each (λ (l : List ℕ). is-predicate l ≡ true) ps → (Rising ps → ⊥) → sheet-of s ≡ blank 1
-unordered-refused s first ps rest e begin h =
-    sheet-refused s .1 (λ p. h (head-rising (p .3 .begins) (requirement-lines (p .1) ++ p .2) first ps rest (sym (p .3 .cuts) ∙ e) begin))
 
 -- ---- filled rows reach nothing
 

@@ -113,7 +113,7 @@ module _ {s : List ℕ} {h : Head} {rs rows : List (List ℕ)} (w : Written s h 
       go [] l = absurd (omega arith)
       go (r ∷ xs) l = before-here is-requirement (requirement-line r) (requirement-lines xs ++ rows) (line-requires r)
 
-  heads-are : head-lines-of s ≡ front
+  pub heads-are : head-lines-of s ≡ front
   heads-are = ap (before-first is-requirement) (w .cuts) ∙ (before-others is-requirement (requirement-lines rs ++ rows) others ∙ (ap (λ (x : List (List ℕ)). front ++ x) end ∙ append-nil front))
 
   behind-are : from-first is-requirement (lines s) ≡ requirement-lines rs ++ rows

@@ -1,11 +1,12 @@
 -- What the readers write into slices with room stands in front of them, and is what the margin and the verdict take up: the table of the text, the predicates of the sheet;
 -- and a sheet's requirements stand between the places that are handed over. Under a refusal every slice keeps what it held.
 -- Assumes nothing.
-use mathlib.Core.Path.{_≡_, sym}
+use mathlib.Core.Path.{_≡_, sym, subst}
 use mathlib.Core.List.{List}
-use Prim.Native.Nat.{ℕ, _+_, _*_, _≤_, _<_}
+use Prim.Native.Nat.{ℕ, _+_, _-_, _*_, _≤_, _<_}
+use native.Mathlib.Omega.{arith}
 use lib.IntN.{ℤ}
-use lib.ListN.{length, getD}
+use lib.ListN.{length, getD, take, replicate, List·getD-append}
 use lib.Seq.{take-all}
 use Rattle.building.specs.Nodes.{nodes-of}
 use Rattle.building.specs.Storing.{cells-of}
@@ -25,6 +26,13 @@ use Rattle.varmityep.specs.Places.{handed}
 use Rattle.requirement_lines.specs.Form.{no-place}
 use Rattle.sheets.proofs.Behind.{places-long}
 use Rattle.flat.specs.Places.{places-of}
+use Rattle.recordings.specs.declared.Scales.{Scales}
+use Rattle.recordings.specs.Card.{eight}
+use Rattle.recordings.specs.Accepted.{ScaleInRange}
+use Rattle.scale_lines.proofs.Steps.{due-most}
+use Rattle.scale_lines.proofs.Exact.{said-length}
+use Rattle.flat.specs.Scales.{scales-from}
+use Rattle.flat.proofs.Scales.{scales-back}
 use Rattle.flat.proofs.Back.{predicates-back, places-back, table-read-back}
 
 -- under a refusal a slice keeps what it held
@@ -47,6 +55,16 @@ table-handed s h nodes r =
 pub predicates-handed : (s : List ℕ) → sheet-of s .number ≡ 0 → (ranges : List ℕ) (ends : List ℤ) → 32 ≤ length ranges → 32 ≤ length ends
     → predicates-from (handed (sheet-of s .number) (ranges-of (sheet-of s .head .setup .predicates)) ranges) (handed (sheet-of s .number) (ends-of (sheet-of s .head .setup .predicates)) ends) ≡ sheet-of s .head .setup .predicates
 predicates-handed s h ranges ends wide long = rw h (predicates-back (sheet-of s .head .setup .predicates) (lines-keep (sheet-sound s h .written .begins .predicates)) ranges ends wide long)
+
+-- of a sheet whose scales are in range, as many numbers as it has scales are read back as they
+pub scales-handed : (s : List ℕ) → sheet-of s .number ≡ 0 → ((ch : ℕ) → ch < sheet-of s .head .setup .scales .count → ScaleInRange (getD (sheet-of s .head .setup .scales .each) ch 0))
+    → (scales : List ℕ) → 8 ≤ length scales
+    → scales-from (take (sheet-of s .head .setup .scales .count) (handed (sheet-of s .number) (sheet-of s .head .setup .scales .each) scales)) ≡ sheet-of s .head .setup .scales
+scales-handed s h r scales room =
+    let f = sheet-sound s h .written .begins .scales in
+    let few : length (f .said) ≤ 8 = omega (arith, said-length (f .in-order), f .all, due-most (sheet-of s .head .setup .channels)) in
+    let each : (ch : ℕ) → ch < length (f .said) → ScaleInRange (getD (eight (f .said)) ch 0) = subst (λ (x : Scales). (ch : ℕ) → ch < x .count → ScaleInRange (getD (x .each) ch 0)) (f .kept) r in
+    rw h (subst (λ (x : Scales). scales-from (take (x .count) (written (x .each) scales)) ≡ x) (sym (f .kept)) (scales-back (f .said) few (λ i l. rw (List·getD-append (f .said) (replicate (8 - length (f .said)) 0) 0 i l) at (each i l)) scales room))
 
 -- requirement k stands in the text from number 2k up to number 2k + 1; behind the last, both are 0
 pub places-handed : (s : List ℕ) → sheet-of s .number ≡ 0 → (places : List ℕ) → 32 ≤ length places → (k : ℕ) → k < 16

@@ -13,12 +13,13 @@ use Rattle.margins.specs.Answers.{MarginOutcome as Margin}
 use Rattle.verdicts.specs.Answer.{VerdictOutcome as Judgement}
 use Rattle.sheets.specs.declared.Sheet.{Sheet}
 use Rattle.sheet_rows.specs.declared.Answer.{Answer as Rows}
-use Rattle.flat.specs.Predicates.{range-from, setup-from}
+use Rattle.flat.specs.Predicates.{range-from}
+use Rattle.flat.specs.Scales.{setup-from}
 use Rattle.flat.specs.Written.{written}
 
 -- what a requirement is read against: a setup in flat numbers, and a recording
-unfoldable pub card-from : List ℕ → List ℤ → ℕ → List ℕ → List ℤ → Card
-card-from ranges ends channels times values = card (setup-from ranges ends channels) times values
+unfoldable pub card-from : List ℕ → List ℤ → ℕ → List ℕ → List ℕ → List ℤ → Card
+card-from ranges ends channels scales times values = card (setup-from ranges ends channels scales) times values
 
 -- one predicate in four numbers
 abbrev pub predicate-of : ℕ → ℕ → ℤ → ℤ → Predicate

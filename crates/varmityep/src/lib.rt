@@ -42,12 +42,14 @@ pub extern "C" fn varmityep_sheet(
     text: &[u8],
     numbers: &mut [u64],
     places: &mut [u64],
+    scales: &mut [u64],
     ranges: &mut [u64],
     ends: &mut [i64],
 ) -> u64
     ensures number { λ r. ⌜ r ≡ sheet-of (now (text .entry)) .number ⌝ }
     ensures numbers { λ _. ⌜ now (numbers .exit) ≡ handed (sheet-of (now (text .entry)) .number) (sheet-numbers (sheet-of (now (text .entry)))) (now (numbers .entry)) ⌝ }
     ensures places { λ _. ⌜ now (places .exit) ≡ handed (sheet-of (now (text .entry)) .number) (places-of (sheet-of (now (text .entry)) .requirements)) (now (places .entry)) ⌝ }
+    ensures scales { λ _. ⌜ now (scales .exit) ≡ handed (sheet-of (now (text .entry)) .number) (sheet-of (now (text .entry)) .head .setup .scales .each) (now (scales .entry)) ⌝ }
     ensures ranges { λ _. ⌜ now (ranges .exit) ≡ handed (sheet-of (now (text .entry)) .number) (ranges-of (sheet-of (now (text .entry)) .head .setup .predicates)) (now (ranges .entry)) ⌝ }
     ensures ends { λ _. ⌜ now (ends .exit) ≡ handed (sheet-of (now (text .entry)) .number) (ends-of (sheet-of (now (text .entry)) .head .setup .predicates)) (now (ends .entry)) ⌝ }
 {
@@ -68,6 +70,8 @@ pub extern "C" fn varmityep_sheet(
     let requirements = sheet.requirements;
     let stand = flat::places_of(requirements);
     flat::write_numbers(&stand, places);
+    let units = setup.scales;
+    flat::write_scales(units, scales);
     let predicates = setup.predicates;
     flat::write_predicates(predicates, ranges, ends);
     0
@@ -149,17 +153,18 @@ pub extern "C" fn varmityep_distance(
     channel: u64,
     lo: i64,
     hi: i64,
+    scale: u64,
     value: i64,
     result: &mut [i64],
 ) -> u64
-    ensures number { λ r. ⌜ r ≡ distance-judged (predicate-of range channel lo hi) value .number ⌝ }
-    ensures result { λ _. ⌜ now (result .exit) ≡ distance-handed (distance-judged (predicate-of range channel lo hi) value) (now (result .entry)) ⌝ }
+    ensures number { λ r. ⌜ r ≡ distance-judged (predicate-of range channel lo hi) scale value .number ⌝ }
+    ensures result { λ _. ⌜ now (result .exit) ≡ distance-handed (distance-judged (predicate-of range channel lo hi) scale value) (now (result .entry)) ⌝ }
 {
     let predicate = Predicate {
         channel: channel as usize,
         range: flat::range_from(range, lo, hi),
     };
-    let answer = distances::distance(predicate, value);
+    let answer = distances::distance(predicate, scale, value);
     hand_distance(answer, result)
 }
 
@@ -187,17 +192,18 @@ pub extern "C" fn varmityep_margin(
     ranges: &[u64],
     ends: &[i64],
     channels: u64,
+    scales: &[u64],
     times: &[u64],
     values: &[i64],
     work: &mut [i64],
     result: &mut [i64],
 ) -> u64
-    ensures number { λ r. ⌜ r ≡ margin-judged (card-from (now (ranges .entry)) (now (ends .entry)) channels (now (times .entry)) (now (values .entry))) (table-from (now (nodes .entry)) count) (length (now (work .entry))) .number ⌝ }
-    ensures work { λ _. ⌜ now (work .exit) ≡ margin-cells (card-from (now (ranges .entry)) (now (ends .entry)) channels (now (times .entry)) (now (values .entry))) (table-from (now (nodes .entry)) count) (now (work .entry)) ⌝ }
-    ensures result { λ _. ⌜ now (result .exit) ≡ margin-handed (margin-judged (card-from (now (ranges .entry)) (now (ends .entry)) channels (now (times .entry)) (now (values .entry))) (table-from (now (nodes .entry)) count) (length (now (work .entry)))) (now (result .entry)) ⌝ }
+    ensures number { λ r. ⌜ r ≡ margin-judged (card-from (now (ranges .entry)) (now (ends .entry)) channels (now (scales .entry)) (now (times .entry)) (now (values .entry))) (table-from (now (nodes .entry)) count) (length (now (work .entry))) .number ⌝ }
+    ensures work { λ _. ⌜ now (work .exit) ≡ margin-cells (card-from (now (ranges .entry)) (now (ends .entry)) channels (now (scales .entry)) (now (times .entry)) (now (values .entry))) (table-from (now (nodes .entry)) count) (now (work .entry)) ⌝ }
+    ensures result { λ _. ⌜ now (result .exit) ≡ margin-handed (margin-judged (card-from (now (ranges .entry)) (now (ends .entry)) channels (now (scales .entry)) (now (times .entry)) (now (values .entry))) (table-from (now (nodes .entry)) count) (length (now (work .entry)))) (now (result .entry)) ⌝ }
 {
     let table = flat::table_from(nodes, count);
-    let setup = flat::setup_from(ranges, ends, channels);
+    let setup = flat::setup_from(ranges, ends, channels, scales);
     let answer = margins::margin(table, setup, times, values, work);
     hand_margin(answer, result)
 }
@@ -237,6 +243,7 @@ pub extern "C" fn varmityep_verdict(
     ranges: &[u64],
     ends: &[i64],
     channels: u64,
+    scales: &[u64],
     times: &[u64],
     values: &[i64],
     step: u64,
@@ -244,12 +251,12 @@ pub extern "C" fn varmityep_verdict(
     work: &mut [i64],
     result: &mut [i64],
 ) -> u64
-    ensures number { λ r. ⌜ r ≡ verdict-judged (card-from (now (ranges .entry)) (now (ends .entry)) channels (now (times .entry)) (now (values .entry))) (table-from (now (nodes .entry)) count) step drift (length (now (work .entry))) .number ⌝ }
-    ensures work { λ _. ⌜ now (work .exit) ≡ verdict-cells (card-from (now (ranges .entry)) (now (ends .entry)) channels (now (times .entry)) (now (values .entry))) (table-from (now (nodes .entry)) count) step drift (now (work .entry)) ⌝ }
-    ensures result { λ _. ⌜ now (result .exit) ≡ verdict-handed (verdict-judged (card-from (now (ranges .entry)) (now (ends .entry)) channels (now (times .entry)) (now (values .entry))) (table-from (now (nodes .entry)) count) step drift (length (now (work .entry)))) (now (result .entry)) ⌝ }
+    ensures number { λ r. ⌜ r ≡ verdict-judged (card-from (now (ranges .entry)) (now (ends .entry)) channels (now (scales .entry)) (now (times .entry)) (now (values .entry))) (table-from (now (nodes .entry)) count) step drift (length (now (work .entry))) .number ⌝ }
+    ensures work { λ _. ⌜ now (work .exit) ≡ verdict-cells (card-from (now (ranges .entry)) (now (ends .entry)) channels (now (scales .entry)) (now (times .entry)) (now (values .entry))) (table-from (now (nodes .entry)) count) step drift (now (work .entry)) ⌝ }
+    ensures result { λ _. ⌜ now (result .exit) ≡ verdict-handed (verdict-judged (card-from (now (ranges .entry)) (now (ends .entry)) channels (now (scales .entry)) (now (times .entry)) (now (values .entry))) (table-from (now (nodes .entry)) count) step drift (length (now (work .entry)))) (now (result .entry)) ⌝ }
 {
     let table = flat::table_from(nodes, count);
-    let setup = flat::setup_from(ranges, ends, channels);
+    let setup = flat::setup_from(ranges, ends, channels, scales);
     let answer = verdicts::verdict(table, setup, times, values, step, drift, work);
     hand_verdict(answer, result)
 }

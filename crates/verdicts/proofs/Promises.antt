@@ -16,14 +16,14 @@ use Rattle.recordings.specs.Margin.{margin}
 use Rattle.recordings.specs.Verdict.{hold, fail, verdict}
 use Rattle.recordings.specs.Accepted.{Accepted}
 use Rattle.recordings.specs.Shown.{Shown}
-use Rattle.recordings.proofs.Margins.{margin-not-zero}
+use Rattle.recordings.proofs.Margins.{recorded-positive, margin-not-zero}
 use Rattle.recordings.proofs.Verdicts.{holds-shown, fails-shown}
 use Rattle.tables.specs.declared.Table.{Table}
 use Rattle.tables.specs.Tree.{tree, root}
 use Rattle.refusals.specs.First.{AllExact, Refused}
 use Rattle.rules.specs.Refusals.{checks, Sound}
 use Rattle.refusals.proofs.First.{refused, first-is, parts-none, exact-append, unless-none, unless-some}
-use Rattle.rules.proofs.Refusals.{exact, passed-sound, sound, sound-passes}
+use Rattle.rules.proofs.Refusals.{exact, sound, sound-passes}
 use Rattle.sampling.specs.Sampling.{checks as sampling-checks}
 use Rattle.sampling.proofs.Sampling.{accepted, accepted-passes, exact as sampling-exact}
 use Rattle.verdicts.specs.declared.Answer.the-variants.{Refused as RefusedBy}
@@ -66,7 +66,7 @@ module _ (c : Card) (t : Table) (step drift size : ℕ) where
   pub refused-some : {n : ℕ} → verdict-outcome (RefusedBy n) ≡ verdict-judged c t step drift size → n ≡ 0 → ⊥
   refused-some e z =
       let m : verdict-judged c t step drift size .number ≡ 0 = ap (λ (o : VerdictOutcome). o .number) (sym e) ∙ z in
-      margin-not-zero c (strengthened step true (root t)) 0 (sym (hold-is m) ∙ ap (λ (o : VerdictOutcome). o .hold) (sym e))
+      margin-not-zero (recorded-positive (number-none m .0 .recorded)) (strengthened step true (root t)) 0 (sym (hold-is m) ∙ ap (λ (o : VerdictOutcome). o .hold) (sym e))
 
   pub refused-values : (verdict-judged c t step drift size .number ≡ 0 → ⊥) → (verdict-judged c t step drift size .verdict ≡ NotShown) × (verdict-judged c t step drift size .hold ≡ pos 0) × (verdict-judged c t step drift size .fail ≡ pos 0)
   unfolding verdict-judged
@@ -74,7 +74,7 @@ module _ (c : Card) (t : Table) (step drift size : ℕ) where
 
   -- a number m is answered exactly when its condition applies and no earlier one does
   pub exact-checks : AllExact (verdict-checks c t step drift size)
-  exact-checks = exact-append (checks c t) (verdict-room c t size ∷ sampling-checks c step drift) (exact c t) (λ p. (record { sound = leb→le _ _; complete = le→leb _ _ }, λ _. sampling-exact c step drift (passed-sound p .recorded)))
+  exact-checks = exact-append (checks c t) (verdict-room c t size ∷ sampling-checks c step drift) (exact c t) (λ _. (record { sound = leb→le _ _; complete = le→leb _ _ }, λ _. sampling-exact c step drift))
 
   pub number-refused : (verdict-judged c t step drift size .number ≡ 0 → ⊥) → Refused (verdict-checks c t step drift size) (verdict-judged c t step drift size .number)
   unfolding verdict-judged verdict-refusal

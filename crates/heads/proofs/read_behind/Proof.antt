@@ -15,7 +15,7 @@ broken-requires : tie.Need-broken-requires
 broken-requires c κs = search needs
 
 returns : tie.Need-returns
-returns c = c .broken .ensures ∙ chain-predicates _ _ _ (not-true (c .before .before .before .before .args .predicates .ok) (c .before .if1 .taken))
+returns c = c .broken .ensures ∙ chain-predicates _ _ _ _ (not-true (c .before .before .before .before .args .predicates .ok) (c .before .if1 .taken))
 
 slice-aggregate-read-number : tie.Need-slice-aggregate-read-number
 slice-aggregate-read-number c = search needs
@@ -33,7 +33,7 @@ broken-requires-2 : tie.Need-broken-requires-2
 broken-requires-2 c κs = search needs
 
 returns-2 : tie.Need-returns-2
-returns-2 c = c .broken2 .ensures ∙ chain-step _ _ _ (not-false (c .before .before .before .before .before .before .before .before .args .predicates .ok) (c .before .before .before .before .before .if1 .left)) (sym (c .before .before .before .read-number .ensures) ∙ c .before .enum-told .given .1)
+returns-2 c = c .broken2 .ensures ∙ chain-step _ _ _ _ (not-false (c .before .before .before .before .before .before .before .before .args .predicates .ok) (c .before .before .before .before .before .if1 .left)) (sym (c .before .before .before .read-number .ensures) ∙ c .before .enum-told .given .1)
 
 slice-aggregate-read-number-2 : tie.Need-slice-aggregate-read-number-2
 slice-aggregate-read-number-2 c = search needs
@@ -51,10 +51,10 @@ broken-requires-3 : tie.Need-broken-requires-3
 broken-requires-3 c κs = search needs
 
 returns-3 : tie.Need-returns-3
-returns-3 c = c .broken3 .ensures ∙ chain-drift _ _ _ (not-false (c .before .before .before .before .before .before .before .before .before .before .before .before .before .args .predicates .ok) (c .before .before .before .before .before .before .before .before .before .before .if1 .left)) _ _ (sym (c .before .before .before .before .before .before .before .before .read-number .ensures) ∙ c .before .before .before .before .before .before .step .given .1) (sym (c .before .before .before .read-number2 .ensures) ∙ c .before .enum-told2 .given .1)
+returns-3 c = c .broken3 .ensures ∙ chain-drift _ _ _ _ (not-false (c .before .before .before .before .before .before .before .before .before .before .before .before .before .args .predicates .ok) (c .before .before .before .before .before .before .before .before .before .before .if1 .left)) _ _ (sym (c .before .before .before .before .before .before .before .before .read-number .ensures) ∙ c .before .before .before .before .before .before .step .given .1) (sym (c .before .before .before .read-number2 .ensures) ∙ c .before .enum-told2 .given .1)
 
 returns-4 : tie.Need-returns-4
-returns-4 c = chain-read _ _ _ (not-false (c .before .before .before .before .before .before .before .before .before .before .before .before .before .before .args .predicates .ok) (c .before .before .before .before .before .before .before .before .before .before .before .if1 .left)) _ _ (sym (c .before .before .before .before .before .before .before .before .before .read-number .ensures) ∙ c .before .before .before .before .before .before .before .step .given .1) _ _ (sym (c .before .before .before .before .read-number2 .ensures) ∙ c .before .before .drift .given .1)
+returns-4 c = chain-read _ _ _ _ (not-false (c .before .before .before .before .before .before .before .before .before .before .before .before .before .before .args .predicates .ok) (c .before .before .before .before .before .before .before .before .before .before .before .if1 .left)) _ _ (sym (c .before .before .before .before .before .before .before .before .before .read-number .ensures) ∙ c .before .before .before .before .before .before .before .step .given .1) _ _ (sym (c .before .before .before .before .read-number2 .ensures) ∙ c .before .before .drift .given .1)
 
 pub read-behind-spec : {M : Type 1} → statement M
 read-behind-spec =

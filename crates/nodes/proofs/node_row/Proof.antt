@@ -15,7 +15,7 @@ use Rattle.tables.specs.Kind.{Operator, joined, binary, unary, operator, operat
 use Rattle.tables.specs.Rules.{timed}
 use Rattle.tables.proofs.EveryKind.{operating, joined-form, temporal-form}
 use Rattle.temporal.specs.declared.Left.the-variants.{Row, Absent}
-use Rattle.nodes.proofs.Rows.{left-before, right-before, above, row-asks, leaf, true-arm, predicate-arm, not-arm, joined-arm, binary-arm, unary-arm}
+use Rattle.nodes.proofs.Rows.{left-before, right-before, above, row-asks, channel-known, leaf, true-arm, predicate-arm, not-arm, joined-arm, binary-arm, unary-arm}
 use Rattle.nodes.proofs.node_row.Statement.{statement}
 use Rattle.nodes.proofs.node_row.Tie as tie
 
@@ -61,14 +61,20 @@ mul-predicate c = omega (arith, c .before .before .before .pre .numbered (c .if2
 element-copy-out-predicate : tie.Need-element-copy-out-predicate
 element-copy-out-predicate c = omega (arith, c .before .before .before .pre .numbered (c .if2 .taken))
 
+mul-scale : tie.Need-mul-scale
+mul-scale c = let s = c .before .before .before .before .before in omega (arith, channel-known (s .pre) (c .before .before .if2 .taken), s .pre .recorded .channels .few-channels)
+
+element-copy-out-scale : tie.Need-element-copy-out-scale
+element-copy-out-scale c = let s = c .before .before .before .before .before in omega (arith, channel-known (s .pre) (c .before .before .if2 .taken), s .pre .recorded .channels .few-channels)
+
 predicate-row-requires : tie.Need-predicate-row-requires
-predicate-row-requires c κs = let s = c .before .before .before .before .before in (s .pre .room, leaf (s .pre) (c .before .before .if2 .taken))
+predicate-row-requires c κs = let s = c .before .before .before .before .before .before .before in (s .pre .room, leaf (s .pre) (c .before .before .before .before .if2 .taken))
 
 same-length-2 : tie.Need-same-length-2
 same-length-2 c = search needs
 
 returns-2 : tie.Need-returns-2
-returns-2 c = predicate-arm _ _ _ _ _ _ _ _ (c .before .before .before .before .before .before .before .args .affirmed) (c .before .before .before .before .if2 .taken) (c .before .predicate-row .ensures)
+returns-2 c = predicate-arm _ _ _ _ _ _ _ _ (c .before .before .before .before .before .before .before .before .before .args .affirmed) (c .before .before .before .before .before .before .if2 .taken) (c .before .predicate-row .ensures)
 
 signed-row-requires : tie.Need-signed-row-requires
 signed-row-requires c κs =
@@ -149,6 +155,8 @@ node-row-spec =
     returns
     mul-predicate
     element-copy-out-predicate
+    mul-scale
+    element-copy-out-scale
     predicate-row-requires
     same-length-2
     returns-2

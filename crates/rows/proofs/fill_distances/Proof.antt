@@ -10,22 +10,22 @@ use Rattle.lists.specs.Fill.{fill}
 use Rattle.lists.proofs.Filled.{fill-none, fill-to}
 use Rattle.numbers.proofs.Parts.{within-neg}
 use Rattle.numbers.proofs.Bits.{back, back-is, back-ok}
-use Rattle.recordings.specs.Distance.{TOP, distance}
+use Rattle.recordings.specs.Distance.{TOP, scaled-distance}
 use Rattle.rows.specs.Cells.{signed}
 use Rattle.rows.proofs.Kept.{fill-more}
-use Rattle.rows.proofs.Fits.{fit, in-back, top-fits, distance-within}
+use Rattle.rows.proofs.Fits.{fit, in-back, top-fits, scaled-within}
 use Rattle.recordings.specs.Accepted.{InRange}
 use Rattle.rows.proofs.fill_distances.Statement.{statement}
 use Rattle.rows.proofs.fill_distances.Tie as tie
 
 abbrev Inv-loop : tie.InvT-loop
-Inv-loop channels values rows affirmed part₀ channel range i₀ part i =
+Inv-loop scale channels values rows affirmed part₀ channel range i₀ part i =
     (i ≤ rows)
-    × (part ≡ fill 0 i (λ j. signed affirmed (distance TOP range (getD values (j * channels + channel) (pos 0)))) part₀)
+    × (part ≡ fill 0 i (λ j. signed affirmed (scaled-distance TOP scale range (getD values (j * channels + channel) (pos 0)))) part₀)
     × (length part ≡ length part₀)
 
 abbrev μ-loop : tie.MeasureT-loop
-μ-loop channels values rows affirmed part₀ channel range i₀ part i = rows - i
+μ-loop scale channels values rows affirmed part₀ channel range i₀ part i = rows - i
 
 -- a value's place is in the slice
 place : (c : tie.In-loop Inv-loop μ-loop) → c .before .loop .i * c .before .before .args .channels + c .before .before .args .predicate .channel < length (c .before .before .args .values .now)
@@ -35,9 +35,9 @@ value : (c : tie.In-loop Inv-loop μ-loop) → InRange (getD (c .before .before 
 value c = c .before .before .pre .1 .in-range .each _ (place c)
 
 -- its distance
-far : (c : tie.After-distance-of Inv-loop μ-loop) → back (c .distance-of .result) ≡ distance TOP (c .before .before .before .before .args .predicate .range) (getD (c .before .before .before .before .args .values .now) (c .before .before .before .loop .i * c .before .before .before .before .args .channels + c .before .before .before .before .args .predicate .channel) (pos 0))
+far : (c : tie.After-scaled-distance Inv-loop μ-loop) → back (c .scaled-distance .result) ≡ scaled-distance TOP (c .before .before .before .before .args .scale) (c .before .before .before .before .args .predicate .range) (getD (c .before .before .before .before .args .values .now) (c .before .before .before .loop .i * c .before .before .before .before .args .channels + c .before .before .before .before .args .predicate .channel) (pos 0))
 far c =
-    back-ok (c .distance-of .result) (c .distance-of .ok) ∙ c .distance-of .ensures ∙ ap (distance TOP (c .before .before .before .before .args .predicate .range)) (back-is (fit (value (c .before .before))))
+    back-ok (c .scaled-distance .result) (c .scaled-distance .ok) ∙ c .scaled-distance .ensures ∙ ap (scaled-distance TOP (c .before .before .before .before .args .scale) (c .before .before .before .before .args .predicate .range)) (back-is (fit (value (c .before .before))))
 
 loop-holds : tie.Need-loop-holds Inv-loop μ-loop
 loop-holds c = (omega arith, fill-none _ _ _, refl)
@@ -54,16 +54,16 @@ mul-value-2 c = omega (arith, place c)
 shared-slice-copy-out-value : tie.Need-shared-slice-copy-out-value Inv-loop μ-loop
 shared-slice-copy-out-value c = place c
 
-distance-of-requires : tie.Need-distance-of-requires Inv-loop μ-loop
-distance-of-requires c κs = (in-back (value (c .before)), c .before .before .before .pre .1 .ends)
+scaled-distance-requires : tie.Need-scaled-distance-requires Inv-loop μ-loop
+scaled-distance-requires c κs = (in-back (value (c .before)), c .before .before .before .pre .1 .ends, c .before .before .before .pre .1 .small-scale)
 
 signed-of-requires : tie.Need-signed-of-requires Inv-loop μ-loop
 signed-of-requires c κs =
     let s = c .before .before .before .before in
-    rw (far c) (top-fits (within-neg (distance-within (s .args .predicate .range) _ (s .pre .1 .ends) (value (c .before .before)))))
+    rw (far c) (top-fits (within-neg (scaled-within (s .args .scale) (s .pre .1 .small-scale) (s .args .predicate .range) _ (s .pre .1 .ends) (value (c .before .before)))))
 
-mul-t13 : tie.Need-mul-t13 Inv-loop μ-loop
-mul-t13 c = omega arith
+mul-t14 : tie.Need-mul-t14 Inv-loop μ-loop
+mul-t14 c = omega arith
 
 slice-set-from-part : tie.Need-slice-set-from-part Inv-loop μ-loop
 slice-set-from-part c = omega arith
@@ -97,9 +97,9 @@ fill-distances-spec =
     add-value
     mul-value-2
     shared-slice-copy-out-value
-    distance-of-requires
+    scaled-distance-requires
     signed-of-requires
-    mul-t13
+    mul-t14
     slice-set-from-part
     add-i
     loop-less

@@ -1,23 +1,16 @@
--- At most 4,096 rows of at most 8 channels: the product does not wrap.
+-- The code's test is the definition's.
 -- Assumes nothing.
-use native.Mathlib.Omega.{arith}
-use native.Mathlib.Nat.{mul-le-mul-right}
-use borrow.Author.Tests.{le-leb, lt-leb}
-use Rattle.recordings.specs.Accepted.{MOST-ROWS}
+use borrow.Author.Needs.{needs}
 use Rattle.rules.specs.Recording.{lengths-obey}
 use Rattle.rules.proofs.lengths_obey.Statement.{statement}
 use Rattle.rules.proofs.lengths_obey.Tie as tie
 
+samples-obey-requires : tie.Need-samples-obey-requires
+samples-obey-requires c κs = search needs
+
 returns : tie.Need-returns
 unfolding lengths-obey
-returns c = rw (lt-leb (c .before .args .rows) MOST-ROWS (c .if1 .taken))
-
-mul-result : tie.Need-mul-result
-mul-result c = omega (arith, mul-le-mul-right (c .before .args .channels) (c .if1 .left))
-
-returns-2 : tie.Need-returns-2
-unfolding lengths-obey
-returns-2 c = rw (le-leb (c .before .args .rows) MOST-ROWS (c .if1 .left))
+returns c = rw (c .samples-obey .ensures)
 
 pub lengths-obey-spec : {M : Type 1} → statement M
-lengths-obey-spec = tie.close (tie.spec returns mul-result returns-2)
+lengths-obey-spec = tie.close (tie.spec samples-obey-requires returns)

@@ -6,6 +6,7 @@ use borrow.Author.Needs.{needs}
 use borrow.Author.Tests.{not-true, not-false}
 use Rattle.numbers.proofs.Parts.{holds}
 use Rattle.refusals.specs.First.{first}
+use Rattle.recordings.specs.Card.{card}
 use Rattle.sampling.specs.Sampling.{step-obeys, times-close, values-near}
 use Rattle.sampling.proofs.Sampling.{step-is}
 use Rattle.sampling.proofs.refusal.Statement.{statement}
@@ -18,7 +19,7 @@ passed-9 c = sym (c .before .step-obeys .ensures) ∙ not-false _ (c .if1 .left)
 passed-10 : (c : tie.Else2) → times-close (c .before .before .before .before .before .args .times .now) (c .before .before .before .before .before .args .step) ≡ true
 passed-10 c = sym (c .before .times-close .ensures) ∙ not-false _ (c .if2 .left)
 
-passed-11 : (c : tie.Else3) → values-near (c .before .before .before .before .before .before .before .args .setup .channels) (c .before .before .before .before .before .before .before .args .values .now) (c .before .before .before .before .before .before .before .args .drift) ≡ true
+passed-11 : (c : tie.Else3) → values-near (card (c .before .before .before .before .before .before .before .args .setup) (c .before .before .before .before .before .before .before .args .times .now) (c .before .before .before .before .before .before .before .args .values .now)) (c .before .before .before .before .before .before .before .args .drift) ≡ true
 passed-11 c = sym (c .before .values-near .ensures) ∙ not-false _ (c .if3 .left)
 
 step-obeys-requires : tie.Need-step-obeys-requires
@@ -39,8 +40,7 @@ values-near-requires : tie.Need-values-near-requires
 values-near-requires c κs =
     let s = c .before .before .before .before .before in
     record {
-      some-values = s .pre .some-values;
-      in-range = s .pre .in-range;
+      recorded = s .pre;
       small-drift = step-is (s .args .step) (s .args .drift) (holds (passed-9 (c .before .before))) .small-drift;
     }
 

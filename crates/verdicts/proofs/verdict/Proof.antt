@@ -14,7 +14,7 @@ use Rattle.refusals.specs.First.{first}
 use Rattle.rules.specs.Refusals.{checks, Sound}
 use Rattle.rules.proofs.Refusals.{sound}
 use Rattle.sampling.specs.Sampling.{checks as sampling-checks}
-use Rattle.sampling.proofs.Sampling.{measured, accepted}
+use Rattle.sampling.proofs.Sampling.{accepted}
 use Rattle.verdicts.specs.Cells.{strong}
 use Rattle.verdicts.specs.Rows.{Ready}
 use Rattle.verdicts.specs.Answer.{verdict-refusal}
@@ -73,7 +73,7 @@ returns-2 c =
     (refused-outcome (card-of s) (s .args .table) (s .args .step) (s .args .drift) (length (s .args .work .now)) _ r n, cells-kept (card-of s) (s .args .table) (s .args .step) (s .args .drift) (s .args .work .now) _ r n)
 
 refusal-requires-2 : tie.Need-refusal-requires-2
-refusal-requires-2 c κs = measured (sound-at (c .before) .recorded)
+refusal-requires-2 c κs = sound-at (c .before) .recorded
 
 returns-3 : tie.Need-returns-3
 returns-3 c =

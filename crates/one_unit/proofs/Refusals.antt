@@ -1,0 +1,100 @@
+-- In one unit 13 never applies, 5 judges the samples alone and 11 the differences as they are: the refusals of before, whose tests are exact too.
+-- Assumes nothing.
+use mathlib.Core.Path.{_≡_, refl, ap}
+use mathlib.Core.Bool.{Bool, true, _&&_}
+use mathlib.Core.List.{[], _∷_}
+use Prim.Native.Nat.{ℕ, suc, _-_, _*_, _≤_, _<_}
+use native.Mathlib.Omega.{arith}
+use native.Mathlib.Nat.{one-mul}
+use lib.Dec.{T, leb, eqb, leb→le, le→leb, eqb→eq, lit≤}
+use lib.ListN.{length}
+use lib.IntN.{_-ℤ_, natAbs}
+use mir.Facts.{and-yes, yes-and, yes-eqb}
+use Rattle.lists.specs.Fold.{all-below}
+use Rattle.lists.proofs.Below.{same-test, all-at, at-all}
+use Rattle.recordings.specs.Card.{Card, rows, scale, value}
+use Rattle.recordings.specs.Accepted.{MOST-ROWS, Scaled, Steady}
+use Rattle.tables.specs.declared.Table.{Table}
+use Rattle.refusals.specs.First.{first, Exact, AllExact}
+use Rattle.refusals.proofs.First.{exact-append}
+use Rattle.scales.specs.Scales.{scales-obey}
+use Rattle.scales.proofs.Scales.{scales-pass}
+use Rattle.rules.specs.Recording.{samples-obey, lengths-obey}
+use Rattle.rules.proofs.Recording.{times-are, times-pass, values-are, values-pass}
+use Rattle.rules.proofs.Refusals.{exact}
+use Rattle.sampling.specs.Sampling.{values-near}
+use Rattle.sampling.proofs.Sampling.{steady, steady-passes, exact as sampling-exact}
+use Rattle.margins.specs.Answers.{margin-room, margin-refusal}
+use Rattle.verdicts.specs.Answer.{verdict-room, verdict-refusal}
+use Rattle.one_unit.specs.Before.{OneUnit, LengthsBefore, SteadyBefore, near-before, checks-before, sampling-before, margin-checks-before, verdict-checks-before}
+
+-- ---- in one unit
+module _ {c : Card} (u : OneUnit c) where
+  thirteen : scales-obey (c .setup .scales) ≡ true
+  thirteen = same-test (λ _. tt) (λ _. scales-pass c (record { each = λ ch h k. rw (u .each ch (omega (arith, u .all-scales))) (record { some = lit≤ tt; most = lit≤ tt }) }))
+
+  five : eqb (c .setup .scales .count) (c .setup .channels) ≡ true
+  five = same-test (λ _. tt) (λ _. yes-eqb (u .all-scales))
+
+  as-it-was : (ch : ℕ) (n : ℕ) → ch < c .setup .channels → scale c ch * n ≡ n
+  as-it-was ch n h = rw (u .each ch h) (one-mul n)
+
+  steady-alike : (drift : ℕ) → Steady c drift → SteadyBefore c drift
+  steady-alike drift r = record { no-jump = λ i ch h k. rw (as-it-was ch _ k) at (r .no-jump i ch h k) }
+
+  alike-steady : (drift : ℕ) → SteadyBefore c drift → Steady c drift
+  alike-steady drift r = record { no-jump = λ i ch h k. rw (as-it-was ch _ k) (r .no-jump i ch h k) }
+
+-- ---- the tests of before are exact
+samples-exact : (c : Card) → Exact (record { number = 5; sentence = LengthsBefore c; passes = samples-obey (c .setup .channels) (rows c) (length (c .values)) })
+unfolding samples-obey
+samples-exact c = record {
+  sound = λ t.
+      let a = and-yes (leb (rows c) MOST-ROWS) (leb 1 (rows c) && eqb (length (c .values)) (rows c * c .setup .channels)) t in
+      let b = and-yes (leb 1 (rows c)) (eqb (length (c .values)) (rows c * c .setup .channels)) (a .1) in
+      record { some-row = leb→le 1 (rows c) (b .0); few-rows = leb→le (rows c) MOST-ROWS (a .0); all-values = eqb→eq (length (c .values)) (rows c * c .setup .channels) (b .1) };
+  complete = λ r.
+      yes-and (leb (rows c) MOST-ROWS) (leb 1 (rows c) && eqb (length (c .values)) (rows c * c .setup .channels)) (le→leb (rows c) MOST-ROWS (r .few-rows))
+      (yes-and (leb 1 (rows c)) (eqb (length (c .values)) (rows c * c .setup .channels)) (le→leb 1 (rows c) (r .some-row)) (yes-eqb (r .all-values)));
+}
+
+module _ (c : Card) (drift : ℕ) where
+  abbrev apart : ℕ → ℕ → Bool
+  apart ch i = leb (natAbs (value c ch (suc i) -ℤ value c ch i)) (2 * drift)
+
+  near-is : T (near-before c drift) → SteadyBefore c drift
+  unfolding near-before
+  near-is t = record { no-jump = λ i ch h k. leb→le _ (2 * drift) (all-at (apart ch) (rows c - 1) (all-at (λ m. all-below (apart m) (rows c - 1)) (c .setup .channels) t ch k) i (omega arith)) }
+
+  near-passes : SteadyBefore c drift → T (near-before c drift)
+  unfolding near-before
+  near-passes r = at-all (λ m. all-below (apart m) (rows c - 1)) (c .setup .channels) (λ ch k. at-all (apart ch) (rows c - 1) (λ i h. le→leb _ (2 * drift) (r .no-jump i ch (omega arith) k)))
+
+module _ (c : Card) (t : Table) where
+  -- 3 and 4 as today; 6 and 7 likewise
+  checks-exact : AllExact (checks-before c t)
+  checks-exact =
+      let e = exact c t in
+      (e .0, λ p. (e .1 p .0, λ q. (samples-exact c, λ _. (record { sound = times-are c; complete = times-pass c }, λ _. (record { sound = values-are c; complete = values-pass c }, λ _. tt)))))
+
+  pub margin-exact : (cells : ℕ) → AllExact (margin-checks-before c t cells)
+  margin-exact cells = exact-append (checks-before c t) (margin-room c t cells ∷ []) checks-exact (λ _. (record { sound = leb→le _ _; complete = le→leb _ _ }, λ _. tt))
+
+  pub verdict-exact : (step drift size : ℕ) → AllExact (verdict-checks-before c t step drift size)
+  verdict-exact step drift size =
+      let e = sampling-exact c step drift in
+      exact-append (checks-before c t) (verdict-room c t size ∷ sampling-before c step drift) checks-exact
+      (λ _. (record { sound = leb→le _ _; complete = le→leb _ _ }, λ _. (e .0, λ p. (e .1 p .0, λ _. (record { sound = near-is c drift; complete = near-passes c drift }, λ _. tt)))))
+
+-- ---- in one unit they give today's numbers
+module _ {c : Card} (u : OneUnit c) (t : Table) where
+  pub margin-number : (cells : ℕ) → margin-refusal c t cells ≡ first (margin-checks-before c t cells)
+  unfolding first lengths-obey
+  margin-number cells = rw (thirteen u, five u) refl
+
+  pub verdict-number : (step drift size : ℕ) → verdict-refusal c t step drift size ≡ first (verdict-checks-before c t step drift size)
+  unfolding first lengths-obey verdict-refusal
+  verdict-number step drift size = rw (thirteen u, five u, eleven) refl
+    where
+      eleven : values-near c drift ≡ near-before c drift
+      eleven = same-test (λ h. near-passes c drift (steady-alike u drift (steady c drift h))) (λ h. steady-passes c drift (alike-steady u drift (near-is c drift h)))

@@ -1,0 +1,2 @@
+-- The test of the scales.
+pub mod Scales
