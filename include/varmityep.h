@@ -30,6 +30,7 @@ extern "C" {
 #define VARMITYEP_ENDS 32    /* ends: lo and hi of each of 16 predicates */
 #define VARMITYEP_NUMBERS 5  /* numbers of a sheet, see VARMITYEP_SHEET_.. */
 #define VARMITYEP_PLACES 32  /* places: from and to of each of 16 requirements */
+#define VARMITYEP_SCALES 8   /* scales of a sheet: one for each of 8 channels */
 #define VARMITYEP_COUNTS 2   /* counts of rows: measured, filled */
 #define VARMITYEP_RESULT 3   /* result of a verdict: verdict, hold, fail */
 #define VARMITYEP_LINES 2688 /* lines, in bytes: no answer is longer */
@@ -38,12 +39,13 @@ extern "C" {
 #define VARMITYEP_MOST_BYTES 65536
 #define VARMITYEP_MOST_ROWS 4096
 #define VARMITYEP_MOST_CHANNELS 8
+#define VARMITYEP_MOST_SCALE 1000      /* of a channel; the least is 1 */
 #define VARMITYEP_MOST_REQUIREMENTS 16 /* of a sheet */
 #define VARMITYEP_MOST_NODES 64
 #define VARMITYEP_PREDICATES 16
 #define VARMITYEP_NODE_NUMBERS 5
 #define VARMITYEP_NO_END UINT64_C(4294967295) /* hi of a window without end */
-#define VARMITYEP_TOP INT64_C(4000000000)     /* margin of what cannot be missed */
+#define VARMITYEP_TOP INT64_C(4000000000000)  /* margin of what cannot be missed */
 
 /* What varmityep_answer, and with it the program, has room for. */
 #define VARMITYEP_ANSWER_ROWS 2048
@@ -62,7 +64,9 @@ enum {
     VARMITYEP_TABLE = 3,
     /* channels not 1 to 8, or a set predicate's channel or ends */
     VARMITYEP_PREDICATE = 4,
-    /* no sample, over 4,096, or values not rows x channels long */
+    /* a scale not 1 to 1,000 */
+    VARMITYEP_SCALE = 13,
+    /* no sample, over 4,096, values not rows x channels long, or scales not one for each channel */
     VARMITYEP_SAMPLES = 5,
     /* times not rising, or one above 2,000,000,000 */
     VARMITYEP_TIMES = 6,
@@ -74,7 +78,7 @@ enum {
     VARMITYEP_STEP_DRIFT = 9,
     /* two neighbouring times differ by more than the step */
     VARMITYEP_GAP = 10,
-    /* two neighbouring values of a channel differ by over 2 x drift */
+    /* two neighbouring values of a channel differ, scaled, by over 2 x drift */
     VARMITYEP_JUMP = 11
 };
 
@@ -112,15 +116,18 @@ size_t varmityep_answer(const uint8_t *text, size_t text_len, uint8_t *lines, si
 
 /*
  * Reads a sheet: refusal 0, 1 or 12. The whole text is judged, its rows too where channels is 1 to
- * 8. `p=` lines stand by rising number, gaps allowed; any other order, or a number twice, is 1.
- * Writes numbers (VARMITYEP_NUMBERS), places (VARMITYEP_PLACES), ranges (VARMITYEP_RANGES) and ends
- * (VARMITYEP_ENDS). Requirement k is the part of the text from places[2k] up to but not including
- * places[2k + 1]; places beyond the count are 0. An end that a range does not have is 0, and so is
- * an unset predicate's channel.
+ * 8. Then a `c=` line is due for each channel, in order, and otherwise none. `p=` lines stand by
+ * rising number, gaps allowed; any other order, or a number twice, is 1.
+ * Writes numbers (VARMITYEP_NUMBERS), places (VARMITYEP_PLACES), scales (VARMITYEP_SCALES), ranges
+ * (VARMITYEP_RANGES) and ends (VARMITYEP_ENDS). Requirement k is the part of the text from
+ * places[2k] up to but not including places[2k + 1]; places beyond the count are 0. Channel c's
+ * scale is scales[c], out of range or not; scales beyond the channels are 0. An end that a range
+ * does not have is 0, and so is an unset predicate's channel.
  */
 uint64_t varmityep_sheet(const uint8_t *text, size_t text_len,
                          uint64_t *numbers, size_t numbers_len,
                          uint64_t *places, size_t places_len,
+                         uint64_t *scales, size_t scales_len,
                          uint64_t *ranges, size_t ranges_len,
                          int64_t *ends, size_t ends_len);
 
@@ -144,37 +151,42 @@ uint64_t varmityep_rows(const uint8_t *text, size_t text_len, uint64_t channels,
                         uint64_t *counts, size_t counts_len);
 
 /*
- * The distance of a value from one predicate: refusal 0, 4 (channel above 7, or an end broken) or 7
- * (value). range is a number of a predicate's range; an end that it does not have is not looked at,
- * and unset counts as free. Writes the distance at result[0].
+ * The distance of a value from one predicate, times the scale: refusal 0, 4 (channel above 7, or an
+ * end broken), 13 (scale) or 7 (value). range is a number of a predicate's range; an end that it
+ * does not have is not looked at, and unset counts as free, which is VARMITYEP_TOP by every scale.
+ * Writes the distance at result[0].
  */
 uint64_t varmityep_distance(uint64_t range, uint64_t channel, int64_t lo, int64_t hi,
-                            int64_t value,
+                            uint64_t scale, int64_t value,
                             int64_t *result, size_t result_len);
 
 /*
- * The margin of a recording: refusal 0 or 3 to 8. The recording has times_len rows; values has
- * times_len x channels. work needs count x times_len cells: cell k x times_len + i ends as node k's
+ * The margin of a recording: refusal 0, 3 to 8 or 13. The recording has times_len rows; values has
+ * times_len x channels, and scales one for each channel. Every scale is judged by 13, also where
+ * their count is wrong. work needs count x times_len cells: cell k x times_len + i ends as node k's
  * margin at sample i; later cells keep their contents. Writes the margin at result[0].
  */
 uint64_t varmityep_margin(const uint64_t *nodes, size_t nodes_len, uint64_t count,
                           const uint64_t *ranges, size_t ranges_len,
                           const int64_t *ends, size_t ends_len,
                           uint64_t channels,
+                          const uint64_t *scales, size_t scales_len,
                           const uint64_t *times, size_t times_len,
                           const int64_t *values, size_t values_len,
                           int64_t *work, size_t work_len,
                           int64_t *result, size_t result_len);
 
 /*
- * The verdict on a recording: refusal 0 or 3 to 11. work needs 2 x count x times_len cells: row 2k
- * has node k's strengthened margins, row 2k + 1 those of its negation; later cells keep their
- * contents. Writes result (VARMITYEP_RESULT): the verdict, hold, fail.
+ * The verdict on a recording: refusal 0, 3 to 11 or 13. The drift is in the scaled unit, as margins
+ * are. work needs 2 x count x times_len cells: row 2k has node k's strengthened margins, row 2k + 1
+ * those of its negation; later cells keep their contents. Writes result (VARMITYEP_RESULT): the
+ * verdict, hold, fail.
  */
 uint64_t varmityep_verdict(const uint64_t *nodes, size_t nodes_len, uint64_t count,
                            const uint64_t *ranges, size_t ranges_len,
                            const int64_t *ends, size_t ends_len,
                            uint64_t channels,
+                           const uint64_t *scales, size_t scales_len,
                            const uint64_t *times, size_t times_len,
                            const int64_t *values, size_t values_len,
                            uint64_t step, uint64_t drift,

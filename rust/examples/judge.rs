@@ -38,11 +38,12 @@ fn print_figures(text: &[u8]) -> Result<(), Refusal> {
     let mut times = vec![0; varmityep::ANSWER_ROWS];
     let mut values = vec![0; 8 * varmityep::ANSWER_ROWS];
     // Rows that are unread or too many leave a recording without a sample: that is 4 or 5 again,
-    // and a requirement broken by 2 or 3 still goes first.
+    // and 2, 3 and 13 still go before what they go before.
     let counts = varmityep::read_rows(sheet.rows, sheet.channels, &mut times, &mut values)
         .unwrap_or_default();
     let recording = Recording {
         channels: sheet.channels,
+        scales: &sheet.scales,
         times: &times[..counts.measured],
         values: &values[..counts.measured * sheet.channels as usize],
     };

@@ -7,12 +7,17 @@ use crate::table::{self, Table};
 use std::fmt;
 
 /// The margin of what cannot be missed.
-pub const TOP: i64 = 4_000_000_000;
+pub const TOP: i64 = 4_000_000_000_000;
+/// Scales are 1 to this; another one is refused by 13.
+pub const MOST_SCALE: u64 = 1_000;
 
-/// Samples: a time for each, rising, and `channels` values for each time.
+/// Samples: a time for each, rising, and `channels` values for each time. A channel's distances are
+/// multiplied by its scale.
 #[derive(Clone, Copy, PartialEq, Eq, Debug)]
 pub struct Recording<'a> {
     pub channels: u64,
+    /// One for each channel.
+    pub scales: &'a [u64],
     pub times: &'a [u64],
     pub values: &'a [i64],
 }
@@ -60,13 +65,14 @@ fn call<T>(
         ranges: &flat.ranges,
         ends: &flat.ends,
         channels: recording.channels,
+        scales: recording.scales,
         times: recording.times,
         values: recording.values,
     })
 }
 
 /// The margin of a recording: by how much it keeps the requirement, or misses it below 0.
-/// Refusals 3 to 8.
+/// Refusals 3 to 8 and 13.
 ///
 /// `work` needs nodes × rows cells. Cell k × rows + i ends as node k's margin at sample i, later
 /// cells keep their contents; under a refusal all do.
@@ -82,8 +88,8 @@ pub fn margin(
 }
 
 /// Whether a recording keeps the requirement between its samples too, which are at most `step`
-/// seconds apart, if no channel moves by more than `drift` within a step of a sample.
-/// Refusals 3 to 11.
+/// seconds apart, if no channel moves, times its scale, by more than `drift` within a step of a
+/// sample. Refusals 3 to 11 and 13.
 ///
 /// `work` needs 2 × nodes × rows cells. Row 2k ends as node k's strengthened margins, row 2k + 1 as
 /// those of its negation, later cells keep their contents; under a refusal all do.

@@ -18,7 +18,7 @@ mod refusal;
 mod sheet;
 mod table;
 
-pub use judge::{margin, verdict, Judgement, Recording, Verdict, TOP};
+pub use judge::{margin, verdict, Judgement, Recording, Verdict, MOST_SCALE, TOP};
 pub use predicate::{Predicate, Predicates, Range};
 pub use refusal::Refusal;
 pub use sheet::{read_rows, read_sheet, Counts, Sheet, MOST_REQUIREMENTS};

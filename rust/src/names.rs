@@ -17,6 +17,8 @@ extern "C" {
         numbers_len: usize,
         places: *mut u64,
         places_len: usize,
+        scales: *mut u64,
+        scales_len: usize,
         ranges: *mut u64,
         ranges_len: usize,
         ends: *mut i64,
@@ -49,6 +51,7 @@ extern "C" {
         channel: u64,
         lo: i64,
         hi: i64,
+        scale: u64,
         value: i64,
         result: *mut i64,
         result_len: usize,
@@ -63,6 +66,8 @@ extern "C" {
         ends: *const i64,
         ends_len: usize,
         channels: u64,
+        scales: *const u64,
+        scales_len: usize,
         times: *const u64,
         times_len: usize,
         values: *const i64,
@@ -82,6 +87,8 @@ extern "C" {
         ends: *const i64,
         ends_len: usize,
         channels: u64,
+        scales: *const u64,
+        scales_len: usize,
         times: *const u64,
         times_len: usize,
         values: *const i64,
@@ -109,6 +116,7 @@ pub fn answer(text: &[u8], lines: &mut [u8]) -> usize {
 pub struct Sheet<'a> {
     pub numbers: &'a mut [u64],
     pub places: &'a mut [u64],
+    pub scales: &'a mut [u64],
     pub ranges: &'a mut [u64],
     pub ends: &'a mut [i64],
 }
@@ -122,6 +130,8 @@ pub fn sheet(text: &[u8], sheet: Sheet) -> u64 {
             sheet.numbers.len(),
             sheet.places.as_mut_ptr(),
             sheet.places.len(),
+            sheet.scales.as_mut_ptr(),
+            sheet.scales.len(),
             sheet.ranges.as_mut_ptr(),
             sheet.ranges.len(),
             sheet.ends.as_mut_ptr(),
@@ -168,10 +178,12 @@ pub fn rows(
 /// The predicate as its range, channel, lo and hi.
 pub fn distance(
     (range, channel, lo, hi): (u64, u64, i64, i64),
+    scale: u64,
     value: i64,
     result: &mut [i64],
 ) -> u64 {
-    unsafe { varmityep_distance(range, channel, lo, hi, value, result.as_mut_ptr(), result.len()) }
+    let (place, length) = (result.as_mut_ptr(), result.len());
+    unsafe { varmityep_distance(range, channel, lo, hi, scale, value, place, length) }
 }
 
 /// What margin and verdict are given besides work.
@@ -181,6 +193,7 @@ pub struct Call<'a> {
     pub ranges: &'a [u64],
     pub ends: &'a [i64],
     pub channels: u64,
+    pub scales: &'a [u64],
     pub times: &'a [u64],
     pub values: &'a [i64],
 }
@@ -198,6 +211,8 @@ macro_rules! ask {
                 $call.ends.as_ptr(),
                 $call.ends.len(),
                 $call.channels,
+                $call.scales.as_ptr(),
+                $call.scales.len(),
                 $call.times.as_ptr(),
                 $call.times.len(),
                 $call.values.as_ptr(),

@@ -24,12 +24,13 @@ pub struct Predicate {
 }
 
 impl Predicate {
-    /// The distance of a value: how far it is inside the range, or minus how far outside; never 0,
-    /// and [`crate::TOP`] where the range is free or unset. Refusals 4 and 7.
-    pub fn distance(&self, value: i64) -> Result<i64, Refusal> {
+    /// The distance of a value: how far it is inside the range, or minus how far outside, times the
+    /// channel's scale; never 0, and [`crate::TOP`] where the range is free or unset. Refusals 4,
+    /// 13 and 7.
+    pub fn distance(&self, scale: u64, value: i64) -> Result<i64, Refusal> {
         let mut result = [0];
         let (range, lo, hi) = numbers(self.range);
-        Refusal::check(names::distance((range, self.channel, lo, hi), value, &mut result))?;
+        Refusal::check(names::distance((range, self.channel, lo, hi), scale, value, &mut result))?;
         Ok(result[0])
     }
 }

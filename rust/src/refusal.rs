@@ -12,6 +12,7 @@ pub enum Refusal {
     Requirement = 2,
     Table = 3,
     Predicates = 4,
+    Scales = 13,
     Samples = 5,
     Times = 6,
     Values = 7,
@@ -23,12 +24,13 @@ pub enum Refusal {
 
 impl Refusal {
     /// Every refusal, in the order in which they count.
-    pub const ALL: [Refusal; 12] = [
+    pub const ALL: [Refusal; 13] = [
         Refusal::Text,
         Refusal::TooManyRequirements,
         Refusal::Requirement,
         Refusal::Table,
         Refusal::Predicates,
+        Refusal::Scales,
         Refusal::Samples,
         Refusal::Times,
         Refusal::Values,
@@ -71,13 +73,19 @@ impl fmt::Display for Refusal {
                 "channels not 1 to 8, or a set predicate with a channel not below that count, an \
                  end out of range or lo > hi"
             }
-            Refusal::Samples => "no sample, over 4,096, or values not rows × channels long",
+            Refusal::Scales => "a scale out of range",
+            Refusal::Samples => {
+                "no sample, over 4,096, values not rows × channels long, or scales not one for \
+                 each channel"
+            }
             Refusal::Times => "times not rising, or one too large",
             Refusal::Values => "a value out of range",
             Refusal::Work => "work shorter than asked for",
             Refusal::StepOrDrift => "step or drift out of range",
             Refusal::Gap => "two neighbouring times differ by more than the step",
-            Refusal::Jump => "neighbouring values of a channel differ by more than 2 × drift",
+            Refusal::Jump => {
+                "neighbouring values of a channel differ, times its scale, by more than 2 × drift"
+            }
         })
     }
 }

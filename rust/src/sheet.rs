@@ -11,6 +11,8 @@ pub const MOST_REQUIREMENTS: usize = 16;
 #[derive(Clone, PartialEq, Eq, Debug)]
 pub struct Sheet<'a> {
     pub channels: u64,
+    /// Those of the channels where they are 1 to 8, else none.
+    pub scales: Vec<u64>,
     pub predicates: Predicates,
     pub step: u64,
     pub drift: u64,
@@ -21,22 +23,28 @@ pub struct Sheet<'a> {
 }
 
 /// Reads a sheet. Refusals 1 and 12, of the whole text: its rows are judged too where channels is
-/// 1 to 8. `p=` lines stand by rising number, gaps allowed; any other order, or a number twice, is
-/// refused by 1.
+/// 1 to 8. Then a `c=` line is due for each channel, in order, and otherwise none. `p=` lines stand
+/// by rising number, gaps allowed; any other order, or a number twice, is refused by 1. A scale out
+/// of range is read; margin and verdict refuse it.
 pub fn read_sheet(text: &[u8]) -> Result<Sheet<'_>, Refusal> {
     let (mut numbers, mut places) = ([0; 5], [0; 2 * MOST_REQUIREMENTS]);
+    let mut scales = [0; 8];
     let mut flat = predicate::Flat::BLANK;
     let lent = names::Sheet {
         numbers: &mut numbers,
         places: &mut places,
+        scales: &mut scales,
         ranges: &mut flat.ranges,
         ends: &mut flat.ends,
     };
     Refusal::check(names::sheet(text, lent))?;
     let [channels, step, drift, rows, count] = numbers;
+    // Those of the channels are in front; where channels is not 1 to 8, none was read.
+    let own = if channels <= 8 { channels as usize } else { 0 };
     let part = |place: &[u64]| &text[place[0] as usize..place[1] as usize];
     Ok(Sheet {
         channels,
+        scales: scales[..own].to_vec(),
         predicates: predicate::of_flat(&flat),
         step,
         drift,

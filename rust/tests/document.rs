@@ -1,13 +1,15 @@
-//! Document 01's example, whole and by its parts, windows from now, predicates by number, several
-//! requirements, and every refusal number.
+//! Document 01's example, whole and by its parts, windows from now, predicates by number, scales,
+//! several requirements, and every refusal number.
 
 use varmityep::{
     answer, margin, read_requirement, read_rows, read_sheet, verdict, Counts, Judgement, Node,
-    Predicate, Predicates, Range, Recording, Refusal, Table, Verdict, MOST_REQUIREMENTS, TOP,
+    Predicate, Predicates, Range, Recording, Refusal, Table, Verdict, MOST_REQUIREMENTS,
+    MOST_SCALE, TOP,
 };
 
 const EXAMPLE: &str = "\
 chan=1
+c=0 scale=1
 p=0 ch=0 lo=5 hi=*
 step=1
 drift=2
@@ -29,6 +31,7 @@ fn the_example_prints_its_line() {
 fn the_example_by_its_parts() {
     let sheet = read_sheet(EXAMPLE.as_bytes()).unwrap();
     assert_eq!((sheet.channels, sheet.step, sheet.drift), (1, 1, 2));
+    assert_eq!(sheet.scales, [1]);
     assert_eq!(sheet.predicates[0], Predicate { channel: 0, range: Range::AtLeast(5) });
     assert_eq!(sheet.predicates[1..], [Predicate::default(); 15]);
     assert_eq!(sheet.requirements, [b"G[0,2]p0"]);
@@ -42,7 +45,8 @@ fn the_example_by_its_parts() {
     assert_eq!(counts, Ok(Counts { measured: 5, filled: 0 }));
     assert_eq!((times, values), ([0, 1, 2, 3, 4, 7], [10, 11, 10, 9, 10, 7]));
 
-    let recording = Recording { channels: 1, times: &times[..5], values: &values[..5] };
+    let (times, values) = (&times[..5], &values[..5]);
+    let recording = Recording { channels: 1, scales: &sheet.scales, times, values };
     let mut work = [77; 21];
     assert_eq!(margin(&table, &sheet.predicates, &recording, &mut work), Ok(6));
     assert_eq!(work[..10], [6, 7, 6, 5, 6, 6, 5, 5, 5, 6]);
@@ -93,6 +97,59 @@ fn predicates_stand_by_rising_number() {
     }
 }
 
+/// Power in hundredths of a decibel, pump current in tenths of a milliampere.
+const TWO_UNITS: &str = "\
+chan=2
+c=0 scale=1
+c=1 scale=10
+p=0 ch=0 lo=-150 hi=*
+p=1 ch=1 lo=* hi=312
+step=1
+drift=20
+req=G[0,*](p0&p1)
+t=0 src=m v0=-120 v1=305
+t=1 src=m v0=-118 v1=306
+t=2 src=m v0=-121 v1=304
+";
+
+#[test]
+fn distances_are_multiplied_by_their_channels_scale() {
+    let line = |margin: i64, verdict| {
+        let fail = -margin;
+        format!("rows=3 filled=0 margin={margin} hold={margin} fail={fail} verdict={verdict}\n")
+    };
+    assert_eq!(answer(TWO_UNITS.as_bytes()), line(30, "holds"));
+    // Unscaled, the current's 7 would be the smallest.
+    let unscaled = TWO_UNITS.replace("scale=10", "scale=1");
+    assert_eq!(answer(unscaled.as_bytes()), line(7, "unshown"));
+    // From 306 to 301 is more than twice the drift in the scaled unit alone.
+    let jump = TWO_UNITS.replace("v1=304", "v1=301");
+    assert_eq!(answer(jump.as_bytes()), "refused=11\n");
+    assert_eq!(answer(jump.replace("scale=10", "scale=1").as_bytes()), line(7, "unshown"));
+    let free = TWO_UNITS.replace("hi=312", "hi=*").replace("p0&p1", "p1");
+    assert_eq!(answer(free.as_bytes()), line(TOP, "holds"));
+}
+
+#[test]
+fn a_sheet_has_the_scales_of_its_channels() {
+    let scales = |text: &str| read_sheet(text.as_bytes()).map(|sheet| sheet.scales);
+    assert_eq!(scales(TWO_UNITS), Ok(vec![1, 10]));
+    // A scale out of range refuses each requirement, not the sheet.
+    let zero = TWO_UNITS.replace("scale=10", "scale=0");
+    assert_eq!(scales(&zero), Ok(vec![1, 0]));
+    assert_eq!(answer(zero.as_bytes()), "refused=13\n");
+    let all: String = (0..8).map(|c| format!("c={c} scale={}\n", c + 993)).collect();
+    let front =
+        |channels: u64, lines: &str| format!("chan={channels}\n{lines}step=1\ndrift=0\nreq=T\n");
+    assert_eq!(scales(&front(8, &all)), Ok((993..=MOST_SCALE).collect()));
+    for channels in [0, 9, 4_294_967_295] {
+        assert_eq!(scales(&front(channels, "")), Ok(vec![]));
+        assert_eq!(scales(&front(channels, &all)), Err(Refusal::Text));
+    }
+    assert_eq!(scales(&front(7, &all)), Err(Refusal::Text));
+    assert_eq!(scales(&front(1, "")), Err(Refusal::Text));
+}
+
 #[test]
 fn several_requirements_come_by_rising_margin() {
     // Two margins of 6, in sheet order whatever their holds, and the refused ones behind.
@@ -128,8 +185,9 @@ req=2 refused=2
 
 /// A sheet of so many rows, one second apart, none of which misses anything.
 fn long_sheet(requirement: &str, rows: usize) -> String {
-    let front = format!("chan=1\np=0 ch=0 lo=5 hi=*\nstep=1\ndrift=2\nreq={requirement}\n");
-    front + &(0..rows).map(|t| format!("t={t} src=m v0=10\n")).collect::<String>()
+    let front = "chan=1\nc=0 scale=1\np=0 ch=0 lo=5 hi=*\nstep=1\ndrift=2\n";
+    let rows = (0..rows).map(|t| format!("t={t} src=m v0=10\n")).collect::<String>();
+    format!("{front}req={requirement}\n{rows}")
 }
 
 #[test]
@@ -139,6 +197,7 @@ fn every_number_refuses_a_sheet() {
         (2, "req=G[0,2]p0", "req=G[2,0]p0"),
         (3, "req=G[0,2]p0", "req=G[0,2]p1"),
         (4, "ch=0", "ch=1"),
+        (13, "scale=1", "scale=1001"),
         (6, "t=2", "t=1"),
         (7, "v0=11", "v0=1000000001"),
         (9, "step=1", "step=0"),
@@ -160,6 +219,7 @@ struct Call {
     table: Table,
     predicates: Predicates,
     channels: u64,
+    scales: Vec<u64>,
     times: Vec<u64>,
     values: Vec<i64>,
     step: u64,
@@ -172,12 +232,18 @@ fn whole() -> Call {
     predicates[0] = Predicate { channel: 0, range: Range::AtLeast(5) };
     let table = read_requirement(b"G[0,2]p0").unwrap();
     let (times, values) = (vec![0, 1, 2], vec![10, 11, 10]);
-    Call { table, predicates, channels: 1, times, values, step: 1, drift: 2, cells: 12 }
+    let scales = vec![1];
+    Call { table, predicates, channels: 1, scales, times, values, step: 1, drift: 2, cells: 12 }
 }
 
 /// The refusals of margin and verdict, which must leave the cells as they are.
 fn refusals(call: &Call) -> (Option<Refusal>, Option<Refusal>) {
-    let recording = Recording { channels: call.channels, times: &call.times, values: &call.values };
+    let recording = Recording {
+        channels: call.channels,
+        scales: &call.scales,
+        times: &call.times,
+        values: &call.values,
+    };
     let (table, predicates) = (&call.table, &call.predicates);
     let mut work = vec![77; call.cells];
     let judged = verdict(table, predicates, &recording, call.step, call.drift, &mut work);
@@ -191,10 +257,16 @@ fn refusals(call: &Call) -> (Option<Refusal>, Option<Refusal>) {
 #[test]
 fn every_refusal_of_margin_and_verdict() {
     type Break = fn(&mut Call);
-    let breaks: [(Refusal, Break); 10] = [
+    let breaks: [(Refusal, Break); 16] = [
         (Refusal::Table, |c| c.table.nodes[1].left = 1),
         (Refusal::Table, |c| c.table.nodes.resize(65, Node::default())),
         (Refusal::Predicates, |c| c.predicates[9] = Predicate { channel: 1, range: Range::Free }),
+        (Refusal::Scales, |c| c.scales[0] = 0),
+        (Refusal::Scales, |c| c.scales[0] = MOST_SCALE + 1),
+        // Every scale is judged, whatever their count.
+        (Refusal::Scales, |c| c.scales.resize(9, u64::MAX)),
+        (Refusal::Samples, |c| c.scales.push(1)),
+        (Refusal::Samples, |c| c.scales.clear()),
         (Refusal::Samples, |c| c.values.push(10)),
         (Refusal::Times, |c| c.times[1] = 0),
         (Refusal::Values, |c| c.values[2] = -1_000_000_001),
@@ -202,6 +274,7 @@ fn every_refusal_of_margin_and_verdict() {
         (Refusal::StepOrDrift, |c| c.step = 0),
         (Refusal::Gap, |c| c.times[2] = 3),
         (Refusal::Jump, |c| c.values[2] = 6),
+        (Refusal::Jump, |c| c.scales[0] = 5),
     ];
     assert_eq!(refusals(&whole()), (None, None));
     for (refusal, break_it) in breaks {
@@ -237,7 +310,8 @@ fn every_refusal_of_the_readers() {
 
 #[test]
 fn distances_are_counted_from_one() {
-    let of = |range, value| Predicate { channel: 7, range }.distance(value);
+    let by = |range, scale, value| Predicate { channel: 7, range }.distance(scale, value);
+    let of = |range, value| by(range, 1, value);
     assert_eq!(of(Range::AtLeast(5), 10), Ok(6));
     assert_eq!(of(Range::AtLeast(5), 5), Ok(1));
     assert_eq!(of(Range::AtLeast(5), 4), Ok(-1));
@@ -246,11 +320,19 @@ fn distances_are_counted_from_one() {
     assert_eq!(of(Range::Free, -3), Ok(TOP));
     assert_eq!(of(Range::Between(8, 5), 6), Err(Refusal::Predicates));
     assert_eq!(of(Range::Free, 1_000_000_001), Err(Refusal::Values));
-    assert_eq!(Predicate { channel: 8, range: Range::Free }.distance(0), Err(Refusal::Predicates));
+    assert_eq!(by(Range::AtLeast(5), 10, 10), Ok(60));
+    assert_eq!(by(Range::AtLeast(5), 10, 4), Ok(-10));
+    assert_eq!(by(Range::Free, MOST_SCALE, -3), Ok(TOP));
+    let big = 1_000_000_000;
+    assert_eq!(by(Range::AtLeast(-big), MOST_SCALE, big), Ok(2_000_000_001_000));
+    assert_eq!(by(Range::Free, 0, big + 1), Err(Refusal::Scales));
+    assert_eq!(by(Range::Free, MOST_SCALE + 1, 0), Err(Refusal::Scales));
+    let ninth = Predicate { channel: 8, range: Range::Free };
+    assert_eq!(ninth.distance(0, 0), Err(Refusal::Predicates));
 }
 
 #[test]
 fn refusals_have_the_papers_numbers() {
     let numbers = Refusal::ALL.map(Refusal::number);
-    assert_eq!(numbers, [1, 12, 2, 3, 4, 5, 6, 7, 8, 9, 10, 11]);
+    assert_eq!(numbers, [1, 12, 2, 3, 4, 13, 5, 6, 7, 8, 9, 10, 11]);
 }

@@ -7,7 +7,8 @@ use peer::generate::prng::Prng;
 use peer::generate::sheets::{filled, Sound};
 use peer::grammar::read_requirement;
 use peer::history::{Courses, History};
-use peer::levels::margin_by_levels;
+use peer::levels::{margin_before_scales, margin_by_levels, TOP_BEFORE_SCALES};
+use peer::limits::TOP;
 use peer::margin::Margins;
 use peer::predicate::{Predicate, Range, UNSET};
 use peer::sheet::read_sheet;
@@ -40,6 +41,7 @@ pub fn read_back(sound: &Sound) -> Checked {
     let text = draft.text();
     let sheet = read_sheet(&text).map_err(|refusal| format!("sheet refused: {refusal:?}"))?;
     same("channels", sheet.channels, draft.channels)?;
+    same("scales", &sheet.scales, &draft.scales)?;
     same("step", sheet.step, draft.step)?;
     same("drift", sheet.drift, draft.drift)?;
     let requirements: Vec<&[u8]> =
@@ -160,6 +162,10 @@ pub fn margins(accepted: &Answer) -> Checked {
         ("fail", strengthening.strengthened(root, true), fail),
     ] {
         same(what, margin, margin_by_levels(&tree, predicates, recording))?;
+        if let Some(scale) = one_scale(&recording.scales) {
+            let before = margin_before_scales(&tree, predicates, recording);
+            same(&format!("{what}, and {scale} times what it was"), margin, scaled(before, scale))?;
+        }
     }
     ensure(hold <= accepted.margin, || "hold above the margin".to_string())?;
     ensure(fail <= -accepted.margin, || "fail above the negated margin".to_string())?;
@@ -169,6 +175,21 @@ pub fn margins(accepted: &Answer) -> Checked {
         Verdict::NotShown => true,
     };
     ensure(shown, || "the verdict contradicts the samples".to_string())
+}
+
+/// The scale of all channels, where it is the same.
+fn one_scale(scales: &[u64]) -> Option<i64> {
+    scales.iter().all(|scale| *scale == scales[0]).then_some(scales[0] as i64)
+}
+
+/// "With all scales 1 only TOP differs from before"; with another scale of all channels, every
+/// margin that is neither TOP nor −TOP is so many times what it was.
+fn scaled(before: i64, scale: i64) -> i64 {
+    match before {
+        TOP_BEFORE_SCALES => TOP,
+        other if other == -TOP_BEFORE_SCALES => -TOP,
+        other => scale * other,
+    }
 }
 
 /// What trying histories came to.

@@ -62,7 +62,7 @@ mod tests {
     /// inside p0 by more than the drift, those at 2 and 3 are outside.
     fn claimed(requirement: &str) -> Vec<(usize, String)> {
         let text = format!(
-            "chan=1\np=0 ch=0 lo=5 hi=*\nstep=2\ndrift=1\nreq={requirement}\n\
+            "chan=1\nc=0 scale=1\np=0 ch=0 lo=5 hi=*\nstep=2\ndrift=1\nreq={requirement}\n\
              t=0 src=m v0=6\nt=2 src=m v0=4\nt=3 src=m v0=4\nt=5 src=m v0=6\n"
         );
         let entries = judge_sheet(text.as_bytes()).unwrap();

@@ -1,10 +1,11 @@
 //! One input put to each implementation at hand, and the answers compared.
 
 use crate::flat::{flat_nodes, flat_predicates, Peer};
-use crate::library::{Library, COUNTS, ENDS, NODES, NUMBERS, PLACES, RANGES, RESULT};
+use crate::library::{Library, COUNTS, ENDS, NODES, NUMBERS, PLACES, RANGES, RESULT, SCALES};
 use crate::names::{self, LINES};
 use crate::program::Program;
 use peer::generate::calls::Call;
+use peer::limits::MOST_SCALE;
 use std::fmt::Debug;
 
 /// What is compared with the peer.
@@ -52,7 +53,7 @@ pub fn program(others: &Others, text: &[u8], printed: &[u8]) -> Result<(), Strin
 /// What stands in every place before a call: what is not written is seen, and so is what is
 /// written under a refusal.
 const NOISE: u64 = 0x5A5A_5A5A;
-const SIGNED_NOISE: i64 = -0x5A5A_5A5A;
+pub const SIGNED_NOISE: i64 = -0x5A5A_5A5A;
 
 /// What the peer gives and leaves in the lent places, which the library must give and leave too.
 fn same<T: PartialEq + Debug>(
@@ -70,20 +71,22 @@ fn same<T: PartialEq + Debug>(
     Ok(ours)
 }
 
-/// Room for numbers, places, ranges and ends of a sheet: what loses nothing.
-pub const WHOLE_SHEET: [usize; 4] = [NUMBERS, PLACES, RANGES, ENDS];
+/// Room for numbers, places, scales, ranges and ends of a sheet: what loses nothing.
+pub const WHOLE_SHEET: [usize; 5] = [NUMBERS, PLACES, SCALES, RANGES, ENDS];
 
-pub fn sheets(others: &Others, text: &[u8], room: [usize; 4]) -> Result<(), String> {
+pub fn sheets(others: &Others, text: &[u8], room: [usize; 5]) -> Result<(), String> {
     let read = |library: &dyn Library| {
         let (mut numbers, mut places) = ([NOISE; NUMBERS + BEHIND], [NOISE; PLACES + BEHIND]);
+        let mut scales = [NOISE; SCALES + BEHIND];
         let (mut ranges, mut ends) = ([NOISE; RANGES + BEHIND], [SIGNED_NOISE; ENDS + BEHIND]);
         let lent = names::Sheet {
             numbers: &mut numbers[..room[0]],
             places: &mut places[..room[1]],
-            ranges: &mut ranges[..room[2]],
-            ends: &mut ends[..room[3]],
+            scales: &mut scales[..room[2]],
+            ranges: &mut ranges[..room[3]],
+            ends: &mut ends[..room[4]],
         };
-        (library.sheet(text, lent), numbers, places, ranges, ends)
+        (library.sheet(text, lent), numbers, places, scales, ranges, ends)
     };
     same(others, "sheet", read).map(|_| ())
 }
@@ -117,23 +120,38 @@ pub fn rows(
     Ok(same(others, "rows", read)?.0)
 }
 
-/// Refusal numbers of the distances of values about each predicate's ends, and of a value given.
-pub fn distances(others: &Others, call: &Call, value: i64) -> Result<Vec<u64>, String> {
+/// Refusal numbers of the distances of values about each predicate's ends, and of a value given: by
+/// good scales in turn, and by a scale given.
+pub fn distances(others: &Others, call: &Call, scale: u64, value: i64) -> Result<Vec<u64>, String> {
+    const GOOD: [u64; 5] = [1, 2, 7, 10, MOST_SCALE];
     let (ranges, ends) = flat_predicates(&call.predicates);
     let mut numbers = Vec::new();
     for (p, (range, ends)) in ranges.chunks(2).zip(ends.chunks(2)).enumerate() {
         let predicate = (range[0], range[1], ends[0], ends[1]);
-        let values = ends.iter().flat_map(|&end| [end.saturating_sub(1), end]);
+        let good = GOOD[(p + call.recording.rows()) % GOOD.len()];
+        let about = ends.iter().flat_map(|&end| [(good, end.saturating_sub(1), 1), (good, end, 1)]);
         // No place, one, or one more than is written.
-        for (value, room) in values.map(|value| (value, 1)).chain([(value, 1), (value, p % 3)]) {
-            let (number, _) = same(others, "distance", |library| {
-                let mut result = [SIGNED_NOISE; 1 + BEHIND];
-                (library.distance(predicate, value, &mut result[..room]), result)
-            })?;
-            numbers.push(number);
+        let further = [(good, value, 1), (scale, value, p % 3), (scale, ends[0], 1)];
+        for (scale, value, room) in about.chain(further) {
+            numbers.push(distance(others, predicate, scale, value, room)?.0);
         }
     }
     Ok(numbers)
+}
+
+/// The refusal number of one distance, and what stands in the first place then.
+pub fn distance(
+    others: &Others,
+    predicate: (u64, u64, i64, i64),
+    scale: u64,
+    value: i64,
+    room: usize,
+) -> Result<(u64, i64), String> {
+    let (number, result) = same(others, "distance", |library| {
+        let mut result = [SIGNED_NOISE; 1 + BEHIND];
+        (library.distance(predicate, scale, value, &mut result[..room]), result)
+    })?;
+    Ok((number, result[0]))
 }
 
 /// How much is lent of nodes, ranges, ends and result: what loses nothing.
@@ -157,6 +175,7 @@ pub fn calls(others: &Others, call: &Call, lengths: [usize; 4]) -> Result<(u64, 
         ranges: &ranges[..lengths[1]],
         ends: &ends[..lengths[2]],
         channels: call.recording.channels,
+        scales: &call.recording.scales,
         times: &call.recording.times,
         values: &call.recording.values,
     };

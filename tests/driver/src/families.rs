@@ -2,10 +2,11 @@
 
 use crate::checks::{self, Tried};
 use crate::claimed;
-use crate::compare::{self, Others, WHOLE_CALL, WHOLE_SHEET, WHOLE_TABLE};
+use crate::compare::{self, Others, SIGNED_NOISE, WHOLE_CALL, WHOLE_SHEET, WHOLE_TABLE};
 use crate::library::COUNTS;
 use crate::names::LINES;
 use crate::ordered;
+use crate::scaled;
 use crate::shapes;
 use crate::tally::Tally;
 use peer::answer::{entry_line, judge_sheet, printed, Answer, Entry};
@@ -74,12 +75,16 @@ fn answered(bench: &mut Bench, text: &[u8]) -> Result<Result<Vec<Entry>, Refusal
     // And with some other room, mostly too little.
     let any = text.len();
     at(text, compare::answers(bench.others, text, &lines, any % (lines.len() + 1)))?;
-    at(text, compare::sheets(bench.others, text, [any % 7, any % 35, any % 34, any % 33]))?;
+    let room = [any % 7, any % 35, any % 10, any % 34, any % 33];
+    at(text, compare::sheets(bench.others, text, room))?;
     if bench.ask_program {
         at(text, compare::program(bench.others, text, &lines))?;
     }
     if let Some(order) = ordered::about(text) {
         bench.tally.add(format!("predicates: {order}"));
+    }
+    if let Some(fault) = scaled::about(text) {
+        bench.tally.add(format!("scales: {fault}"));
     }
     match &judged {
         Err(refusal) => {
@@ -179,6 +184,9 @@ fn accepted_requirement(
     answer: &Answer,
 ) -> Result<(), Failure> {
     at(text, checks::margins(answer))?;
+    if scaled::unequal(answer) {
+        bench.tally.add("scales: accepted, unequal");
+    }
     match at(text, checks::histories(answer, rng))? {
         Tried::All(0, _) => bench.tally.add("histories: there is none"),
         Tried::All(count, claims) => {
@@ -191,6 +199,9 @@ fn accepted_requirement(
             if count > 1 {
                 for about in claims.iter().flat_map(|claim| claimed::about(claim, answer)) {
                     bench.tally.add(format!("histories: {about}"));
+                }
+                if claims.iter().any(|claim| scaled::on_scaled(claim, answer)) {
+                    bench.tally.add("histories: a scale above 1");
                 }
             }
         }
@@ -231,12 +242,17 @@ fn library_call(bench: &mut Bench, rng: &mut Prng) -> Result<(), Failure> {
     let foretold = call(rng);
     let shown = format!("{:?}\n", foretold.call).into_bytes();
     let value = rng.pick(&[0, 1_000_000_000, 1_000_000_001, -1_000_000_001, i64::MIN, i64::MAX]);
-    for number in at(&shown, compare::distances(bench.others, &foretold.call, value))? {
+    let scale = rng.pick(&[1, 3, 1_000, 0, 1_001, u64::MAX]);
+    for number in at(&shown, compare::distances(bench.others, &foretold.call, scale, value))? {
         bench.tally.add(format!("distance refused={number}"));
     }
     foretold_call(bench, &foretold)?;
     bench.tally.add(format!("margin call refused={}", foretold.margin));
     bench.tally.add(format!("verdict call refused={}", foretold.verdict));
+    let recording = &foretold.call.recording;
+    if recording.scales.len() as u64 != recording.channels {
+        bench.tally.add(format!("scales miscounted refused={}", foretold.margin));
+    }
     if rng.once_in(4) {
         // What a slice does not have reads as 0: the table or a predicate may be another.
         let nodes = (5 * foretold.call.table.count() + 3).min(WHOLE_CALL[0] + 3);
@@ -326,12 +342,45 @@ pub fn limit_sheets(bench: &mut Bench) -> Result<(), Failure> {
         for room in [0, 1, 60, lines.len() - 1, lines.len()] {
             at(&limit.text, compare::answers(bench.others, &limit.text, &lines, room))?;
         }
-        for room in [[0; 4], [4, 3, 32, 32], [5, 31, 1, 31], [6, 33, 33, 33]] {
+        for room in [[0; 5], [4, 3, 7, 32, 32], [5, 31, 1, 1, 31], [6, 33, 9, 33, 33]] {
             at(&limit.text, compare::sheets(bench.others, &limit.text, room))?;
         }
         bench.tally.add("limits");
     }
-    limit_rows(bench)
+    limit_rows(bench)?;
+    limit_distances(bench)
+}
+
+/// Distances where the products are largest, and where 4, 13 and 7 meet.
+fn limit_distances(bench: &mut Bench) -> Result<(), Failure> {
+    let big = 1_000_000_000;
+    let (unset, free, least, most, between) = (0, 1, 2, 3, 4);
+    for (predicate, scale, value, wanted) in [
+        ((least, 7, -big, 0), 1_000, big, Ok(2_000_000_001_000)),
+        ((least, 0, -big, 0), 1_000, -big, Ok(1_000)),
+        ((least, 0, big, 0), 1_000, -big, Ok(-2_000_000_000_000)),
+        ((most, 7, 0, big), 1_000, -big, Ok(2_000_000_001_000)),
+        ((most, 0, 0, big), 999, big, Ok(999)),
+        ((most, 0, 0, -big), 1_000, big, Ok(-2_000_000_000_000)),
+        ((between, 0, -big, big), 1_000, 0, Ok(1_000_000_001_000)),
+        ((between, 0, -big, big), 1, -big, Ok(1)),
+        ((free, 0, big, -big), 1_000, big, Ok(4_000_000_000_000)),
+        ((unset, 0, big, -big), 1_000, big, Ok(4_000_000_000_000)),
+        ((least, 0, -big, 0), 1_000, -big - 1, Err(7)),
+        ((free, 0, 0, 0), 0, 0, Err(13)),
+        ((unset, 0, 0, 0), 1_001, 0, Err(13)),
+        ((least, 0, 0, 0), u64::MAX, big + 1, Err(13)),
+        ((least, 8, 0, 0), 0, big + 1, Err(4)),
+    ] {
+        let wanted = wanted.map_or_else(|number| (number, SIGNED_NOISE), |found| (0, found));
+        let shown = format!("{predicate:?} {scale} {value}\n").into_bytes();
+        let found = at(&shown, compare::distance(bench.others, predicate, scale, value, 1))?;
+        if found != wanted {
+            return at(&shown, Err(format!("distance {found:?}, not {wanted:?}")));
+        }
+        bench.tally.add("limits");
+    }
+    Ok(())
 }
 
 /// The row reader's own limits, which no program's room hides.

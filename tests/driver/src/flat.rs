@@ -1,6 +1,6 @@
 //! The peer's types as flat numbers, and the peer in the library's place.
 
-use crate::library::{Library, ENDS, NODES, NUMBERS, PLACES, RANGES};
+use crate::library::{Library, ENDS, NODES, NUMBERS, PLACES, RANGES, SCALES};
 use crate::names::{self, Call};
 use peer::predicate::{Predicate, Predicates, Range, UNSET};
 use peer::recording::Recording;
@@ -59,6 +59,11 @@ fn flat_places(sheet: &Sheet) -> [u64; PLACES] {
     places
 }
 
+/// The scales of the channels, 0 beyond them.
+fn flat_scales(sheet: &Sheet) -> [u64; SCALES] {
+    padded(&sheet.scales)
+}
+
 /// The numbers of a lent slice, 0 for each that it does not have.
 fn padded<T: Copy + Default, const N: usize>(lent: &[T]) -> [T; N] {
     std::array::from_fn(|place| lent.get(place).copied().unwrap_or_default())
@@ -99,7 +104,12 @@ fn predicates(call: &Call) -> Predicates {
 }
 
 fn recording(call: &Call) -> Recording {
-    Recording { channels: call.channels, times: call.times.to_vec(), values: call.values.to_vec() }
+    Recording {
+        channels: call.channels,
+        scales: call.scales.to_vec(),
+        times: call.times.to_vec(),
+        values: call.values.to_vec(),
+    }
 }
 
 /// As much of the contents as there are places for.
@@ -133,6 +143,7 @@ impl Library for Peer {
             let (ranges, ends) = flat_predicates(&read.predicates);
             write(&flat_numbers(&read), sheet.numbers);
             write(&flat_places(&read), sheet.places);
+            write(&flat_scales(&read), sheet.scales);
             write(&ranges, sheet.ranges);
             write(&ends, sheet.ends);
         })
@@ -158,8 +169,14 @@ impl Library for Peer {
         })
     }
 
-    fn distance(&self, flat: (u64, u64, i64, i64), value: i64, result: &mut [i64]) -> u64 {
-        let found = peer::predicate::judged_distance(&predicate(flat), value);
+    fn distance(
+        &self,
+        flat: (u64, u64, i64, i64),
+        scale: u64,
+        value: i64,
+        result: &mut [i64],
+    ) -> u64 {
+        let found = peer::predicate::judged_distance(&predicate(flat), scale, value);
         hand(found, |distance| write(&[distance], result))
     }
 

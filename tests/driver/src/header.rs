@@ -1,7 +1,7 @@
 //! The numbers of `include/varmityep.h`, which C takes from there alone, are the papers', the
 //! driver's and the proved source's.
 
-use crate::library::{COUNTS, ENDS, NODES, NUMBERS, PLACES, RANGES, RESULT};
+use crate::library::{COUNTS, ENDS, NODES, NUMBERS, PLACES, RANGES, RESULT, SCALES};
 use crate::names::LINES;
 use peer::limits::*;
 use peer::refusal::ORDER;
@@ -32,12 +32,14 @@ fn lengths_and_limits_are_those_of_the_header() {
         ("ENDS", ENDS),
         ("NUMBERS", NUMBERS),
         ("PLACES", PLACES),
+        ("SCALES", SCALES),
         ("COUNTS", COUNTS),
         ("RESULT", RESULT),
         ("LINES", LINES),
         ("MOST_BYTES", MOST_BYTES),
         ("MOST_ROWS", MOST_SAMPLES as usize),
         ("MOST_CHANNELS", MOST_CHANNELS as usize),
+        ("MOST_SCALE", MOST_SCALE as usize),
         ("MOST_REQUIREMENTS", MOST_REQUIREMENTS),
         ("MOST_NODES", MOST_NODES),
         ("PREDICATES", PREDICATES),

@@ -6,7 +6,7 @@
 //! reaches, and keeps its contents under every other number.
 
 use crate::names::{Call, Sheet};
-use peer::limits::{MOST_NODES, MOST_REQUIREMENTS, PREDICATES};
+use peer::limits::{MOST_CHANNELS, MOST_NODES, MOST_REQUIREMENTS, PREDICATES};
 
 /// Lengths that lose nothing.
 pub const NODES: usize = 5 * MOST_NODES;
@@ -14,6 +14,7 @@ pub const RANGES: usize = 2 * PREDICATES;
 pub const ENDS: usize = 2 * PREDICATES;
 pub const NUMBERS: usize = 5;
 pub const PLACES: usize = 2 * MOST_REQUIREMENTS;
+pub const SCALES: usize = MOST_CHANNELS as usize;
 pub const COUNTS: usize = 2;
 pub const RESULT: usize = 3;
 
@@ -37,14 +38,20 @@ pub trait Library {
         counts: &mut [u64],
     ) -> u64;
 
-    /// Refusal 0, 4 or 7; the distance of a value from the predicate, given as its range, channel,
-    /// lo and hi, in result.
-    fn distance(&self, predicate: (u64, u64, i64, i64), value: i64, result: &mut [i64]) -> u64;
+    /// Refusal 0, 4, 13 or 7; the distance of a value from the predicate, given as its range,
+    /// channel, lo and hi, times the scale, in result.
+    fn distance(
+        &self,
+        predicate: (u64, u64, i64, i64),
+        scale: u64,
+        value: i64,
+        result: &mut [i64],
+    ) -> u64;
 
-    /// Refusal 0 or 3 to 8; the margin in result.
+    /// Refusal 0, 3 to 8 or 13; the margin in result.
     fn margin(&self, call: &Call, work: &mut [i64], result: &mut [i64]) -> u64;
 
-    /// Refusal 0 or 3 to 11; verdict (0 not shown, 1 holds, 2 fails), hold and fail in result.
+    /// Refusal 0, 3 to 11 or 13; verdict (0 not shown, 1 holds, 2 fails), hold and fail in result.
     fn verdict(
         &self,
         call: &Call,

@@ -18,6 +18,7 @@ mod ordered;
 mod program;
 #[cfg(any(feature = "proved", test))]
 mod proved;
+mod scaled;
 mod shapes;
 #[cfg(all(test, not(feature = "proved")))]
 mod standin;
@@ -184,17 +185,19 @@ fn run_long(others: &Others, tally: &mut Tally, run: u64) -> bool {
 }
 
 /// What must come up, and how often: every refusal and every verdict, of every entry point, every
-/// order of predicates, all that claims may be about, and every shape of window.
+/// order of predicates, every fault of `c=` lines, cards with unequal scales, all that claims may
+/// be about, and every shape of window.
 fn wanted(thousands: u64, long: bool) -> Vec<(String, u64)> {
     let mut wanted = Vec::new();
     let mut each = |what: &str, numbers: &[u64], least: u64| {
         wanted.extend(numbers.iter().map(|number| (format!("{what}{number}"), least * thousands)));
     };
     each("answer refused=", &ORDER, 5);
-    each("margin call refused=", &[0, 3, 4, 5, 6, 7, 8], 3);
-    each("verdict call refused=", &[0, 3, 4, 5, 6, 7, 8, 9, 10, 11], 2);
+    each("margin call refused=", &[0, 3, 4, 13, 5, 6, 7, 8], 3);
+    each("verdict call refused=", &[0, 3, 4, 13, 5, 6, 7, 8, 9, 10, 11], 2);
+    each("scales miscounted refused=", &[4, 13, 5], 2);
     each("cut call refused=", &[0, 3], 2);
-    each("distance refused=", &[0, 4, 7], 20);
+    each("distance refused=", &[0, 4, 13, 7], 20);
     each("requirement refused=", &[0, 2], 10);
     each("rows refused=", &[0, 1, 4, 5], 2);
     for verdict in ["holds", "fails", "unshown"] {
@@ -212,6 +215,11 @@ fn wanted(thousands: u64, long: bool) -> Vec<(String, u64)> {
     for order in ordered::ALL {
         wanted.push((format!("predicates: {order}"), thousands / 2));
     }
+    for fault in scaled::ALL {
+        wanted.push((format!("scales: {fault}"), thousands / 2));
+    }
+    wanted.push(("scales: accepted, unequal".to_string(), 20 * thousands));
+    wanted.push(("histories: a scale above 1".to_string(), 10 * thousands));
     for histories in ["there is none", "all tried", "some tried", "a verdict tried on all"] {
         wanted.push((format!("histories: {histories}"), 10 * thousands));
     }

@@ -14,7 +14,9 @@ pub const ALL: [&str; 4] = [GAPS, FALLING, SIDE_BY_SIDE, APART];
 /// another one what of its order alone is wrong.
 pub fn about(text: &[u8]) -> Option<&'static str> {
     let lines: Vec<&[u8]> = text.split_inclusive(|&byte| byte == b'\n').collect();
-    let (first, behind) = lines.split_at_checked(1)?;
+    // Behind `chan=` and the `c=` lines.
+    let scales = lines.iter().skip(1).take_while(|line| line.starts_with(b"c=")).count();
+    let (first, behind) = lines.split_at_checked(1 + scales)?;
     let count = behind.iter().take_while(|line| line.starts_with(b"p=")).count();
     let (predicates, others) = behind.split_at(count);
     let numbers: Vec<u64> = predicates.iter().map(|line| number(line)).collect::<Option<_>>()?;
@@ -45,7 +47,7 @@ mod tests {
     fn of(numbers: &[u64]) -> Option<&'static str> {
         let lines: String =
             numbers.iter().map(|number| format!("p={number} ch=0 lo=* hi=*\n")).collect();
-        about(format!("chan=1\n{lines}step=1\ndrift=0\nreq=T\n").as_bytes())
+        about(format!("chan=1\nc=0 scale=1\n{lines}step=1\ndrift=0\nreq=T\n").as_bytes())
     }
 
     #[test]
@@ -57,6 +59,7 @@ mod tests {
         assert_eq!(of(&[3, 3, 5]), Some(SIDE_BY_SIDE));
         assert_eq!(of(&[3, 5, 3]), Some(APART));
         // Another line is broken too.
-        assert_eq!(about(b"chan=1\np=1 ch=0 lo=* hi=*\np=0 ch=0 lo=* hi=*\nstep=\n"), None);
+        let front = "chan=1\nc=0 scale=1\np=1 ch=0 lo=* hi=*\np=0 ch=0 lo=* hi=*\n";
+        assert_eq!(about(format!("{front}step=\n").as_bytes()), None);
     }
 }

@@ -29,8 +29,14 @@ impl Library for Proved {
         names::rows(text, channels, times, values, counts)
     }
 
-    fn distance(&self, predicate: (u64, u64, i64, i64), value: i64, result: &mut [i64]) -> u64 {
-        names::distance(predicate, value, result)
+    fn distance(
+        &self,
+        predicate: (u64, u64, i64, i64),
+        scale: u64,
+        value: i64,
+        result: &mut [i64],
+    ) -> u64 {
+        names::distance(predicate, scale, value, result)
     }
 
     fn margin(&self, call: &Call, work: &mut [i64], result: &mut [i64]) -> u64 {

@@ -24,6 +24,8 @@ unsafe extern "C" fn varmityep_sheet(
     numbers_len: usize,
     places: *mut u64,
     places_len: usize,
+    scales: *mut u64,
+    scales_len: usize,
     ranges: *mut u64,
     ranges_len: usize,
     ends: *mut i64,
@@ -32,6 +34,7 @@ unsafe extern "C" fn varmityep_sheet(
     let sheet = Sheet {
         numbers: from_raw_parts_mut(numbers, numbers_len),
         places: from_raw_parts_mut(places, places_len),
+        scales: from_raw_parts_mut(scales, scales_len),
         ranges: from_raw_parts_mut(ranges, ranges_len),
         ends: from_raw_parts_mut(ends, ends_len),
     };
@@ -76,11 +79,12 @@ unsafe extern "C" fn varmityep_distance(
     channel: u64,
     lo: i64,
     hi: i64,
+    scale: u64,
     value: i64,
     result: *mut i64,
     result_len: usize,
 ) -> u64 {
-    Peer.distance((range, channel, lo, hi), value, from_raw_parts_mut(result, result_len))
+    Peer.distance((range, channel, lo, hi), scale, value, from_raw_parts_mut(result, result_len))
 }
 
 /// Margin and verdict are handed the same; the verdict its step and drift, too.
@@ -96,6 +100,8 @@ macro_rules! judging {
             ends: *const i64,
             ends_len: usize,
             channels: u64,
+            scales: *const u64,
+            scales_len: usize,
             times: *const u64,
             times_len: usize,
             values: *const i64,
@@ -112,6 +118,7 @@ macro_rules! judging {
                 ranges: from_raw_parts(ranges, ranges_len),
                 ends: from_raw_parts(ends, ends_len),
                 channels,
+                scales: from_raw_parts(scales, scales_len),
                 times: from_raw_parts(times, times_len),
                 values: from_raw_parts(values, values_len),
             };

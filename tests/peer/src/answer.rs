@@ -130,5 +130,5 @@ fn recorded(text: &[u8], sheet: &Sheet) -> (Recording, Counts) {
         .unwrap_or(Counts { measured: 0, filled: 0 });
     times.truncate(counts.measured);
     values.truncate(counts.measured * width);
-    (Recording { channels, times, values }, counts)
+    (Recording { channels, scales: sheet.scales.clone(), times, values }, counts)
 }

@@ -47,7 +47,8 @@ pub struct Courses {
 
 impl Courses {
     /// "Each channel's number at a second differs by at most the drift from that channel's value
-    /// at every sample whose time is at most one step from that second, before or after."
+    /// at every sample whose time is at most one step from that second, before or after"; "drift is
+    /// read in the scaled unit".
     ///
     /// Of an accepted recording: its gaps are at most the step, so every second has such a sample.
     pub fn of(recording: &Recording, step: u64, drift: u64) -> Courses {
@@ -92,11 +93,13 @@ impl Courses {
 }
 
 fn allowed(recording: &Recording, second: i64, channel: u64, step: i64, drift: i64) -> Choice {
+    // The most that a number may be off: one more, times the scale, is above the drift.
+    let off = drift / recording.scale(channel);
     let near = (0..recording.rows())
         .filter(|&sample| (recording.time(sample) - second).abs() <= step)
         .map(|sample| recording.value(sample, channel));
-    let least = near.clone().max().expect("a sample within a step") - drift;
-    let most = near.min().expect("a sample within a step") + drift;
+    let least = near.clone().max().expect("a sample within a step") - off;
+    let most = near.min().expect("a sample within a step") + off;
     Choice { least, most }
 }
 
@@ -125,8 +128,9 @@ impl Places for Seconds<'_> {
 mod tests {
     use super::*;
 
-    fn recording(times: &[u64], values: &[i64]) -> Recording {
-        Recording { channels: 1, times: times.to_vec(), values: values.to_vec() }
+    fn recording(scale: u64, times: &[u64], values: &[i64]) -> Recording {
+        let (times, values) = (times.to_vec(), values.to_vec());
+        Recording { channels: 1, scales: vec![scale], times, values }
     }
 
     /// The definition, asked of one course.
@@ -135,7 +139,7 @@ mod tests {
             (0..recording.rows()).all(|sample| {
                 let apart = (history.first + second as i64 - recording.time(sample)).abs();
                 let off = (history.number(second, 0) - recording.value(sample, 0)).abs();
-                apart > step || off <= drift
+                apart > step || recording.scale(0) * off <= drift
             })
         })
     }
@@ -143,12 +147,18 @@ mod tests {
     /// All courses over a few numbers, kept or dropped by the definition alone.
     #[test]
     fn the_enumerated_histories_are_all_of_them() {
-        for (times, values, step, drift) in [
-            (&[0u64, 2, 3][..], &[1i64, 2, 1][..], 2, 1),
-            (&[5, 6, 7], &[0, 1, 3], 1, 2),
-            (&[0, 1, 2], &[5, 7, 9], 1, 1),
+        for (scale, times, values, step, drift) in [
+            (1, &[0u64, 2, 3][..], &[1i64, 2, 1][..], 2, 1),
+            (1, &[5, 6, 7], &[0, 1, 3], 1, 2),
+            (1, &[0, 1, 2], &[5, 7, 9], 1, 1),
+            // The drift a multiple of the scale, one less, in between, and below it.
+            (3, &[0, 2, 3], &[1, 2, 1], 2, 3),
+            (3, &[0, 2, 3], &[1, 2, 1], 2, 5),
+            (3, &[5, 6, 7], &[0, 1, 3], 1, 7),
+            (10, &[0, 1, 2], &[5, 5, 5], 1, 9),
+            (1_000, &[0, 1, 2], &[5, 5, 6], 1, 1_000),
         ] {
-            let recording = recording(times, values);
+            let recording = recording(scale, times, values);
             let courses = Courses::of(&recording, step, drift);
             let mut listed = Vec::new();
             courses.each(|history| listed.push(history.numbers.clone()));
@@ -170,8 +180,10 @@ mod tests {
 
     #[test]
     fn a_steep_ramp_has_no_history() {
-        let ramp = recording(&[0, 1, 2], &[5, 7, 9]);
-        assert!(!ramp.has_jump(1));
-        assert_eq!(Courses::of(&ramp, 1, 1).count(), 0);
+        for scale in [1, 7] {
+            let ramp = recording(scale, &[0, 1, 2], &[5, 7, 9]);
+            assert!(!ramp.has_jump(scale));
+            assert_eq!(Courses::of(&ramp, 1, scale).count(), 0);
+        }
     }
 }

@@ -5,18 +5,21 @@
 
 use crate::limits::TOP;
 use crate::margin::atom_margin;
-use crate::predicate::Predicates;
+use crate::predicate::{unscaled_distance, Predicates};
 use crate::recording::Recording;
 use crate::tree::{Atom, Shared};
 use crate::truth::{Places, Truth};
 
-struct AtLeast<'a> {
+/// TOP before Change 5.
+pub const TOP_BEFORE_SCALES: i64 = 4_000_000_000;
+
+struct AtLeast<'a, M> {
     level: i64,
-    predicates: &'a Predicates,
+    margin: &'a M,
     recording: &'a Recording,
 }
 
-impl Places for AtLeast<'_> {
+impl<M: Fn(Atom, usize) -> i64> Places for AtLeast<'_, M> {
     fn count(&self) -> usize {
         self.recording.rows()
     }
@@ -26,36 +29,64 @@ impl Places for AtLeast<'_> {
     }
 
     fn atom(&self, atom: Atom, negated: bool, sample: usize) -> bool {
-        let margin = atom_margin(atom, sample, self.predicates, self.recording);
+        let margin = (self.margin)(atom, sample);
         (if negated { -margin } else { margin }) >= self.level
+    }
+}
+
+/// The margin at the first sample of a requirement whose "not" is pushed down.
+pub fn margin_by_levels(tree: &Shared, predicates: &Predicates, recording: &Recording) -> i64 {
+    let margin = |atom, sample| atom_margin(atom, sample, predicates, recording);
+    highest(tree, predicates, recording, TOP, &margin)
+}
+
+/// The same before there were scales: distances as they are, and the TOP of then.
+pub fn margin_before_scales(tree: &Shared, predicates: &Predicates, recording: &Recording) -> i64 {
+    let margin = |atom, sample| match atom {
+        Atom::True => TOP_BEFORE_SCALES,
+        Atom::Predicate(number) => {
+            let value = recording.value(sample, predicates[number].channel);
+            unscaled_distance(predicates[number].range, value).unwrap_or(TOP_BEFORE_SCALES)
+        }
+    };
+    highest(tree, predicates, recording, TOP_BEFORE_SCALES, &margin)
+}
+
+/// The highest level that the requirement reaches at the first sample, −TOP where it reaches none.
+fn highest(
+    tree: &Shared,
+    predicates: &Predicates,
+    recording: &Recording,
+    top: i64,
+    margin: &impl Fn(Atom, usize) -> i64,
+) -> i64 {
+    let levels = levels(predicates, recording, top, margin);
+    let reached = levels
+        .partition_point(|&level| Truth::over(&AtLeast { level, margin, recording }).of(tree)[0]);
+    if reached == 0 {
+        -top
+    } else {
+        levels[reached - 1]
     }
 }
 
 /// Every margin that an atom or its negation has anywhere, and TOP, rising. Every margin is at
 /// least −TOP, also an eventually's over nothing, which no level says; so that one is left out.
-fn levels(predicates: &Predicates, recording: &Recording) -> Vec<i64> {
-    let mut levels = vec![TOP];
+fn levels(
+    predicates: &Predicates,
+    recording: &Recording,
+    top: i64,
+    margin: &impl Fn(Atom, usize) -> i64,
+) -> Vec<i64> {
+    let mut levels = vec![top];
     for number in (0..predicates.len()).filter(|&number| predicates[number].is_set()) {
         for sample in 0..recording.rows() {
-            let margin = atom_margin(Atom::Predicate(number), sample, predicates, recording);
+            let margin = margin(Atom::Predicate(number), sample);
             levels.extend([margin, -margin]);
         }
     }
-    levels.retain(|&level| level > -TOP);
+    levels.retain(|&level| level > -top);
     levels.sort_unstable();
     levels.dedup();
     levels
-}
-
-/// The margin at the first sample of a requirement whose "not" is pushed down.
-pub fn margin_by_levels(tree: &Shared, predicates: &Predicates, recording: &Recording) -> i64 {
-    let levels = levels(predicates, recording);
-    let reached = levels.partition_point(|&level| {
-        Truth::over(&AtLeast { level, predicates, recording }).of(tree)[0]
-    });
-    if reached == 0 {
-        -TOP
-    } else {
-        levels[reached - 1]
-    }
 }

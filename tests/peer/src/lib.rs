@@ -1,4 +1,4 @@
-//! Document 01 with Changes 1, 3 and 4 of document 02 as literal definitions.
+//! Document 01 with Changes 1, 3, 4 and 5 of document 02 as literal definitions.
 //!
 //! Nothing here is fast and nothing is shared with the proved library: each definition is read
 //! from the papers anew, each largest and smallest is taken afresh, so that an agreement of the
@@ -37,6 +37,8 @@ pub mod levels;
 
 pub mod generate;
 
+#[cfg(test)]
+mod scales;
 #[cfg(test)]
 mod several;
 #[cfg(test)]

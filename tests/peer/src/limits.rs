@@ -1,9 +1,11 @@
-//! Every number that document 01, or Change 1 of document 02, gives as a limit.
+//! Every number that document 01, or Change 1 or 5 of document 02, gives as a limit.
 
 /// The margin of what cannot be missed.
-pub const TOP: i64 = 4_000_000_000;
+pub const TOP: i64 = 4_000_000_000_000;
 
 pub const MOST_CHANNELS: u64 = 8;
+/// A channel's scale is 1 to this.
+pub const MOST_SCALE: u64 = 1_000;
 pub const MOST_SAMPLES: u64 = 4_096;
 pub const LAST_TIME: u64 = 2_000_000_000;
 /// Values and the ends of ranges lie between minus this and this.

@@ -40,7 +40,8 @@ pub fn atom_margin(
         Atom::True => TOP,
         Atom::Predicate(number) => {
             let predicate = predicates[number];
-            distance(predicate.range, recording.value(sample, predicate.channel))
+            let channel = predicate.channel;
+            distance(predicate.range, recording.scale(channel), recording.value(sample, channel))
         }
     }
 }
@@ -125,7 +126,7 @@ impl<'a> Margins<'a> {
     }
 }
 
-/// Refusals 3 to 7, which margin and verdict share.
+/// Refusals 3, 4, 13, 5, 6 and 7, which margin and verdict share.
 pub fn judge(table: &Table, predicates: &Predicates, recording: &Recording) -> Result<(), Refusal> {
     let channels = recording.channels;
     when(table.broken(predicates), Refusal::Table)?;
@@ -133,13 +134,14 @@ pub fn judge(table: &Table, predicates: &Predicates, recording: &Recording) -> R
         channels_broken(channels) || predicates.iter().any(|predicate| predicate.broken(channels)),
         Refusal::Predicates,
     )?;
+    when(recording.scales_broken(), Refusal::Scales)?;
     when(recording.samples_broken(), Refusal::Samples)?;
     when(recording.times_broken(), Refusal::Times)?;
     when(recording.values_broken(), Refusal::Values)
 }
 
-/// Entry point: refusals 3 to 8. "Cell k × rows + i ends as its margin at i. Later cells keep
-/// their contents."
+/// Entry point: refusals 3 to 8 and 13. "Cell k × rows + i ends as its margin at i. Later cells
+/// keep their contents."
 pub fn margin(
     table: &Table,
     predicates: &Predicates,

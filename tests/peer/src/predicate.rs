@@ -1,6 +1,7 @@
 //! Predicates: a channel together with one of five ranges, and the distance of a value from it.
 
 use crate::limits::{LARGEST_VALUE, MOST_CHANNELS, PREDICATES, TOP};
+use crate::recording::scale_broken;
 use crate::refusal::{when, Refusal};
 
 #[derive(Clone, Copy, PartialEq, Eq, Debug)]
@@ -61,24 +62,31 @@ impl Predicate {
     }
 }
 
+/// "A distance is multiplied by its channel's scale (free alone stays at TOP)."
+pub fn distance(range: Range, scale: i64, value: i64) -> i64 {
+    unscaled_distance(range, value).map_or(TOP, |distance| scale * distance)
+}
+
 /// "Inside, it is how far the nearest outside number is. Outside, it is minus the distance to the
-/// nearest inside number. Free gives TOP." The nearest outside number is one past an end, the
-/// nearest inside number is an end.
-pub fn distance(range: Range, value: i64) -> i64 {
+/// nearest inside number." The nearest outside number is one past an end, the nearest inside number
+/// is an end. A range without ends, free, has nothing outside.
+pub fn unscaled_distance(range: Range, value: i64) -> Option<i64> {
     let outside = [range.low().map(|lo| lo - 1), range.high().map(|hi| hi + 1)];
     let ends = [range.low(), range.high()];
     if range.contains(value) {
-        nearest(outside, value).unwrap_or(TOP)
+        nearest(outside, value)
     } else {
-        -nearest(ends, value).expect("a value is outside only of a range with an end")
+        nearest(ends, value).map(|distance| -distance)
     }
 }
 
-/// The distance as an answer of its own: a predicate that no card takes, a value that no card has.
-pub fn judged_distance(predicate: &Predicate, value: i64) -> Result<i64, Refusal> {
+/// The distance as an answer of its own: a predicate that no card takes, a scale and a value that
+/// no card has. Refusals 4, 13 and 7.
+pub fn judged_distance(predicate: &Predicate, scale: u64, value: i64) -> Result<i64, Refusal> {
     when(predicate.broken(MOST_CHANNELS), Refusal::Predicates)?;
+    when(scale_broken(scale), Refusal::Scales)?;
     when(!(-LARGEST_VALUE..=LARGEST_VALUE).contains(&value), Refusal::Values)?;
-    Ok(distance(predicate.range, value))
+    Ok(distance(predicate.range, scale as i64, value))
 }
 
 fn nearest(numbers: [Option<i64>; 2], value: i64) -> Option<i64> {
@@ -90,11 +98,11 @@ mod tests {
     use super::*;
 
     /// The sentence itself, by search over all numbers near enough to matter.
-    fn searched(range: Range, value: i64) -> i64 {
+    fn searched(range: Range, scale: i64, value: i64) -> i64 {
         let inside = range.contains(value);
         let nearest = (value - 60..=value + 60)
             .filter(|&other| range.contains(other) != inside)
-            .map(|other| (other - value).abs())
+            .map(|other| scale * (other - value).abs())
             .min()
             .unwrap_or(TOP);
         if inside {
@@ -110,9 +118,11 @@ mod tests {
             for lo in -8..=8 {
                 let mut ranges = vec![Range::Free, Range::AtLeast(lo), Range::AtMost(lo)];
                 ranges.extend((lo..=8).map(|hi| Range::Between(lo, hi)));
-                for range in ranges {
-                    assert_eq!(distance(range, value), searched(range, value), "{range:?} {value}");
-                    assert_ne!(distance(range, value), 0);
+                for (range, scale) in ranges.into_iter().flat_map(|r| [(r, 1), (r, 3), (r, 1_000)])
+                {
+                    let found = distance(range, scale, value);
+                    assert_eq!(found, searched(range, scale, value), "{range:?} {scale} {value}");
+                    assert_ne!(found, 0);
                 }
             }
         }

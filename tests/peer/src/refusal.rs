@@ -7,6 +7,7 @@ pub enum Refusal {
     Requirement,
     Table,
     Predicates,
+    Scales,
     Samples,
     Times,
     Values,
@@ -24,6 +25,7 @@ impl Refusal {
             Refusal::Requirement => 2,
             Refusal::Table => 3,
             Refusal::Predicates => 4,
+            Refusal::Scales => 13,
             Refusal::Samples => 5,
             Refusal::Times => 6,
             Refusal::Values => 7,
@@ -36,7 +38,7 @@ impl Refusal {
 }
 
 /// The numbers in the order in which they count, which is not that of their size.
-pub const ORDER: [u64; 12] = [1, 12, 2, 3, 4, 5, 6, 7, 8, 9, 10, 11];
+pub const ORDER: [u64; 13] = [1, 12, 2, 3, 4, 13, 5, 6, 7, 8, 9, 10, 11];
 
 /// The one of these numbers that counts first, 0 where there is none.
 pub fn first_of(numbers: &[u64]) -> u64 {

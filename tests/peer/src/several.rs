@@ -13,13 +13,17 @@ const G: (&str, &str) = ("G[0,2]p0", "rows=5 filled=0 margin=6 hold=5 fail=-6 ve
 const F: (&str, &str) = ("F[1,3]p0", "rows=5 filled=0 margin=7 hold=6 fail=-7 verdict=holds");
 const NOT: (&str, &str) = ("!p0", "rows=5 filled=0 margin=-6 hold=-6 fail=6 verdict=fails");
 const P: (&str, &str) = ("p0", "rows=5 filled=0 margin=6 hold=6 fail=-6 verdict=holds");
-const T: (&str, &str) =
-    ("T", "rows=5 filled=0 margin=4000000000 hold=4000000000 fail=-4000000000 verdict=holds");
+const T: (&str, &str) = (
+    "T",
+    "rows=5 filled=0 margin=4000000000000 hold=4000000000000 fail=-4000000000000 verdict=holds",
+);
 
-/// All that stands before the rows.
+/// All that stands before the rows. Every channel has scale 1.
 fn front(channels: u64, requirements: &[&str]) -> String {
+    let due = if channels <= 8 { channels } else { 0 };
+    let scales: String = (0..due).map(|channel| format!("c={channel} scale=1\n")).collect();
     let lines: String = requirements.iter().map(|text| format!("req={text}\n")).collect();
-    format!("chan={channels}\np=0 ch=0 lo=5 hi=*\nstep=1\ndrift=2\n{lines}")
+    format!("chan={channels}\n{scales}p=0 ch=0 lo=5 hi=*\nstep=1\ndrift=2\n{lines}")
 }
 
 fn sheet(requirements: &[&str]) -> String {
@@ -180,6 +184,8 @@ fn faults_of_the_recording_refuse_each_requirement() {
     let requirements = ["p0", "p1", "", "T"];
     for (old, new, number) in [
         ("ch=0", "ch=1", 4),
+        ("scale=1", "scale=0", 13),
+        ("scale=1", "scale=1001", 13),
         ("src=m", "src=f", 5),
         ("t=3", "t=2", 6),
         ("v0=11", "v0=1000000001", 7),

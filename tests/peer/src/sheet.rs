@@ -1,4 +1,4 @@
-//! The sheet: `chan=`, `p=` lines, `step=`, `drift=`, `req=` lines, rows.
+//! The sheet: `chan=`, `c=` lines, `p=` lines, `step=`, `drift=`, `req=` lines, rows.
 
 use crate::fields::{after_key, end, first_line, unsigned, values, Read};
 use crate::limits::{MOST_BYTES, MOST_REQUIREMENTS, PREDICATES};
@@ -11,6 +11,8 @@ use std::ops;
 #[derive(Clone, PartialEq, Eq, Debug)]
 pub struct Sheet {
     pub channels: u64,
+    /// One for each channel; none where channels isn't 1 to 8.
+    pub scales: Vec<u64>,
     pub predicates: Predicates,
     pub step: u64,
     pub drift: u64,
@@ -36,11 +38,12 @@ pub fn read_sheet(text: &[u8]) -> Result<Sheet, Refusal> {
 /// All that stands before the rows.
 fn read_front(text: &[u8]) -> Read<Sheet> {
     let (channels, rest) = number_line(text, "chan=")?;
+    let (scales, rest) = scale_lines(rest, channels)?;
     let (predicates, rest) = predicate_lines(rest)?;
     let (step, rest) = number_line(rest, "step=")?;
     let (drift, rest) = number_line(rest, "drift=")?;
     let (requirements, rows_from) = requirement_lines(text, text.len() - rest.len())?;
-    Ok(Sheet { channels, predicates, step, drift, requirements, rows_from })
+    Ok(Sheet { channels, scales, predicates, step, drift, requirements, rows_from })
 }
 
 /// "A sheet shall take 1 to 16 `req=` lines": the lines from this place on that begin so, one at
@@ -60,6 +63,21 @@ fn requirement_lines(text: &[u8], mut place: usize) -> Read<(Vec<ops::Range<usiz
 fn number_line<'a>(text: &'a [u8], key: &str) -> Read<(u64, &'a [u8])> {
     let (line, rest) = first_line(text)?;
     Ok((unsigned(values(line, &[key])?[0])?, rest))
+}
+
+/// "After `chan=` come lines `c= scale=`, one per channel in order; none is due when chan isn't 1
+/// to 8." A scale out of range is no fault of the text.
+fn scale_lines(mut text: &[u8], channels: u64) -> Read<(Vec<u64>, &[u8])> {
+    let due = if channels_broken(channels) { 0 } else { channels };
+    let mut scales = Vec::new();
+    for channel in 0..due {
+        let (line, rest) = first_line(text)?;
+        let fields = values(line, &["c=", "scale="])?;
+        when(unsigned(fields[0])? != channel, Refusal::Text)?;
+        scales.push(unsigned(fields[1])?);
+        text = rest;
+    }
+    Ok((scales, text))
 }
 
 /// "`p=` lines stand by rising number from now on. Gaps in the numbering remain allowed. An

@@ -34,8 +34,8 @@ fn verdict_of(hold: i64, fail: i64, drift: u64) -> Verdict {
     }
 }
 
-/// Entry point: refusals 3 to 11. "Row 2k has node k's strengthened margins, row 2k + 1 those of
-/// its negation."
+/// Entry point: refusals 3 to 11 and 13. "Row 2k has node k's strengthened margins, row 2k + 1
+/// those of its negation."
 pub fn verdict(
     table: &Table,
     predicates: &Predicates,

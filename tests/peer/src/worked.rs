@@ -1,5 +1,5 @@
-//! Every worked number of document 01 as Changes 3 and 4 of document 02 leave it, and the damaged
-//! forms that the decisions name.
+//! Every worked number of document 01 as Changes 3, 4 and 5 of document 02 leave it, and the
+//! damaged forms that the decisions name.
 
 use crate::answer::answer;
 use crate::grammar::{read_requirement, read_tree};
@@ -16,7 +16,8 @@ use crate::tree::Tree;
 use crate::verdict::{verdict, Judgement, Verdict};
 use crate::window::Window;
 
-const EXAMPLE: &str = "chan=1\np=0 ch=0 lo=5 hi=*\nstep=1\ndrift=2\nreq=G[0,2]p0\n\
+const EXAMPLE: &str = "chan=1\nc=0 scale=1\np=0 ch=0 lo=5 hi=*\nstep=1\ndrift=2\n\
+    req=G[0,2]p0\n\
     t=0 src=m v0=10\nt=1 src=m v0=11\nt=2 src=m v0=10\nt=3 src=m v0=9\nt=4 src=m v0=10\n";
 
 fn says(text: &str, line: &str) {
@@ -37,7 +38,8 @@ fn bench() -> (Predicates, Recording) {
     let mut predicates = [UNSET; 16];
     predicates[0] = Predicate { channel: 0, range: Range::AtLeast(3) };
     predicates[1] = Predicate { channel: 0, range: Range::AtMost(6) };
-    let recording = Recording { channels: 1, times: vec![0, 1, 2, 3], values: vec![5, 7, 2, 9] };
+    let (times, values) = (vec![0, 1, 2, 3], vec![5, 7, 2, 9]);
+    let recording = Recording { channels: 1, scales: vec![1], times, values };
     (predicates, recording)
 }
 
@@ -66,7 +68,7 @@ fn k1_to_k8() {
 #[test]
 fn k9() {
     for (value, wanted) in [(2, -1), (3, 1), (8, 1), (9, -1)] {
-        assert_eq!(distance(Range::Between(3, 8), value), wanted);
+        assert_eq!(distance(Range::Between(3, 8), 1, value), wanted);
     }
 }
 
@@ -266,6 +268,29 @@ const BREAKS: &[(&str, &str)] = &[
     ("chan=1", "chan= 1"),
     ("chan=1", "Chan=1"),
     ("chan=1\n", ""),
+    ("chan=1", "chan=0"),
+    ("chan=1", "chan=2"),
+    ("chan=1", "chan=9"),
+    ("c=0 scale=1\n", ""),
+    ("c=0 scale=1\n", "c=0 scale=1\nc=0 scale=1\n"),
+    ("c=0 scale=1\n", "c=0 scale=1\nc=1 scale=1\n"),
+    ("chan=1\nc=0 scale=1\n", "c=0 scale=1\nchan=1\n"),
+    ("c=0 scale=1\np=0 ch=0 lo=5 hi=*\n", "p=0 ch=0 lo=5 hi=*\nc=0 scale=1\n"),
+    ("c=0 ", "c=1 "),
+    ("c=0 ", "c=00 "),
+    ("c=0 ", "c=-0 "),
+    ("c=0 ", "ch=0 "),
+    ("c=0 scale", "c=0  scale"),
+    ("c=0 scale=1", "scale=1 c=0"),
+    ("c=0 scale=1", "c=0"),
+    ("c=0 scale=1", "scale=1"),
+    ("scale=1", "scale="),
+    ("scale=1", "scale=01"),
+    ("scale=1", "scale=-1"),
+    ("scale=1", "scale=*"),
+    ("scale=1", "scale=1 "),
+    ("scale=1", "scale=4294967296"),
+    ("scale=1", "scale=10000000000"),
     ("p=0 ", "p=16 "),
     ("p=0 ", "p=00 "),
     ("p=0 ", "p=0  "),
@@ -309,7 +334,7 @@ const BREAKS: &[(&str, &str)] = &[
 
 #[test]
 fn refusal_1() {
-    for text in ["", "\n", "chan=1", "chan=1\n", "chan=1\r\n"] {
+    for text in ["", "\n", "chan=1", "chan=1\n", "chan=1\r\n", "chan=1\nc=0 scale=1\n"] {
         refuses(text, 1);
     }
     refuses(&EXAMPLE.replace('\n', "\r\n"), 1);
@@ -322,21 +347,24 @@ fn refusal_1() {
 }
 
 #[test]
-fn refusals_2_to_11_by_meaning() {
+fn refusals_2_to_13_by_meaning() {
     for (old, new, number) in [
         ("req=G[0,2]p0", "req=", 2),
         // Without its line feed the line runs on; the next one's bytes are requirement text.
         ("req=G[0,2]p0\n", "req=G[0,2]p0", 2),
         ("G[0,2]p0", "p1", 3),
-        ("chan=1", "chan=0", 4),
-        ("chan=1", "chan=9", 4),
-        ("chan=1", "chan=4294967295", 4),
+        ("chan=1\nc=0 scale=1\n", "chan=0\n", 4),
+        ("chan=1\nc=0 scale=1\n", "chan=9\n", 4),
+        ("chan=1\nc=0 scale=1\n", "chan=4294967295\n", 4),
         ("ch=0", "ch=1", 4),
         ("lo=5 hi=*", "lo=5 hi=4", 4),
         ("lo=5", "lo=1000000001", 4),
         ("hi=*", "hi=-1000000001", 4),
         // A free predicate's channel is judged; so is a predicate that no node names.
         ("hi=*", "hi=*\np=9 ch=1 lo=* hi=*", 4),
+        ("scale=1", "scale=0", 13),
+        ("scale=1", "scale=1001", 13),
+        ("scale=1", "scale=4294967295", 13),
         ("t=1 ", "t=0 ", 6),
         ("t=1 ", "t=2000000001 ", 6),
         ("v0=11", "v0=1000000001", 7),
@@ -374,15 +402,18 @@ fn the_order_over_the_whole_program() {
     refuses(&unread("chan=0\nstep=0\ndrift=0\nreq=p0 \n"), 2);
     refuses(&unread("chan=0\nstep=00\ndrift=0\nreq=T\n"), 1);
     refuses("chan=0\nstep=0\ndrift=0\nreq=T", 1);
-    // More measured rows than room: 1, 2, 3 and 4 still come first.
+    // More measured rows than room: 1, 2, 3, 4 and 13 still come first.
     let many: String = (0..2049).map(|t| format!("t={t} src=m v0=0\n")).collect();
-    let front =
-        |chan, req| format!("chan={chan}\np=0 ch=0 lo=5 hi=*\nstep=0\ndrift=0\nreq={req}\n");
-    refuses(&format!("{}{many}", front(1, "T")), 5);
-    refuses(&format!("{}{many}", front(1, "p1")), 3);
-    refuses(&format!("{}{many}", front(1, "")), 2);
-    refuses(&format!("{}{many}junk\n", front(1, "T")), 1);
-    let bad = front(1, "T").replace("ch=0", "ch=1");
+    let front = |req: &str| {
+        format!("chan=1\nc=0 scale=1\np=0 ch=0 lo=5 hi=*\nstep=0\ndrift=0\nreq={req}\n")
+    };
+    refuses(&format!("{}{many}", front("T")), 5);
+    refuses(&format!("{}{many}", front("p1")), 3);
+    refuses(&format!("{}{many}", front("")), 2);
+    refuses(&format!("{}{many}junk\n", front("T")), 1);
+    let scale = front("T").replace("scale=1", "scale=0");
+    refuses(&format!("{scale}{many}"), 13);
+    let bad = scale.replace("ch=0", "ch=1");
     refuses(&format!("{bad}{many}"), 4);
 }
 
@@ -391,11 +422,12 @@ fn limits_of_the_program() {
     let rows =
         |count: usize| -> String { (0..count).map(|t| format!("t={t} src=m v0=0\n")).collect() };
     let sheet = |req: &str, count| {
-        format!("chan=1\np=0 ch=0 lo=0 hi=*\nstep=1\ndrift=0\nreq={req}\n{}", rows(count))
+        let front = "chan=1\nc=0 scale=1\np=0 ch=0 lo=0 hi=*\nstep=1\ndrift=0\n";
+        format!("{front}req={req}\n{}", rows(count))
     };
     says(
         &sheet("T", 2048),
-        "rows=2048 filled=0 margin=4000000000 hold=4000000000 fail=-4000000000 verdict=holds",
+        &format!("rows=2048 filled=0 margin={TOP} hold={TOP} fail=-{TOP} verdict=holds"),
     );
     says(&sheet("!p0", 2048), "rows=2048 filled=0 margin=-1 hold=-1 fail=1 verdict=fails");
     refuses(&sheet("T", 2049), 5);
@@ -405,7 +437,7 @@ fn limits_of_the_program() {
     let filled: String = "t=0 src=f v0=0\n".repeat(2500);
     says(
         &(sheet("T", 3) + &filled),
-        "rows=3 filled=2500 margin=4000000000 hold=4000000000 fail=-4000000000 verdict=holds",
+        &format!("rows=3 filled=2500 margin={TOP} hold={TOP} fail=-{TOP} verdict=holds"),
     );
     let front = "chan=0\nstep=1\ndrift=0\nreq=T\n";
     let padded = |length: usize| format!("{front}{}", "x".repeat(length - front.len()));
@@ -429,8 +461,10 @@ fn the_sheet_reader() {
     assert_eq!(&EXAMPLE[sheet.requirements[0].clone()], "G[0,2]p0");
     assert!(EXAMPLE[sheet.rows_from..].starts_with("t=0 "));
     assert_eq!((sheet.channels, sheet.step, sheet.drift), (1, 1, 2));
+    assert_eq!(sheet.scales, [1]);
     let four = "chan=9\np=1 ch=0 lo=* hi=-4\np=3 ch=7 lo=* hi=*\np=15 ch=4294967295 lo=9 hi=-9\nstep=4294967295\ndrift=0\nreq=\n";
     let sheet = read_sheet(four.as_bytes()).unwrap();
+    assert_eq!(sheet.scales, []);
     assert_eq!(sheet.predicates[1], Predicate { channel: 0, range: Range::AtMost(-4) });
     assert_eq!(sheet.predicates[3], Predicate { channel: 7, range: Range::Free });
     assert_eq!(
@@ -463,7 +497,8 @@ fn predicates_by_rising_number() {
     refuses(&sheet(&[5, 5], "p5"), 1);
     refuses(&sheet(&[2, 5, 5], "p5"), 1);
     // Also where the rows are unread.
-    let unread = |numbers: &[i64]| sheet(numbers, "p2").replace("chan=1", "chan=9");
+    let unread =
+        |numbers: &[i64]| sheet(numbers, "p2").replace("chan=1\nc=0 scale=1\n", "chan=9\n");
     refuses(&unread(&[2, 5]), 4);
     refuses(&unread(&[5, 2]), 1);
 }

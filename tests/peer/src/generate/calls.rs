@@ -3,6 +3,7 @@
 
 use super::prng::Prng;
 use super::requirements::Taste;
+use super::scales::{self, BAD};
 use crate::limits::{LARGEST_VALUE, LAST_TIME, NO_END};
 use crate::predicate::{Predicate, Predicates, Range, UNSET};
 use crate::recording::Recording;
@@ -34,7 +35,7 @@ pub fn call(rng: &mut Prng) -> Foretold {
     let faults: Vec<u64> = if rng.once_in(2) {
         Vec::new()
     } else {
-        (0..1 + rng.below(2)).map(|_| rng.pick(&[3, 4, 5, 6, 7, 9, 10, 11])).collect()
+        (0..1 + rng.below(2)).map(|_| rng.pick(&[3, 4, 13, 5, 6, 7, 9, 10, 11])).collect()
     };
     // A fault may undo one that counts later, and wins anyway.
     let faults = last_to_first(&faults);
@@ -72,14 +73,19 @@ fn sound(rng: &mut Prng) -> Call {
     let channels = 1 + rng.below(3) as u64;
     let rows = if rng.once_in(12) { 40 + rng.below(30) } else { 1 + rng.below(12) };
     let step = rng.pick(&[1, 1, 2, 3, 10]);
-    let drift = rng.below(5) as u64;
+    let scales = scales::scales(rng, channels);
+    let units = rng.below(5) as u64;
+    let drift = scales::drift(rng, &scales, units);
+    // The numbers of a channel with a small scale may be large ones.
+    let widest = rng.pick(&[8, 2 * drift]);
     let mut times = vec![rng.below(9) as u64];
     let mut values: Vec<i64> = (0..channels).map(|_| rng.between(-6, 6)).collect();
     for row in 1..rows {
         times.push(times[row - 1] + rng.between(1, step as i64) as u64);
-        for _ in 0..channels {
+        for scale in &scales {
             let before = values[values.len() - channels as usize];
-            values.push(before + rng.between(-2 * drift as i64, 2 * drift as i64));
+            let jump = (2 * drift / scale).min(widest) as i64;
+            values.push(before + rng.between(-jump, jump));
         }
     }
     let mut predicates = [UNSET; 16];
@@ -90,9 +96,30 @@ fn sound(rng: &mut Prng) -> Call {
         }
     }
     predicates[0].range = Range::AtLeast(rng.between(-8, 8));
-    let recording = Recording { channels, times, values };
+    if rng.once_in(10) {
+        put_at_limits(rng, &mut predicates, &mut values, channels as usize);
+    }
+    let recording = Recording { channels, scales, times, values };
     let table = table(rng, &predicates, step as i64);
     Call { table, predicates, recording, step, drift, work: Vec::new() }
+}
+
+/// Values and ends at their limits, where products are largest. No channel's value changes, so that
+/// every scale is accepted.
+fn put_at_limits(rng: &mut Prng, predicates: &mut Predicates, values: &mut [i64], channels: usize) {
+    let limits = [-LARGEST_VALUE, LARGEST_VALUE];
+    for channel in 0..channels {
+        let value = rng.pick(&limits);
+        values.iter_mut().skip(channel).step_by(channels).for_each(|place| *place = value);
+    }
+    for predicate in predicates {
+        predicate.range = match predicate.range {
+            Range::AtLeast(_) => Range::AtLeast(rng.pick(&limits)),
+            Range::AtMost(_) => Range::AtMost(rng.pick(&limits)),
+            Range::Between(..) => Range::Between(limits[0], limits[1]),
+            other => other,
+        };
+    }
 }
 
 fn range(rng: &mut Prng) -> Range {
@@ -144,6 +171,8 @@ fn put(rng: &mut Prng, call: &mut Call, fault: u64) {
     match fault {
         3 => break_table(rng, call),
         4 => break_channels_or_predicate(rng, call),
+        13 => break_scales(rng, call),
+        5 if rng.once_in(2) => miscount_scales(rng, call),
         5 => break_samples(rng, call),
         6 => break_times(rng, call),
         7 => {
@@ -166,9 +195,15 @@ fn put(rng: &mut Prng, call: &mut Call, fault: u64) {
         _ => {
             two_rows(call);
             let place = rng.below(call.recording.values.len() - call.recording.channels as usize);
-            let jump = 2 * call.drift as i64 + 1;
-            let after = place + call.recording.channels as usize;
-            call.recording.values[after] = call.recording.values[place] + rng.pick(&[jump, -jump]);
+            let channels = call.recording.channels as usize;
+            let scale = call.recording.scales[place % channels];
+            let jump = (2 * call.drift / scale) as i64 + 1;
+            let before = call.recording.values[place];
+            let toward_zero = if before > 0 { -jump } else { jump };
+            let away = before - toward_zero;
+            let fits = away.abs() <= LARGEST_VALUE && rng.once_in(2);
+            call.recording.values[place + channels] =
+                if fits { away } else { before + toward_zero };
         }
     }
 }
@@ -238,6 +273,31 @@ fn break_channels_or_predicate(rng: &mut Prng, call: &mut Call) {
         4 => Predicate { range: Range::Between(1, 0), ..set },
         _ => Predicate { range: Range::Between(i64::MAX, i64::MIN), ..set },
     };
+}
+
+/// Scales out of range: of a channel, or beyond the channels' own, where the count is wrong too.
+fn break_scales(rng: &mut Prng, call: &mut Call) {
+    if rng.once_in(2) {
+        miscount_scales(rng, call);
+    }
+    let scales = &mut call.recording.scales;
+    let place = match rng.below(3) {
+        0 => 0,
+        1 => scales.len().saturating_sub(1),
+        _ => rng.below(scales.len().max(1)),
+    };
+    if scales.is_empty() {
+        scales.push(1);
+    }
+    scales[place] = rng.pick(&BAD);
+}
+
+/// Not one scale for each channel: none, one too few, one too many, nine, many.
+fn miscount_scales(rng: &mut Prng, call: &mut Call) {
+    let count = call.recording.scales.len();
+    let fewer = count.saturating_sub(1);
+    let length = rng.pick(&[0, fewer, fewer, count + 1, count + 1, 9, 9, 200]);
+    call.recording.scales.resize(length, rng.pick(&[1, 10, 1_000]));
 }
 
 fn break_samples(rng: &mut Prng, call: &mut Call) {

@@ -13,6 +13,8 @@ pub struct PredicateLine {
 #[derive(Clone, Debug)]
 pub struct Draft {
     pub channels: u64,
+    /// One for each channel; none where channels isn't 1 to 8.
+    pub scales: Vec<u64>,
     pub predicates: Vec<PredicateLine>,
     pub step: u64,
     pub drift: u64,
@@ -23,6 +25,7 @@ pub struct Draft {
 impl Draft {
     pub fn lines(&self) -> Vec<Vec<u8>> {
         let mut lines = vec![format!("chan={}", self.channels).into_bytes()];
+        lines.extend(self.scales.iter().enumerate().map(|(c, &scale)| scale_line(c, scale)));
         lines.extend(self.predicates.iter().map(predicate_line));
         lines.push(format!("step={}", self.step).into_bytes());
         lines.push(format!("drift={}", self.drift).into_bytes());
@@ -37,12 +40,18 @@ impl Draft {
 
     /// How many lines stand before the first `req=` line.
     pub fn lines_before_requirements(&self) -> usize {
-        self.predicates.len() + 3
+        self.scales.len() + self.predicates.len() + 3
     }
 
     /// How many lines stand before the rows.
     pub fn lines_before_rows(&self) -> usize {
         self.lines_before_requirements() + self.requirements.len()
+    }
+
+    /// Another count of channels, not 1 to 8: no `c=` line is due.
+    pub fn break_channels(&mut self, channels: u64) {
+        self.channels = channels;
+        self.scales.clear();
     }
 
     /// The places of the measured rows.
@@ -68,6 +77,10 @@ pub fn joined(lines: &[Vec<u8>]) -> Vec<u8> {
 
 pub fn requirement_line(text: &[u8]) -> Vec<u8> {
     [b"req=", text].concat()
+}
+
+pub fn scale_line(channel: usize, scale: u64) -> Vec<u8> {
+    format!("c={channel} scale={scale}").into_bytes()
 }
 
 fn predicate_line(predicate: &PredicateLine) -> Vec<u8> {

@@ -1,8 +1,9 @@
 //! Sheets with faults put in on purpose, so that the refusals are known without reading them: of
 //! each requirement the first number, in the order of refusals, among the faults that concern it.
 
-use super::draft::{joined, requirement_line, Draft, PredicateLine};
+use super::draft::{joined, requirement_line, scale_line, Draft, PredicateLine};
 use super::prng::Prng;
+use super::scales::BAD_IN_A_SHEET;
 use super::sheets::{filled, sound};
 use crate::limits::{
     LARGEST_SIGNED, LARGEST_STEP, LARGEST_UNSIGNED, LARGEST_VALUE, LAST_TIME, MOST_BYTES,
@@ -63,6 +64,7 @@ fn put(rng: &mut Prng, draft: &mut Draft, number: u64) -> Vec<usize> {
         3 => return name_unset(rng, draft),
         12 => too_many_requirements(rng, draft),
         4 => bad_channels_or_predicate(rng, draft),
+        13 => bad_scale(rng, draft),
         5 => bad_row_count(rng, draft),
         6 => bad_times(rng, draft),
         7 => bad_value(rng, draft),
@@ -136,7 +138,7 @@ pub fn naming(rng: &mut Prng, number: u64) -> Vec<u8> {
 
 fn bad_channels_or_predicate(rng: &mut Prng, draft: &mut Draft) {
     if rng.once_in(3) {
-        draft.channels = rng.pick(&[0, 9, 10, 4_294_967_295]);
+        draft.break_channels(rng.pick(&[0, 9, 10, 4_294_967_295]));
         return;
     }
     let number = (0..16).find(|&number| !draft.is_set(number)).unwrap_or(16);
@@ -157,6 +159,13 @@ fn bad_channels_or_predicate(rng: &mut Prng, draft: &mut Draft) {
             let hi = rng.between(-20, 20);
             (predicate.lo, predicate.hi) = (Some(hi + rng.pick(&[1, 1, 9])), Some(hi));
         }
+    }
+}
+
+/// One scale out of range, or several; also one that no predicate and no jump concerns.
+fn bad_scale(rng: &mut Prng, draft: &mut Draft) {
+    for channel in some(rng, draft.scales.len()) {
+        draft.scales[channel] = rng.pick(&BAD_IN_A_SHEET);
     }
 }
 
@@ -249,14 +258,14 @@ fn gap(rng: &mut Prng, draft: &mut Draft) {
     }
 }
 
-/// A jump of twice the drift and one.
+/// The least jump that is more than twice the drift, times the channel's scale.
 fn jump(rng: &mut Prng, draft: &mut Draft) {
     let measured = two_measured(draft);
     let second = 1 + rng.below(measured.len() - 1);
     let channel = rng.below(draft.rows[measured[0]].values.len());
     let before = draft.rows[measured[second - 1]].values[channel];
     draft.drift = draft.drift.min(1_000);
-    let jump = 2 * draft.drift as i64 + 1;
+    let jump = (2 * draft.drift / draft.scales[channel]) as i64 + 1;
     let up = before + jump <= LARGEST_VALUE && (rng.once_in(2) || before - jump < -LARGEST_VALUE);
     draft.rows[measured[second]].values[channel] = if up { before + jump } else { before - jump };
 }
@@ -274,7 +283,7 @@ fn broken_text(rng: &mut Prng, draft: &Draft) -> Vec<u8> {
             break place;
         }
     };
-    match rng.below(8) {
+    match rng.below(9) {
         0 => with_line(&lines, place, broken_layout(rng, &lines[place])),
         1 | 2 => with_line(&lines, place, broken_field(rng, &lines[place])),
         3 => broken_order(rng, draft, lines),
@@ -282,8 +291,9 @@ fn broken_text(rng: &mut Prng, draft: &Draft) -> Vec<u8> {
         5 if rng.once_in(10) => too_long(rng, draft),
         6 => unended(draft),
         7 => unordered(rng, draft),
+        8 => broken_scales(rng, draft),
         _ => {
-            let keys = ["chan=", "p=", "step=", "drift=", "req=", "t=", "", "#", "Req="];
+            let keys = ["chan=", "c=", "p=", "step=", "drift=", "req=", "t=", "", "#", "Req="];
             // Behind the `req=` lines another one is no fault.
             let fits = |key: &str| lines[place].starts_with(key.as_bytes()) && !key.is_empty();
             let kept: Vec<&&str> = keys
@@ -338,6 +348,7 @@ fn broken_field(rng: &mut Prng, line: &[u8]) -> Vec<u8> {
     let bad: &[&str] = match key.as_slice() {
         b"src=" => &["", "M", "F", "x", "mm", "fm", "1"],
         b"p=" => &["16", "17", "99", "4294967295", "01", "-1", ""],
+        b"c=" => &["8", "9", "4294967295", "00", "01", "-0", "-1", "*", ""],
         key if key.starts_with(b"v") || key == b"lo=" || key == b"hi=" => &[
             "2147483648", "-2147483648", "4294967295", "-0", "-01", "--1", "", "-", "**", "+5",
             "00000000001",
@@ -367,6 +378,40 @@ fn broken_order(rng: &mut Prng, draft: &Draft, mut lines: Vec<Vec<u8>>) -> Vec<u
         4 => drop(lines.drain(first..rows)),
         // Behind the first `req=` line it might stand where nothing is read.
         _ => lines.insert(rng.below(first + 1), Vec::new()),
+    }
+    joined(&lines)
+}
+
+/// `c=` lines of which one is missing, twice, one too many, or not in its place; or lines where
+/// none is due, because `chan=` isn't 1 to 8.
+fn broken_scales(rng: &mut Prng, draft: &Draft) -> Vec<u8> {
+    let mut lines = draft.lines();
+    let count = draft.scales.len();
+    if count == 0 {
+        let further = rng.pick(&[1, 1, 8, 9]);
+        lines.splice(1..1, (0..further).map(|channel| scale_line(channel, 1)));
+        return joined(&lines);
+    }
+    // Behind `chan=`: channel c's line is at place c + 1.
+    let one = 1 + rng.below(count);
+    match rng.below(10) {
+        0 => drop(lines.remove(one)),
+        1 => drop(lines.drain(1..=count)),
+        2 => lines.insert(one, lines[one].clone()),
+        3 => lines.insert(count + 1, scale_line(count, 1)),
+        4 if count > 1 => lines.swap(one, 1 + one % count),
+        // Numbers from 1, or the last channel's for all.
+        5 => (1..=count).for_each(|c| lines[c] = scale_line(c, draft.scales[c - 1])),
+        6 if count > 1 => {
+            (1..=count).for_each(|c| lines[c] = scale_line(count - 1, draft.scales[c - 1]))
+        }
+        7 => lines[0] = rng.pick(&["chan=0", "chan=9", "chan=4294967295"]).into(),
+        // The first line in front of `chan=`, or the last one behind a predicate or `step=`.
+        8 => lines.swap(0, 1),
+        _ => {
+            let last = lines.remove(count);
+            lines.insert(count + 1 + rng.below(draft.predicates.len() + 1), last);
+        }
     }
     joined(&lines)
 }

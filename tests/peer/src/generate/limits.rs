@@ -1,6 +1,7 @@
-//! Sheets at and one past each limit of size, each with the lines that the program must print.
+//! Sheets at and one past each limit, each with the lines that the program must print.
 
 use super::draft::{Draft, PredicateLine};
+use super::scale_limits;
 use crate::rows::Row;
 
 pub struct Limit {
@@ -10,11 +11,12 @@ pub struct Limit {
 }
 
 /// Rows one second apart, all values 0; predicate 0 is at least 0, so its margin is 1.
-fn draft(channels: u64, rows: usize, requirement: &str) -> Draft {
+pub(super) fn draft(channels: u64, rows: usize, requirement: &str) -> Draft {
     let values = vec![0; channels as usize];
     let row = |time| Row { time: time as u64, measured: true, values: values.clone() };
     Draft {
         channels,
+        scales: vec![1; channels as usize],
         predicates: vec![PredicateLine { number: 0, channel: 0, lo: Some(0), hi: None }],
         step: 1,
         drift: 0,
@@ -23,20 +25,27 @@ fn draft(channels: u64, rows: usize, requirement: &str) -> Draft {
     }
 }
 
-fn holds(rows: usize, filled: usize) -> String {
+/// A count of channels that is not 1 to 8: no `c=` line is due and no row is read.
+fn without_channels(channels: u64, mut draft: Draft) -> Draft {
+    draft.break_channels(channels);
+    draft.rows.clear();
+    draft
+}
+
+pub(super) fn holds(rows: usize, filled: usize) -> String {
     format!("rows={rows} filled={filled} margin=1 hold=1 fail=-1 verdict=holds\n")
 }
 
 /// The negation's windows are empty once contracted.
 fn holds_without_fail(rows: usize) -> String {
-    format!("rows={rows} filled=0 margin=1 hold=1 fail=-4000000000 verdict=holds\n")
+    format!("rows={rows} filled=0 margin=1 hold=1 fail=-4000000000000 verdict=holds\n")
 }
 
-fn refused(number: u64) -> String {
+pub(super) fn refused(number: u64) -> String {
     format!("refused={number}\n")
 }
 
-fn limit(name: &str, draft: Draft, printed: String) -> Limit {
+pub(super) fn limit(name: &str, draft: Draft, printed: String) -> Limit {
     Limit { name: name.to_string(), text: draft.text(), printed }
 }
 
@@ -47,6 +56,7 @@ fn joined(count: usize) -> String {
 
 pub fn limits() -> Vec<Limit> {
     let mut limits = rows_and_cells();
+    limits.extend(scale_limits::limits());
     limits.extend(predicate_orders());
     limits.extend(predicates_before_others());
     limits.extend(requirement_sizes());
@@ -111,7 +121,7 @@ fn predicate_orders() -> Vec<Limit> {
 
 /// An order that breaks the text form comes before every other number, also where rows are unread.
 fn predicates_before_others() -> Vec<Limit> {
-    let unread = |numbers| Draft { channels: 9, rows: Vec::new(), ..numbered(numbers, "p1") };
+    let unread = |numbers| without_channels(9, numbered(numbers, "p1"));
     let seventeen = vec![b"p1".to_vec(); 17];
     let crowded = |numbers| Draft { requirements: seventeen.clone(), ..numbered(numbers, "") };
     vec![
@@ -135,7 +145,7 @@ fn two_nodes(rows: usize) -> Draft {
 }
 
 /// 64 nodes: 31 leaves and 30 operators, one operator more, always and its leaf.
-fn sixty_four() -> String {
+pub(super) fn sixty_four() -> String {
     format!("{}&G[0,0]p0", joined(31))
 }
 
@@ -169,13 +179,13 @@ fn requirement_sizes() -> Vec<Limit> {
 }
 
 /// A sheet with these requirements over so many rows.
-fn several(rows: usize, requirements: &[&str]) -> Draft {
+pub(super) fn several(rows: usize, requirements: &[&str]) -> Draft {
     let texts = requirements.iter().map(|text| text.as_bytes().to_vec()).collect();
     Draft { requirements: texts, ..draft(1, rows, "") }
 }
 
 /// The line of each of so many requirements, by its number.
-fn each(count: usize, line: impl Fn(usize) -> String) -> String {
+pub(super) fn each(count: usize, line: impl Fn(usize) -> String) -> String {
     (0..count).map(|k| format!("req={k} {}", line(k))).collect()
 }
 
@@ -184,13 +194,13 @@ fn requirement_counts() -> Vec<Limit> {
     let holding = |count| each(count, |_| holds(2, 0));
     let mut one_bad = many(17, "p0");
     one_bad.requirements[16] = b"p".to_vec();
-    let unread = |count| Draft { channels: 0, rows: Vec::new(), ..many(count, "T") };
+    let unread = |count| without_channels(0, many(count, "T"));
     // Long lines: all three margins are −TOP, every row but one is filled.
     let mut longest = several(1, &["F[1,1]T"; 16]);
     let row = Row { time: 0, measured: false, values: vec![0] };
     longest.rows.extend(vec![row; 4_000]);
-    let missed = "rows=1 filled=4000 margin=-4000000000 hold=-4000000000 fail=-4000000000 \
-        verdict=unshown\n";
+    let missed = "rows=1 filled=4000 margin=-4000000000000 hold=-4000000000000 \
+        fail=-4000000000000 verdict=unshown\n";
     vec![
         limit("one requirement", many(1, "p0"), holds(2, 0)),
         limit("2 requirements", many(2, "p0"), holding(2)),
@@ -221,7 +231,7 @@ fn requirement_counts() -> Vec<Limit> {
 
 fn requirement_lines() -> Vec<Limit> {
     let whole = |count| several(2, &vec!["p0"; count]).text();
-    let unread = |count| Draft { channels: 9, rows: Vec::new(), ..several(2, &vec!["T"; count]) };
+    let unread = |count| without_channels(9, several(2, &vec!["T"; count]));
     // Without the rows, and without the last line feed.
     let cut = |draft: Draft| {
         let mut text = Draft { rows: Vec::new(), ..draft }.text();

@@ -8,6 +8,8 @@ pub mod faults;
 pub mod limits;
 pub mod prng;
 pub mod requirements;
+mod scale_limits;
+pub mod scales;
 pub mod several;
 pub mod sheets;
 pub mod windows;

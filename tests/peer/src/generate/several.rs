@@ -5,6 +5,7 @@ use super::draft::{joined, Draft};
 use super::faults::{bad_requirement, naming, sixty_four_nodes, some, too_many_cells};
 use super::faults::{unended, Numbers};
 use super::prng::Prng;
+use super::scales::BAD_IN_A_SHEET;
 use super::sheets::sound_of;
 use crate::limits::MOST_REQUIREMENTS;
 
@@ -52,7 +53,7 @@ fn spoilt(rng: &mut Prng, draft: &mut Draft) -> Vec<u64> {
 fn ended(rng: &mut Prng, mut draft: Draft, mut numbers: Vec<u64>) -> (Vec<u8>, Numbers) {
     let unread = rng.once_in(5);
     if unread {
-        draft.channels = rng.pick(&[0, 9, 4_294_967_295]);
+        draft.break_channels(rng.pick(&[0, 9, 4_294_967_295]));
         // 4 comes after 2 and 3, and before 8.
         numbers.iter_mut().filter(|number| [0, 8].contains(number)).for_each(|number| *number = 4);
     }
@@ -71,10 +72,17 @@ fn ended(rng: &mut Prng, mut draft: Draft, mut numbers: Vec<u64>) -> (Vec<u8>, N
             ];
             (behind(front, rng.pick(&junk)), Ok(numbers))
         }
+        // The same number for every requirement that has none before it.
         4 => {
-            // The same number for every requirement that has none before it.
             draft.step = 0;
             numbers.iter_mut().filter(|number| **number == 0).for_each(|number| *number = 9);
+            (draft.text(), Ok(numbers))
+        }
+        5 => {
+            // 13 comes after 2 and 3, and before 8.
+            draft.scales[0] = rng.pick(&BAD_IN_A_SHEET);
+            let later = numbers.iter_mut().filter(|number| [0, 8].contains(number));
+            later.for_each(|number| *number = 13);
             (draft.text(), Ok(numbers))
         }
         _ => (draft.text(), Ok(numbers)),

@@ -3,7 +3,10 @@
 use super::draft::{Draft, PredicateLine};
 use super::prng::Prng;
 use super::requirements::{written, Taste};
-use crate::limits::{LARGEST_SIGNED, LARGEST_UNSIGNED, LARGEST_VALUE, MOST_REQUIREMENTS};
+use super::scales::{self, near_scales};
+use crate::limits::{
+    LARGEST_DRIFT, LARGEST_SIGNED, LARGEST_UNSIGNED, LARGEST_VALUE, MOST_REQUIREMENTS,
+};
 use crate::rows::Row;
 use crate::tree::Shared;
 
@@ -43,12 +46,12 @@ fn texts(rng: &mut Prng, trees: &[Shared]) -> Vec<Vec<u8>> {
 
 /// The measures of a sheet, from which the rest is drawn.
 struct Measures {
-    channels: u64,
+    scales: Vec<u64>,
     rows: usize,
     step: u64,
     drift: u64,
-    /// Neighbouring values differ by at most this.
-    jump: u64,
+    /// Neighbouring values of each channel differ by at most this.
+    jumps: Vec<i64>,
     requirements: usize,
     operators: usize,
 }
@@ -64,22 +67,27 @@ pub fn sound_of(rng: &mut Prng, requirements: usize) -> Sound {
     if rng.once_in(8) {
         return extreme(rng, requirements);
     }
-    let drift = rng.between(0, 6) as u64;
+    let most = if rng.once_in(6) { 8 } else { 2 };
+    let channels = rng.between(1, most) as u64;
+    let scales = scales::scales(rng, channels);
+    let units = rng.between(0, 6) as u64;
+    let drift = scales::drift(rng, &scales, units);
     let measures = Measures {
-        channels: if rng.once_in(6) { rng.between(1, 8) as u64 } else { rng.between(1, 2) as u64 },
+        jumps: jumps(rng, &scales, drift),
+        scales,
         rows: rng.between(1, 24) as usize,
         step: rng.pick(&[1, 1, 2, 3, 5, 900]),
         drift,
-        jump: jump(rng, drift),
         requirements,
         operators: rng.below(9),
     };
     build(rng, measures)
 }
 
-/// At most twice the drift; often less, so that histories exist.
-fn jump(rng: &mut Prng, drift: u64) -> u64 {
-    rng.pick(&[0, drift / 2, drift, 2 * drift])
+/// At most twice the drift in the scaled unit; often less, so that histories exist.
+fn jumps(rng: &mut Prng, scales: &[u64], drift: u64) -> Vec<i64> {
+    let most = rng.pick(&[0, drift / 2, drift, 2 * drift]);
+    scales.iter().map(|scale| (most / scale) as i64).collect()
 }
 
 /// A sheet with few histories, so that all of them can be tried.
@@ -87,13 +95,16 @@ pub fn tiny(rng: &mut Prng) -> Sound {
     if rng.once_in(2) {
         return tiny_with_long_steps(rng);
     }
-    let drift = rng.pick(&[0, 1, 1, 1, 2]);
+    let channels = if rng.once_in(5) { 2 } else { 1 };
+    let scales = near_scales(rng, channels);
+    let units = rng.pick(&[0, 1, 1, 1, 2]);
+    let drift = scales::drift(rng, &scales, units);
     let measures = Measures {
-        channels: if rng.once_in(5) { 2 } else { 1 },
+        jumps: jumps(rng, &scales, drift),
+        scales,
         rows: rng.between(1, 7) as usize,
         step: rng.pick(&[1, 1, 1, 2, 2, 3]),
         drift,
-        jump: jump(rng, drift),
         requirements: requirements_of(rng),
         operators: rng.below(6),
     };
@@ -103,12 +114,13 @@ pub fn tiny(rng: &mut Prng) -> Sound {
 /// Low ends may lie below the step, and there are samples a step past them. That takes a long span;
 /// values that move leave few histories all the same.
 fn tiny_with_long_steps(rng: &mut Prng) -> Sound {
+    let scales = near_scales(rng, 1);
     let measures = Measures {
-        channels: 1,
+        drift: scales::drift(rng, &scales, 1),
+        scales,
         rows: rng.between(3, 6) as usize,
         step: rng.pick(&[2, 2, 3]),
-        drift: 1,
-        jump: 1,
+        jumps: vec![1],
         requirements: requirements_of(rng),
         operators: 1 + rng.below(3),
     };
@@ -127,7 +139,8 @@ fn build(rng: &mut Prng, measures: Measures) -> Sound {
     let trees = trees(rng, &taste, measures.requirements, measures.operators);
     let rows = times.iter().zip(values).map(|(&time, values)| Row { time, measured: true, values });
     let mut draft = Draft {
-        channels: measures.channels,
+        channels: measures.scales.len() as u64,
+        scales: measures.scales,
         predicates,
         step: measures.step,
         drift: measures.drift,
@@ -153,12 +166,11 @@ fn times(rng: &mut Prng, measures: &Measures) -> Vec<u64> {
 }
 
 fn walks(rng: &mut Prng, measures: &Measures) -> Vec<Vec<i64>> {
-    let jump = measures.jump as i64;
-    let mut values: Vec<i64> = (0..measures.channels).map(|_| rng.between(-9, 9)).collect();
+    let mut values: Vec<i64> = measures.scales.iter().map(|_| rng.between(-9, 9)).collect();
     let mut rows = Vec::new();
     for _ in 0..measures.rows {
         rows.push(values.clone());
-        for value in &mut values {
+        for (value, &jump) in values.iter_mut().zip(&measures.jumps) {
             *value += rng.between(-jump, jump);
         }
     }
@@ -172,16 +184,17 @@ fn predicates(rng: &mut Prng, measures: &Measures, values: &[Vec<i64>]) -> Vec<P
     let mut lines = Vec::new();
     for _ in 0..count {
         let number = numbers.swap_remove(rng.below(numbers.len()));
-        let channel = rng.below(measures.channels as usize) as u64;
-        let near = values[rng.below(values.len())][channel as usize];
-        let (lo, hi) = ends(rng, near, measures.drift as i64);
-        lines.push(PredicateLine { number, channel, lo, hi });
+        let channel = rng.below(measures.scales.len());
+        let near = values[rng.below(values.len())][channel];
+        let (lo, hi) = ends(rng, near, (measures.drift / measures.scales[channel]) as i64);
+        lines.push(PredicateLine { number, channel: channel as u64, lo, hi });
     }
     lines.sort_by_key(|line| line.number);
     lines
 }
 
-/// Ends about a drift away from a value, on either side: where verdicts are decided.
+/// Ends about a drift away from a value, on either side: where verdicts are decided. Here the drift
+/// is in the value's own unit.
 fn ends(rng: &mut Prng, near: i64, drift: i64) -> (Option<i64>, Option<i64>) {
     let away = |rng: &mut Prng| drift + rng.between(-2, 4);
     let lo = if rng.once_in(3) { near + away(rng) } else { near - away(rng) };
@@ -224,11 +237,23 @@ fn extreme(rng: &mut Prng, requirements: usize) -> Sound {
     let big = LARGEST_VALUE;
     let values = [-big, -big + 1, -1, 0, 1, big - 1, big];
     let channels = rng.between(1, 3) as u64;
+    let scales = scales::scales(rng, channels);
+    let drift = LARGEST_DRIFT;
+    // With a scale, neighbouring values are equal or just as far apart as the drift allows.
+    let bases: Vec<i64> = scales.iter().map(|_| rng.pick(&values)).collect();
+    let value = |rng: &mut Prng, channel: usize| match scales[channel] {
+        1 => rng.pick(&values),
+        scale => {
+            let apart = (2 * drift / scale) as i64;
+            let inward = if bases[channel] > 0 { -apart } else { apart };
+            bases[channel] + rng.pick(&[0, inward])
+        }
+    };
     let last = rng.between(1, 5);
     let rows = (0..=last).map(|row| Row {
         time: (2_000_000_000 / last * row) as u64,
         measured: true,
-        values: (0..channels).map(|_| rng.pick(&values)).collect(),
+        values: (0..scales.len()).map(|channel| value(rng, channel)).collect(),
     });
     let rows: Vec<Row> = rows.collect();
     // A step of a billion joins all but two samples that are two billion apart.
@@ -251,6 +276,6 @@ fn extreme(rng: &mut Prng, requirements: usize) -> Sound {
     let trees = trees(rng, &taste, requirements, operators);
     let requirements = texts(rng, &trees);
     let step = 1_000_000_000;
-    let draft = Draft { channels, predicates, step, drift: 1_000_000_000, requirements, rows };
+    let draft = Draft { channels, scales, predicates, step, drift, requirements, rows };
     Sound { draft, trees }
 }

@@ -3,6 +3,7 @@
 
 use super::calls::{Call, Foretold};
 use super::prng::{case_seed, Prng};
+use super::scales;
 use crate::limits::{LARGEST_END, MOST_SAMPLES, NO_END};
 use crate::predicate::{Predicate, Range, UNSET};
 use crate::recording::Recording;
@@ -162,20 +163,22 @@ fn without_operators(rng: &mut Prng, rows: usize, values: Values, spacing: Spaci
         Spacing::UpToStep => rng.pick(&[2, 3, 10]),
         Spacing::Gaps => rng.pick(&[1, 2, 3]),
     };
-    let drift = rng.pick(&[1, 3, 50, 100_000]);
-    let channels = [walk(rng, rows, values, drift), walk(rng, rows, values, drift)];
+    let units = rng.pick(&[1, 3, 50, 100_000]);
+    let scales = scales::scales(rng, 2);
+    let drift = scales::drift(rng, &scales, units as u64);
+    let channels = [walk(rng, rows, values, units), walk(rng, rows, values, units)];
     let mut predicates = [UNSET; 16];
     for (channel, values) in channels.iter().enumerate() {
         predicates[channel] = Predicate { channel: channel as u64, range: range(rng, values) };
     }
     let recording = Recording {
         channels: 2,
+        scales,
         times: times(rng, rows, spacing, step),
         values: (0..rows).flat_map(|row| [channels[0][row], channels[1][row]]).collect(),
     };
     let leaf = |left| Node { kind: kind::PREDICATE, left, ..Node::default() };
     let table = Table { nodes: vec![leaf(0), leaf(1)] };
-    let drift = drift as u64;
     Call { table, predicates, recording, step: step as u64, drift, work: Vec::new() }
 }
 
@@ -193,7 +196,7 @@ fn times(rng: &mut Prng, rows: usize, spacing: Spacing, step: i64) -> Vec<u64> {
     times
 }
 
-/// The values of one channel. None jumps by more than twice the drift.
+/// The values of one channel. None jumps by more than twice the drift, in the values' own unit.
 fn walk(rng: &mut Prng, rows: usize, values: Values, drift: i64) -> Vec<i64> {
     let start = rng.between(-drift, drift);
     let period = 2 + rng.below(rows / 2) as i64;
