@@ -14,7 +14,7 @@ use std::fmt;
 use timing::{seconds, Random};
 
 const STEP: u64 = 3;
-/// Any two values obey it.
+/// Any two values obey it where the scales are 1.
 const DRIFT: u64 = 1_000_000_000;
 
 /// A table and its predicates as flat numbers.
@@ -36,6 +36,7 @@ fn call<'a>(f: &'a Flat, count: usize, card: &Card<'a>) -> Call<'a> {
         ranges: &f.ranges,
         ends: &f.ends,
         channels: card.channels as u64,
+        scales: card.scales,
         times: card.times,
         values: card.values,
     }
@@ -81,6 +82,8 @@ enum Values {
     Random,
     /// Random, ever closer to 0.
     Narrowing,
+    /// Random, a thousandth of the others, so that the drift is obeyed by every scale.
+    Small,
 }
 
 impl Values {
@@ -91,6 +94,7 @@ impl Values {
             Values::Falling => 2_000_000 - row as i64 * 1_000,
             Values::Random => random.value(),
             Values::Narrowing => random.value() / rows as i64 * (rows - row) as i64,
+            Values::Small => random.value() / 1_000,
         }
     }
 }
@@ -103,6 +107,7 @@ impl fmt::Display for Values {
             Values::Falling => write!(f, "falling values"),
             Values::Random => write!(f, "random values"),
             Values::Narrowing => write!(f, "narrowing values"),
+            Values::Small => write!(f, "small values"),
         }
     }
 }
@@ -127,10 +132,11 @@ fn times_as_long(one: &[f64], other: &[f64]) -> f64 {
     ratios[ratios.len() / 2]
 }
 
-/// What is timed: a table's margin or its verdict over a recording of two channels.
+/// What is timed: a table's margin or its verdict over a recording of two channels, with scales of 1 unless said otherwise.
 struct Case {
     name: String,
     nodes: Vec<Node>,
+    scales: [u64; 2],
     times: Vec<u64>,
     values: Vec<i64>,
     verdict: bool,
@@ -145,6 +151,7 @@ impl Case {
         Case {
             name: format!("{what}, {kind}"),
             nodes: nodes.to_vec(),
+            scales: [1, 1],
             times: (0..rows as u64).collect(),
             values,
             verdict: false,
@@ -156,7 +163,7 @@ impl Case {
     /// One round: the library and plain Rust in turn, several times. They must answer the same and leave the same cells.
     fn time(&mut self, predicates: &[Predicate; 16]) {
         let (nodes, f) = (&self.nodes[..], flat(&self.nodes, predicates));
-        let card = Card { predicates, channels: 2, times: &self.times, values: &self.values };
+        let card = Card { predicates, channels: 2, scales: &self.scales, times: &self.times, values: &self.values };
         let (n, verdict) = (nodes.len(), self.verdict);
         let mut a = vec![0; (1 + usize::from(verdict)) * n * card.times.len() + 3];
         let mut b = a.clone();
@@ -256,6 +263,12 @@ fn table_cases(random: &mut Random) -> Vec<Case> {
         // with random values the extremum up to the end would hardly change
         let case = Case::new(&format!("64 endless nodes, {what}"), &endless, 4_096, Values::Narrowing, random);
         cases.push(Case { verdict, beside_afresh: true, ..case });
+    }
+    // behind the others, so that their random values are the same as without these
+    for verdict in [false, true] {
+        let what = if verdict { "verdict" } else { "margin" };
+        let case = Case::new(&format!("64 mixed nodes, two scales, {what}"), &mixed, 4_096, Values::Small, random);
+        cases.push(Case { verdict, scales: [7, 1_000], ..case });
     }
     cases
 }

@@ -1,6 +1,6 @@
 //! The margin and the verdict in plain Rust, by the algorithm of the proved library: what its speed is compared with.
 
-pub const TOP: i64 = 4_000_000_000;
+pub const TOP: i64 = 4_000_000_000_000;
 pub const NO_END: u64 = 4_294_967_295;
 
 #[derive(Clone, Copy)]
@@ -31,12 +31,13 @@ fn clearance(a: i64, b: i64) -> i64 {
     if a <= b { b - a + 1 } else { b - a }
 }
 
-fn distance(range: Range, v: i64) -> i64 {
+/// In the scaled unit; free alone stays at TOP.
+fn distance(range: Range, scale: i64, v: i64) -> i64 {
     match range {
         Range::Unset | Range::Free => TOP,
-        Range::AtLeast(lo) => clearance(lo, v),
-        Range::AtMost(hi) => clearance(v, hi),
-        Range::Between(lo, hi) => clearance(lo, v).min(clearance(v, hi)),
+        Range::AtLeast(lo) => scale * clearance(lo, v),
+        Range::AtMost(hi) => scale * clearance(v, hi),
+        Range::Between(lo, hi) => scale * clearance(lo, v).min(clearance(v, hi)),
     }
 }
 
@@ -165,7 +166,8 @@ fn temporal_row_afresh(before: &[i64], own: &mut [i64], times: &[u64], operator:
     }
 }
 
-fn accepted(nodes: &[Node], predicates: &[Predicate; 16], channels: usize, times: &[u64], values: &[i64]) -> bool {
+fn accepted(nodes: &[Node], card: &Card) -> bool {
+    let Card { predicates, channels, scales, times, values } = *card;
     let table = nodes.iter().enumerate().all(|(k, n)| {
         let left = match n.kind {
             1 => n.left <= 15,
@@ -194,6 +196,8 @@ fn accepted(nodes: &[Node], predicates: &[Predicate; 16], channels: usize, times
         && (1..=64).contains(&nodes.len())
         && (1..=8).contains(&channels)
         && named
+        && scales.iter().all(|scale| (1..=1_000).contains(scale))
+        && scales.len() == channels
         && (1..=4096).contains(&times.len())
         && values.len() == times.len() * channels
         && times.windows(2).all(|t| t[0] < t[1])
@@ -205,6 +209,7 @@ fn accepted(nodes: &[Node], predicates: &[Predicate; 16], channels: usize, times
 pub struct Card<'a> {
     pub predicates: &'a [Predicate; 16],
     pub channels: usize,
+    pub scales: &'a [u64],
     pub times: &'a [u64],
     pub values: &'a [i64],
 }
@@ -227,8 +232,9 @@ fn node_row(card: &Card, node: &Node, reading: Reading, temporal: TemporalRow, b
         0 => own.fill(if affirmed { TOP } else { -TOP }),
         1 => {
             let p = card.predicates[node.left];
+            let scale = card.scales[p.channel] as i64;
             for i in 0..n {
-                let d = distance(p.range, card.values[i * card.channels + p.channel]);
+                let d = distance(p.range, scale, card.values[i * card.channels + p.channel]);
                 own[i] = if affirmed { d } else { -d };
             }
         }
@@ -268,7 +274,7 @@ pub fn margin_afresh(nodes: &[Node], card: &Card, work: &mut [i64]) -> Option<i6
 
 fn margin_by(temporal: TemporalRow, nodes: &[Node], card: &Card, work: &mut [i64]) -> Option<i64> {
     let n = card.times.len();
-    if !accepted(nodes, card.predicates, card.channels, card.times, card.values) || work.len() < nodes.len() * n {
+    if !accepted(nodes, card) || work.len() < nodes.len() * n {
         return None;
     }
     for (k, node) in nodes.iter().enumerate() {
@@ -285,11 +291,11 @@ fn margin_by(temporal: TemporalRow, nodes: &[Node], card: &Card, work: &mut [i64
 }
 
 fn sampled(card: &Card, step: u64, drift: u64) -> bool {
-    let near = |a: i64, b: i64| (b - a).unsigned_abs() <= 2 * drift;
+    let near = |a: i64, b: i64, scale: u64| scale * (b - a).unsigned_abs() <= 2 * drift;
     (1..=1_000_000_000).contains(&step)
         && drift <= 1_000_000_000
         && card.times.windows(2).all(|t| t[1] - t[0] <= step)
-        && card.values.iter().zip(&card.values[card.channels..]).all(|(&a, &b)| near(a, b))
+        && card.values.iter().zip(&card.values[card.channels..]).zip(card.scales.iter().cycle()).all(|((&a, &b), &scale)| near(a, b, scale))
 }
 
 /// Hold and fail.
@@ -304,7 +310,7 @@ pub fn verdict_afresh(nodes: &[Node], card: &Card, step: u64, drift: u64, work: 
 
 fn verdict_by(temporal: TemporalRow, nodes: &[Node], card: &Card, (step, drift): (u64, u64), work: &mut [i64]) -> Option<(i64, i64)> {
     let n = card.times.len();
-    if !accepted(nodes, card.predicates, card.channels, card.times, card.values) || work.len() < 2 * nodes.len() * n || !sampled(card, step, drift) {
+    if !accepted(nodes, card) || work.len() < 2 * nodes.len() * n || !sampled(card, step, drift) {
         return None;
     }
     for row in 0..2 * nodes.len() {

@@ -56,6 +56,24 @@ fn end<'a>(text: &'a [u8], key: &[u8]) -> Read<'a, Option<i64>> {
     }
 }
 
+/// How many values a row has, and scales a sheet: one for each channel where these are 1 to 8, otherwise none.
+fn width(channels: usize) -> usize {
+    match channels {
+        0..=8 => channels,
+        _ => 0,
+    }
+}
+
+/// The scale of each channel, 0 beyond them.
+fn scales(mut text: &[u8], channels: usize) -> Read<'_, [u64; 8]> {
+    let mut scales = [0; 8];
+    for (channel, scale) in scales[..width(channels)].iter_mut().enumerate() {
+        let rest = text.strip_prefix(&[b'c', b'=', b'0' + channel as u8])?;
+        (*scale, text) = line(rest, b" scale=")?;
+    }
+    Some((scales, text))
+}
+
 fn predicate(text: &[u8]) -> Read<'_, (usize, Predicate)> {
     let (p, rest) = field(text, b"p=", 15)?;
     let (channel, rest) = field(rest, b" ch=", LARGEST)?;
@@ -140,6 +158,7 @@ pub fn rows(text: &[u8], channels: usize, times: &mut [u64], values: &mut [i64])
 
 pub struct Sheet<'a> {
     pub channels: usize,
+    pub scales: [u64; 8],
     pub step: u64,
     pub drift: u64,
     pub predicates: [Predicate; 16],
@@ -170,11 +189,13 @@ fn requirements(mut text: &[u8]) -> Read<'_, ([&[u8]; REQUIREMENTS], usize)> {
 
 fn front(text: &[u8]) -> Option<Sheet<'_>> {
     let (channels, rest) = line(text, b"chan=")?;
+    let channels = channels as usize;
+    let (scales, rest) = scales(rest, channels)?;
     let (predicates, rest) = predicates(rest)?;
     let (step, rest) = line(rest, b"step=")?;
     let (drift, rest) = line(rest, b"drift=")?;
     let ((requirements, count), rows) = requirements(rest)?;
-    Some(Sheet { channels: channels as usize, step, drift, predicates, requirements, count, rows })
+    Some(Sheet { channels, scales, step, drift, predicates, requirements, count, rows })
 }
 
 /// A sheet, or the number of what refuses it: 1 or 12.
@@ -292,12 +313,13 @@ fn refusal(nodes: &[Node], card: &Card, step: u64, drift: u64) -> u64 {
     let tests = [
         (3, nodes.iter().all(set)),
         (4, (1..=8).contains(&card.channels) && card.predicates.iter().all(kept)),
+        (13, card.scales.iter().all(|scale| (1..=1_000).contains(scale))),
         (5, !card.times.is_empty()),
         (6, card.times.windows(2).all(|t| t[0] < t[1]) && card.times.iter().all(|&t| t <= 2_000_000_000)),
         (7, card.values.iter().all(|&v| fits(v))),
         (8, 2 * nodes.len() * card.times.len() <= CELLS),
         (9, (1..=1_000_000_000).contains(&step) && drift <= 1_000_000_000),
-        (10, card.times.windows(2).all(|t| t[1] - t[0] <= step)),
+        (10, card.times.windows(2).all(|t| t[1].abs_diff(t[0]) <= step)),
     ];
     tests.iter().find(|(_, holds)| !holds).map_or(11, |&(number, _)| number)
 }
@@ -337,11 +359,17 @@ fn print(lines: &mut Vec<u8>, found: Result<Figures, u64>, (measured, filled): (
 /// The lines of a sheet's requirements. The rows are read once for all of them.
 fn answer_each(sheet: &Sheet, lines: &mut Vec<u8>) {
     let room = ROWS.min(sheet.rows.len() / SHORTEST_ROW);
-    let width = if sheet.channels <= 8 { sheet.channels } else { 0 };
+    let width = width(sheet.channels);
     let (mut times, mut values) = (vec![0; room], vec![0; room * width]);
     // rows that are unread or too many leave a recording without a sample
     let counts = rows(sheet.rows, sheet.channels, &mut times, &mut values).unwrap_or_default();
-    let card = Card { predicates: &sheet.predicates, channels: sheet.channels, times: &times[..counts.0], values: &values[..counts.0 * width] };
+    let card = Card {
+        predicates: &sheet.predicates,
+        channels: sheet.channels,
+        scales: &sheet.scales[..width],
+        times: &times[..counts.0],
+        values: &values[..counts.0 * width],
+    };
     let mut work = Vec::new();
     let mut found = [(0, Err(0)); REQUIREMENTS];
     let found = &mut found[..sheet.count];

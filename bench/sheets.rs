@@ -14,7 +14,7 @@ use std::hint::black_box;
 use timing::{seconds, Random};
 
 /// Sheets, and what the answer to each begins with.
-const EXAMPLES: [(&str, &[u8], &str); 8] = [
+const EXAMPLES: [(&str, &[u8], &str); 9] = [
     ("booster-turn-up", include_bytes!("../examples/booster-turn-up.sheet"), "rows="),
     ("line-amplifier-gain-sag", include_bytes!("../examples/line-amplifier-gain-sag.sheet"), "rows="),
     ("preamplifier-pump-ceiling", include_bytes!("../examples/preamplifier-pump-ceiling.sheet"), "rows="),
@@ -23,12 +23,16 @@ const EXAMPLES: [(&str, &[u8], &str); 8] = [
     ("line-card-acceptance", include_bytes!("../examples/line-card-acceptance.sheet"), "req=3 rows="),
     ("standby-pump-start", include_bytes!("../examples/standby-pump-start.sheet"), "req=0 rows="),
     ("line-card-two-pumps", include_bytes!("../examples/line-card-two-pumps.sheet"), "req=0 rows="),
+    ("booster-heat-run", include_bytes!("../examples/booster-heat-run.sheet"), "rows="),
 ];
 
 /// Requirements of one and two nodes, as many as 8,192 cells take over 2,048 rows. Their windows are short, so that reading the rows counts.
 const SIXTEEN: [&str; 16] = [
     "p0", "T", "G[0,5]p0", "F[0,5]p1", "!p0", "G[1,8]p2", "F[3,10]p3", "!p4", "p5", "G[0,0]p6", "F[2,6]p7", "!T", "p8", "G[4,9]p9", "F[1,4]p0", "!p1",
 ];
+
+/// Unequal scales, for eight channels.
+const SCALES: [u64; 8] = [5, 1, 2, 10, 50, 100, 500, 1_000];
 
 /// What is timed of a text: of an answer, what it begins with.
 #[derive(Clone, Copy)]
@@ -51,6 +55,7 @@ struct Room {
     lines: [u8; names::LINES],
     numbers: [u64; 5],
     places: [u64; 32],
+    scales: [u64; 8],
     ranges: [u64; 32],
     ends: [i64; 32],
     nodes: [u64; 320],
@@ -66,6 +71,7 @@ impl Room {
             lines: [0; names::LINES],
             numbers: [0; 5],
             places: [0; 32],
+            scales: [0; 8],
             ranges: [0; 32],
             ends: [0; 32],
             nodes: [0; 320],
@@ -81,8 +87,8 @@ fn proved(what: What, text: &[u8], room: &mut Room) -> u64 {
     match what {
         What::Answer(_) => names::answer(text, &mut room.lines) as u64,
         What::Sheet => {
-            let Room { numbers, places, ranges, ends, .. } = room;
-            names::sheet(text, names::Sheet { numbers, places, ranges, ends })
+            let Room { numbers, places, scales, ranges, ends, .. } = room;
+            names::sheet(text, names::Sheet { numbers, places, scales, ranges, ends })
         }
         What::Requirement => names::requirement(text, &mut room.nodes, &mut room.count),
         What::Rows(channels) => names::rows(text, channels as u64, &mut room.times, &mut room.values, &mut room.counts),
@@ -128,7 +134,8 @@ fn agree(what: What, text: &[u8], ours: &mut Room, theirs: &mut PlainRoom) -> bo
         What::Sheet => plain_sheets::sheet(text).is_ok_and(|sheet| {
             let (rows, count) = (text.len() - sheet.rows.len(), sheet.requirements().len());
             let numbers = [sheet.channels as u64, sheet.step, sheet.drift, rows as u64, count as u64];
-            number == 0 && ours.numbers == numbers && ours.places == places(text, &sheet) && (ours.ranges, ours.ends) == flat_predicates(&sheet.predicates)
+            let predicates = (ours.ranges, ours.ends) == flat_predicates(&sheet.predicates);
+            number == 0 && ours.numbers == numbers && ours.places == places(text, &sheet) && ours.scales == sheet.scales && predicates
         }),
         What::Requirement => {
             plain_sheets::requirement(text).is_some_and(|nodes| number == 0 && ours.count == [nodes.len() as u64] && ours.nodes == flat_nodes(&nodes))
@@ -174,14 +181,14 @@ impl Case {
     }
 }
 
-/// So many rows, one second apart, of random values; before one of sixteen stands a filled one.
-fn random_rows(random: &mut Random, rows: usize, channels: usize) -> String {
+/// So many rows, one second apart, of random values that obey the drift, scaled; before one of sixteen stands a filled one.
+fn random_rows(random: &mut Random, rows: usize, scales: &[u64]) -> String {
     let mut text = String::new();
     for i in 0..rows {
         for source in if i % 16 == 7 { &["f", "m"][..] } else { &["m"][..] } {
             text += &format!("t={i} src={source}");
-            for channel in 0..channels {
-                text += &format!(" v{channel}={}", random.value());
+            for (channel, &scale) in scales.iter().enumerate() {
+                text += &format!(" v{channel}={}", random.value() / scale as i64);
             }
             text.push('\n');
         }
@@ -189,10 +196,12 @@ fn random_rows(random: &mut Random, rows: usize, channels: usize) -> String {
     text
 }
 
-/// What stands before the rows: ten predicates, a drift that any two values obey, and the requirement.
-fn front(channels: usize, requirement: &str) -> String {
+/// What stands before the rows: the scale of each channel, ten predicates, a drift that any two values obey where the scales are 1, and the requirement.
+fn front(scales: &[u64], requirement: &str) -> String {
+    let channels = scales.len();
+    let scales: String = scales.iter().enumerate().map(|(channel, scale)| format!("c={channel} scale={scale}\n")).collect();
     let predicates: String = (0..10).map(|p| format!("p={p} ch={} lo=-{}00000000 hi={}\n", p % channels, p + 1, ["*", "900000000"][p % 2])).collect();
-    format!("chan={channels}\n{predicates}step=1\ndrift=1000000000\nreq={requirement}\n")
+    format!("chan={channels}\n{scales}{predicates}step=1\ndrift=1000000000\nreq={requirement}\n")
 }
 
 /// A requirement of 63 nodes: until, release, eventually and always by turns, joined.
@@ -209,20 +218,25 @@ fn deep() -> String {
 
 fn cases() -> Vec<Case> {
     let random = &mut Random(12345);
-    let rows = [("2,048 rows, 1 channel", random_rows(random, 2_048, 1), 1), ("500 rows, 8 channels", random_rows(random, 500, 8), 8)];
-    let broken = format!("{}{}t=9 src=m v0=-0\n", front(1, "G[0,600]p0"), random_rows(random, 1_000, 1));
+    let rows = [
+        ("2,048 rows, 1 channel", &[1][..], random_rows(random, 2_048, &[1])),
+        ("500 rows, 8 channels", &[1; 8], random_rows(random, 500, &[1; 8])),
+        // from a seed of its own: the other cases have the same values as without it
+        ("500 rows, 8 scales", &SCALES, random_rows(&mut Random(67890), 500, &SCALES)),
+    ];
+    let broken = format!("{}{}t=9 src=m v0=-0\n", front(&[1], "G[0,600]p0"), random_rows(random, 1_000, &[1]));
     let mut cases = Vec::new();
     let mut case = |what, name: &str, text: &[u8]| cases.push(Case { what, name: name.to_string(), text: text.to_vec(), best: (f64::MAX, f64::MAX) });
     for (name, text, begins) in EXAMPLES {
         case(What::Answer(begins), name, text);
     }
-    for (name, text, channels) in &rows {
-        let sheet = front(*channels, "G[0,600]p0") + text;
+    for (name, scales, text) in &rows {
+        let sheet = front(scales, "G[0,600]p0") + text;
         case(What::Answer("rows="), name, sheet.as_bytes());
         case(What::Sheet, name, sheet.as_bytes());
-        case(What::Rows(*channels), name, text.as_bytes());
+        case(What::Rows(scales.len()), name, text.as_bytes());
     }
-    case(What::Answer("rows="), "63 nodes, 64 rows", (front(1, &broad()) + &random_rows(random, 64, 1)).as_bytes());
+    case(What::Answer("rows="), "63 nodes, 64 rows", (front(&[1], &broad()) + &random_rows(random, 64, &[1])).as_bytes());
     case(What::Answer("refused=1\n"), "refused in the last row", broken.as_bytes());
     case(What::Requirement, "63 nodes", broad().as_bytes());
     case(What::Requirement, "32 enclosings", deep().as_bytes());
@@ -240,10 +254,10 @@ struct Sixteen {
 
 impl Sixteen {
     fn new() -> Sixteen {
-        let rows = random_rows(&mut Random(54321), 2_048, 1);
-        let text = (front(1, &SIXTEEN.join("\nreq=")) + &rows).into_bytes();
+        let rows = random_rows(&mut Random(54321), 2_048, &[1]);
+        let text = (front(&[1], &SIXTEEN.join("\nreq=")) + &rows).into_bytes();
         let together = Case { what: What::Answer("req="), name: "16 requirements, 2,048 rows".to_string(), text, best: (f64::MAX, f64::MAX) };
-        let apart = SIXTEEN.iter().map(|requirement| front(1, requirement) + &rows).collect();
+        let apart = SIXTEEN.iter().map(|requirement| front(&[1], requirement) + &rows).collect();
         Sixteen { together, apart, best: (f64::MAX, f64::MAX) }
     }
 
