@@ -1,4 +1,4 @@
--- The form of a sheet's head, in document 01's order: `chan=`, scale lines, predicate lines, `step=`, `drift=`.
+-- The form of a sheet's head, in the papers' order: `chan=`, scale lines, predicate lines, `step=`, `drift=`.
 -- Assumes nothing.
 use Prim.Native.Nat.{ℕ}
 use mathlib.Core.Path.{_≡_}

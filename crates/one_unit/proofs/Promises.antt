@@ -1,13 +1,12 @@
 -- With all scales 1 only TOP differs from before: the numbers of refusals and the verdicts are equal; margin, hold, fail and every cell are those of before with the TOP raised.
 -- Assumes nothing.
-use mathlib.Core.Path.{_≡_, ap, ap₂, _∙_}
+use mathlib.Core.Path.{_≡_, ap₂, _∙_}
 use mathlib.Core.Bool.{Bool, true, false, cond}
 use mathlib.Core.List.{List}
 use Prim.Native.Nat.{ℕ, _+_, _*_, _<_}
 use lib.IntN.{ℤ, pos}
 use lib.ListN.{length, getD}
 use Rattle.logic.specs.Strengthening.{strengthened}
-use Rattle.recordings.specs.declared.Verdict.{Verdict}
 use Rattle.recordings.specs.declared.Verdict.the-variants.{Holds, Fails, NotShown}
 use Rattle.recordings.specs.Card.{Card, rows}
 use Rattle.tables.specs.declared.Table.{Table}

@@ -8,10 +8,10 @@ use native.Mathlib.Omega.{arith}
 use native.Mathlib.Nat.{add-le-add, add-lt-add-of-lt-of-le, add-lt-add-of-le-of-lt}
 use native.Mathlib.Decide.{decLt}
 use lib.Dec.{T}
-use lib.IntN.{ℤ, pos, negℤ, _*ℤ_}
+use lib.IntN.{ℤ, pos, negℤ}
 use lib.Signed.{ltZ, leZ}
 use Rattle.numbers.specs.Order.{Within}
-use Rattle.numbers.proofs.Parts.{plus, minus, lt-parts, parts-lt, le-parts, nle-parts, parts-eq, parts-apart, abs-parts, plus-neg, minus-neg, times-one, within-neg, within-more, within-either}
+use Rattle.numbers.proofs.Parts.{plus, minus, lt-parts, parts-lt, le-parts, nle-parts, parts-eq, parts-apart, abs-parts, plus-neg, minus-neg, times-one, within-neg, within-more}
 use Rattle.lists.proofs.Below.{same-test}
 use Rattle.logic.specs.declared.Extremum.{Extremum}
 use Rattle.logic.specs.declared.Extremum.the-variants.{Largest, Smallest}

@@ -1,29 +1,28 @@
 -- In one unit 13 never applies, 5 judges the samples alone and 11 the differences as they are: the refusals of before, whose tests are exact too.
 -- Assumes nothing.
-use mathlib.Core.Path.{_≡_, refl, ap}
-use mathlib.Core.Bool.{Bool, true, _&&_}
+use mathlib.Core.Path.{_≡_, refl}
+use mathlib.Core.Bool.{true}
 use mathlib.Core.List.{[], _∷_}
 use Prim.Native.Nat.{ℕ, suc, _-_, _*_, _≤_, _<_}
 use native.Mathlib.Omega.{arith}
 use native.Mathlib.Nat.{one-mul}
-use lib.Dec.{T, leb, eqb, leb→le, le→leb, eqb→eq, lit≤}
+use lib.Dec.{T, leb, eqb, leb→le, le→leb, lit≤}
 use lib.ListN.{length}
 use lib.IntN.{_-ℤ_, natAbs}
-use mir.Facts.{and-yes, yes-and, yes-eqb}
-use Rattle.lists.specs.Fold.{all-below}
-use Rattle.lists.proofs.Below.{same-test, all-at, at-all}
+use mir.Facts.{yes-eqb}
+use Rattle.lists.proofs.Below.{same-test}
 use Rattle.recordings.specs.Card.{Card, rows, scale, value}
-use Rattle.recordings.specs.Accepted.{MOST-ROWS, Scaled, Steady}
+use Rattle.recordings.specs.Accepted.{Steady}
 use Rattle.tables.specs.declared.Table.{Table}
 use Rattle.refusals.specs.First.{first, Exact, AllExact}
 use Rattle.refusals.proofs.First.{exact-append}
 use Rattle.scales.specs.Scales.{scales-obey}
 use Rattle.scales.proofs.Scales.{scales-pass}
 use Rattle.rules.specs.Recording.{samples-obey, lengths-obey}
-use Rattle.rules.proofs.Recording.{times-are, times-pass, values-are, values-pass}
+use Rattle.rules.proofs.Recording.{samples-are, samples-pass, times-are, times-pass, values-are, values-pass}
 use Rattle.rules.proofs.Refusals.{exact}
 use Rattle.sampling.specs.Sampling.{values-near}
-use Rattle.sampling.proofs.Sampling.{steady, steady-passes, exact as sampling-exact}
+use Rattle.sampling.proofs.Sampling.{bounded-at, at-bounded, steady, steady-passes, exact as sampling-exact}
 use Rattle.margins.specs.Answers.{margin-room, margin-refusal}
 use Rattle.verdicts.specs.Answer.{verdict-room, verdict-refusal}
 use Rattle.one_unit.specs.Before.{OneUnit, LengthsBefore, SteadyBefore, near-before, checks-before, sampling-before, margin-checks-before, verdict-checks-before}
@@ -47,28 +46,22 @@ module _ {c : Card} (u : OneUnit c) where
 
 -- ---- the tests of before are exact
 samples-exact : (c : Card) → Exact (record { number = 5; sentence = LengthsBefore c; passes = samples-obey (c .setup .channels) (rows c) (length (c .values)) })
-unfolding samples-obey
 samples-exact c = record {
-  sound = λ t.
-      let a = and-yes (leb (rows c) MOST-ROWS) (leb 1 (rows c) && eqb (length (c .values)) (rows c * c .setup .channels)) t in
-      let b = and-yes (leb 1 (rows c)) (eqb (length (c .values)) (rows c * c .setup .channels)) (a .1) in
-      record { some-row = leb→le 1 (rows c) (b .0); few-rows = leb→le (rows c) MOST-ROWS (a .0); all-values = eqb→eq (length (c .values)) (rows c * c .setup .channels) (b .1) };
-  complete = λ r.
-      yes-and (leb (rows c) MOST-ROWS) (leb 1 (rows c) && eqb (length (c .values)) (rows c * c .setup .channels)) (le→leb (rows c) MOST-ROWS (r .few-rows))
-      (yes-and (leb 1 (rows c)) (eqb (length (c .values)) (rows c * c .setup .channels)) (le→leb 1 (rows c) (r .some-row)) (yes-eqb (r .all-values)));
+  sound = λ t. let s = samples-are (c .setup .channels) (rows c) (length (c .values)) t in record { some-row = s .0; few-rows = s .1; all-values = s .2 };
+  complete = λ r. samples-pass (c .setup .channels) (rows c) (length (c .values)) (r .some-row) (r .few-rows) (r .all-values);
 }
 
 module _ (c : Card) (drift : ℕ) where
-  abbrev apart : ℕ → ℕ → Bool
-  apart ch i = leb (natAbs (value c ch (suc i) -ℤ value c ch i)) (2 * drift)
+  abbrev apart : ℕ → ℕ → ℕ
+  apart ch i = natAbs (value c ch (suc i) -ℤ value c ch i)
 
   near-is : T (near-before c drift) → SteadyBefore c drift
   unfolding near-before
-  near-is t = record { no-jump = λ i ch h k. leb→le _ (2 * drift) (all-at (apart ch) (rows c - 1) (all-at (λ m. all-below (apart m) (rows c - 1)) (c .setup .channels) t ch k) i (omega arith)) }
+  near-is t = record { no-jump = λ i ch h k. bounded-at apart (2 * drift) (c .setup .channels) (rows c - 1) t ch i k (omega arith) }
 
   near-passes : SteadyBefore c drift → T (near-before c drift)
   unfolding near-before
-  near-passes r = at-all (λ m. all-below (apart m) (rows c - 1)) (c .setup .channels) (λ ch k. at-all (apart ch) (rows c - 1) (λ i h. le→leb _ (2 * drift) (r .no-jump i ch (omega arith) k)))
+  near-passes r = at-bounded apart (2 * drift) (c .setup .channels) (rows c - 1) (λ ch i k h. r .no-jump i ch (omega arith) k)
 
 module _ (c : Card) (t : Table) where
   -- 3 and 4 as today; 6 and 7 likewise

@@ -17,27 +17,36 @@ use Rattle.predicates.proofs.Predicates.{value-in-range, in-range-passes}
 use Rattle.rules.specs.Recording.{samples-obey, lengths-obey, all-rising, all-early, times-obey, values-obey}
 
 -- ---- 5
-pub lengths-are : (c : Card) → T (lengths-obey (c .setup .scales .count) (c .setup .channels) (rows c) (length (c .values))) → Lengths c
-unfolding samples-obey lengths-obey
-lengths-are c t =
-    let k = and-yes (eqb (c .setup .scales .count) (c .setup .channels)) (samples-obey (c .setup .channels) (rows c) (length (c .values))) t in
-    let a = and-yes (leb (rows c) MOST-ROWS) (leb 1 (rows c) && eqb (length (c .values)) (rows c * c .setup .channels)) (k .1) in
-    let b = and-yes (leb 1 (rows c)) (eqb (length (c .values)) (rows c * c .setup .channels)) (a .1) in
-    record { all-scales = eqb→eq (c .setup .scales .count) (c .setup .channels) (k .0); some-row = leb→le 1 (rows c) (b .0); few-rows = leb→le (rows c) MOST-ROWS (a .0); all-values = eqb→eq (length (c .values)) (rows c * c .setup .channels) (b .1) }
+pub samples-are : (channels rows values : ℕ) → T (samples-obey channels rows values) → (1 ≤ rows) × (rows ≤ MOST-ROWS) × (values ≡ rows * channels)
+unfolding samples-obey
+samples-are channels rows values t =
+    let a = and-yes (leb rows MOST-ROWS) (leb 1 rows && eqb values (rows * channels)) t in
+    let b = and-yes (leb 1 rows) (eqb values (rows * channels)) (a .1) in
+    (leb→le 1 rows (b .0), leb→le rows MOST-ROWS (a .0), eqb→eq values (rows * channels) (b .1))
 
-pub lengths-pass : (c : Card) → Lengths c → T (lengths-obey (c .setup .scales .count) (c .setup .channels) (rows c) (length (c .values)))
-unfolding samples-obey lengths-obey
-lengths-pass c r =
-    yes-and (eqb (c .setup .scales .count) (c .setup .channels)) (samples-obey (c .setup .channels) (rows c) (length (c .values))) (yes-eqb (r .all-scales))
-    (yes-and (leb (rows c) MOST-ROWS) (leb 1 (rows c) && eqb (length (c .values)) (rows c * c .setup .channels)) (le→leb (rows c) MOST-ROWS (r .few-rows))
-    (yes-and (leb 1 (rows c)) (eqb (length (c .values)) (rows c * c .setup .channels)) (le→leb 1 (rows c) (r .some-row)) (yes-eqb (r .all-values))))
+pub samples-pass : (channels rows values : ℕ) → 1 ≤ rows → rows ≤ MOST-ROWS → values ≡ rows * channels → T (samples-obey channels rows values)
+unfolding samples-obey
+samples-pass channels rows values some few all =
+    yes-and (leb rows MOST-ROWS) (leb 1 rows && eqb values (rows * channels)) (le→leb rows MOST-ROWS few) (yes-and (leb 1 rows) (eqb values (rows * channels)) (le→leb 1 rows some) (yes-eqb all))
+
+module _ (c : Card) where
+  pub lengths-are : T (lengths-obey (c .setup .scales .count) (c .setup .channels) (rows c) (length (c .values))) → Lengths c
+  unfolding lengths-obey
+  lengths-are t =
+      let k = and-yes (eqb (c .setup .scales .count) (c .setup .channels)) (samples-obey (c .setup .channels) (rows c) (length (c .values))) t in
+      let s = samples-are (c .setup .channels) (rows c) (length (c .values)) (k .1) in
+      record { all-scales = eqb→eq (c .setup .scales .count) (c .setup .channels) (k .0); some-row = s .0; few-rows = s .1; all-values = s .2 }
+
+  pub lengths-pass : Lengths c → T (lengths-obey (c .setup .scales .count) (c .setup .channels) (rows c) (length (c .values)))
+  unfolding lengths-obey
+  lengths-pass r =
+      yes-and (eqb (c .setup .scales .count) (c .setup .channels)) (samples-obey (c .setup .channels) (rows c) (length (c .values))) (yes-eqb (r .all-scales))
+      (samples-pass (c .setup .channels) (rows c) (length (c .values)) (r .some-row) (r .few-rows) (r .all-values))
 
 -- what the test of the times may rely on
 pub some-row : (scales channels rows values : ℕ) → lengths-obey scales channels rows values ≡ true → 1 ≤ rows
-unfolding samples-obey lengths-obey
-some-row scales channels rows values e =
-    let a = and-yes (leb rows MOST-ROWS) (leb 1 rows && eqb values (rows * channels)) (and-yes (eqb scales channels) (samples-obey channels rows values) (holds e) .1) in
-    leb→le 1 rows (and-yes (leb 1 rows) (eqb values (rows * channels)) (a .1) .0)
+unfolding lengths-obey
+some-row scales channels rows values e = samples-are channels rows values (and-yes (eqb scales channels) (samples-obey channels rows values) (holds e) .1) .0
 
 -- ---- 6
 pub times-are : (c : Card) → T (times-obey (c .times)) → Times c

@@ -2,10 +2,12 @@
 -- Assumes nothing.
 use mathlib.Core.Path.{_≡_}
 use mathlib.Core.Bool.{Bool, _&&_}
-use Prim.Native.Nat.{ℕ, zero, suc, _-_, _*_, _<_}
+use Prim.Native.Nat.{ℕ, zero, suc, _-_, _*_, _≤_, _<_}
 use native.Mathlib.Omega.{arith}
 use lib.Dec.{T, leb, leb→le, le→leb}
+use lib.IntN.{_-ℤ_, natAbs}
 use mir.Facts.{and-yes, yes-and}
+use Rattle.lists.specs.Fold.{all-below}
 use Rattle.lists.proofs.Below.{all-at, at-all}
 use Rattle.recordings.specs.Card.{Card, rows, time, scale, value}
 use Rattle.recordings.specs.Accepted.{LONGEST-STEP, LARGEST-DRIFT, Step, Gapless, Steady, Recorded, Accepted}
@@ -40,17 +42,28 @@ gapless-passes c step r =
     at-all (λ j. leb (time c (suc j) - time c j) step) (rows c - 1) (λ i h. le→leb (time c (suc i) - time c i) step (omega (arith, r .no-gap i (omega arith))))
 
 -- ---- 11
+-- of a number for each channel and sample, none above a bound
+module _ (f : ℕ → ℕ → ℕ) (bound channels samples : ℕ) where
+  abbrev within : Bool
+  within = all-below (λ ch. all-below (λ i. leb (f ch i) bound) samples) channels
+
+  pub bounded-at : T within → (ch i : ℕ) → ch < channels → i < samples → f ch i ≤ bound
+  bounded-at t ch i h k = leb→le (f ch i) bound (all-at (λ j. leb (f ch j) bound) samples (all-at (λ m. all-below (λ j. leb (f m j) bound) samples) channels t ch h) i k)
+
+  pub at-bounded : ((ch i : ℕ) → ch < channels → i < samples → f ch i ≤ bound) → T within
+  at-bounded r = at-all (λ m. all-below (λ j. leb (f m j) bound) samples) channels (λ ch h. at-all (λ j. leb (f ch j) bound) samples (λ i k. le→leb (f ch i) bound (r ch i h k)))
+
 module _ (c : Card) (drift : ℕ) where
-  abbrev obeys : ℕ → ℕ → Bool
-  obeys ch i = near (scale c ch) (value c ch i) (value c ch (suc i)) drift
+  abbrev apart : ℕ → ℕ → ℕ
+  apart ch i = scale c ch * natAbs (value c ch (suc i) -ℤ value c ch i)
 
   pub steady : T (values-near c drift) → Steady c drift
   unfolding values-near channel-near near
-  steady t = record { no-jump = λ i ch h k. leb→le _ (2 * drift) (all-at (obeys ch) (rows c - 1) (all-at (λ m. channel-near c m drift) (c .setup .channels) t ch k) i (omega arith)) }
+  steady t = record { no-jump = λ i ch h k. bounded-at apart (2 * drift) (c .setup .channels) (rows c - 1) t ch i k (omega arith) }
 
   pub steady-passes : Steady c drift → T (values-near c drift)
   unfolding values-near channel-near near
-  steady-passes r = at-all (λ m. channel-near c m drift) (c .setup .channels) (λ ch k. at-all (obeys ch) (rows c - 1) (λ i h. le→leb _ (2 * drift) (r .no-jump i ch (omega arith) k)))
+  steady-passes r = at-bounded apart (2 * drift) (c .setup .channels) (rows c - 1) (λ ch i k h. r .no-jump i ch (omega arith) k)
 
 -- ---- all of them
 pub exact : (c : Card) (step drift : ℕ) → AllExact (checks c step drift)

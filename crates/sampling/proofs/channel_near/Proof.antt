@@ -1,12 +1,11 @@
 -- `ok` says of the first i samples whether the channel's value at each is near that at the next.
 -- Assumes nothing.
-use Prim.Native.Nat.{ℕ, suc, _+_, _-_, _*_, _≤_, _<_}
+use Prim.Native.Nat.{ℕ, suc, _+_, _-_, _*_, _<_}
 use native.Mathlib.Omega.{arith}
 use native.Mathlib.Nat.{suc-mul}
 use native.Mathlib.Numerals.{add-one}
 use lib.ListN.{length, getD}
 use lib.IntN.{pos}
-use borrow.Author.Needs.{needs}
 use Rattle.numbers.proofs.Bits.{back-ok}
 use Rattle.lists.proofs.Below.{Tested, tested-none, tested-next, tested-all}
 use Rattle.lists.proofs.Filled.{earlier-row}
