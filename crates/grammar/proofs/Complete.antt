@@ -16,7 +16,9 @@ use Rattle.text.proofs.Answers.{mark-made, mark-first, field-made}
 use Rattle.tables.specs.Kind.{true-kind, predicate-kind, not-kind, and-kind, or-kind}
 use Rattle.grammar.specs.Operators.{letters, letter, binders, prefixes}
 use Rattle.grammar.specs.Tree.{Tree, two, no-span}
-use Rattle.grammar.specs.Grammar.{Part, alternative, conjunction, bind, unary, Derives, alternative-one, alternative-more, conjunction-one, conjunction-more, bind-one, bind-two, unary-not, unary-timed, unary-true, unary-predicate, unary-group}
+use Rattle.grammar.specs.declared.Part.{Part}
+use Rattle.grammar.specs.declared.Part.the-variants.{Alternative as alternative, Conjunction as conjunction, Bind as bind, Unary as unary}
+use Rattle.grammar.specs.Grammar.{Derives, alternative-one, alternative-more, conjunction-one, conjunction-more, bind-one, bind-two, unary-not, unary-timed, unary-true, unary-predicate, unary-group}
 use Rattle.grammar.specs.Reading.{Reading, got, Reads, leaf-at, more, bind-by, unary-by, unary-at, bind-at, conjunction-at, alternative-at}
 use Rattle.grammar.proofs.Letters.{all-in, none-of}
 use Rattle.grammar.proofs.Windows.{timed-made, timed-none}

@@ -11,7 +11,8 @@ use lib.Dec.{leb, eqb}
 use borrow.Author.Tests.{eqb-true, eq-eqb, leb-true, le-leb}
 use Rattle.tables.specs.Tree.{NODES}
 use Rattle.grammar.specs.Tree.{Tree, size}
-use Rattle.grammar.specs.Grammar.{alternative, Derives, Requires}
+use Rattle.grammar.specs.declared.Part.the-variants.{Alternative as alternative}
+use Rattle.grammar.specs.Grammar.{Derives, ENCLOSINGS, Requires}
 use Rattle.grammar.specs.Reading.{Reading, got, none, alternative-at, requirement-tree}
 use Rattle.grammar.proofs.Sound.{Stands, none-got, got-taken, alternative-at-sound}
 use Rattle.grammar.proofs.Complete.{complete, alternative-done}
@@ -24,16 +25,16 @@ taken a n false x h = absurd (none-got h)
 pub reading-sound : (s : List ℕ) (a : Tree) (n : ℕ) → requirement-tree s ≡ got a n → Requires s a
 unfolding requirement-tree
 reading-sound s a n h =
-    let x = got-taken a n (alternative-at 32 s 0) _ h in
+    let x = got-taken a n (alternative-at ENCLOSINGS s 0) _ h in
     let y = taken a n (eqb (x .1) (length s)) _ (x .3) in
     let z = taken a n (leb (size (x .0)) NODES) _ (y .1) in
-    let q = alternative-at-sound 32 s 0 (x .0) (x .1) (x .2) in
+    let q = alternative-at-sound ENCLOSINGS s 0 (x .0) (x .1) (x .2) in
     same (z .1) (record { derives = all q (eqb-true _ _ (y .0)); nodes = leb-true _ NODES (z .0) })
   where
-    all : {b : Tree} {m : ℕ} → Stands alternative 32 s 0 b m → m ≡ length s → Derives alternative 32 s b
+    all : {b : Tree} {m : ℕ} → Stands alternative ENCLOSINGS s 0 b m → m ≡ length s → Derives alternative ENCLOSINGS s b
     all {b} {m} q e =
         let w : s ≡ q .word = q .between .bytes ∙ rw (e, drop-length s) (append-nil (q .word)) in
-        subst (λ (l : List ℕ). Derives alternative 32 l b) (sym w) (q .derives)
+        subst (λ (l : List ℕ). Derives alternative ENCLOSINGS l b) (sym w) (q .derives)
 
     same : {b : Tree} {m : ℕ} → got b m ≡ got a n → Requires s b → Requires s a
     same {b} {m} g r = let y : b ≡ a = cc in rw (← y) r
@@ -42,8 +43,8 @@ reading-sound s a n h =
 pub reading-complete : (s : List ℕ) (a : Tree) → Requires s a → requirement-tree s ≡ got a (length s)
 unfolding requirement-tree
 reading-complete s a r =
-    let e : alternative-at 32 s 0 ≡ got a (length s) =
-    alternative-done 32 s a (complete (r .derives)) s 0 [] (sym (append-nil s)) refl ∙ rw (zero-add (length s)) in
+    let e : alternative-at ENCLOSINGS s 0 ≡ got a (length s) =
+    alternative-done ENCLOSINGS s a (complete (r .derives)) s 0 [] (sym (append-nil s)) refl ∙ rw (zero-add (length s)) in
     rw (e, eq-eqb (length s) (length s) refl, le-leb (size a) NODES (r .nodes))
 
 -- at most one: two readings of a text are the same

@@ -18,7 +18,9 @@ use Rattle.grammar.specs.declared.Operator.the-variants.{Absent, Over, B
 use Rattle.tables.specs.Kind.{true-kind, predicate-kind, not-kind, and-kind, or-kind}
 use Rattle.grammar.specs.Operators.{letter, binders, prefixes}
 use Rattle.grammar.specs.Tree.{Tree, truth, predicate, one, two, no-span}
-use Rattle.grammar.specs.Grammar.{Part, alternative, conjunction, bind, unary, Derives, alternative-one, alternative-more, conjunction-one, conjunction-more, bind-one, bind-two, unary-not, unary-timed, unary-true, unary-predicate, unary-group}
+use Rattle.grammar.specs.declared.Part.{Part}
+use Rattle.grammar.specs.declared.Part.the-variants.{Alternative as alternative, Conjunction as conjunction, Bind as bind, Unary as unary}
+use Rattle.grammar.specs.Grammar.{Derives, alternative-one, alternative-more, conjunction-one, conjunction-more, bind-one, bind-two, unary-not, unary-timed, unary-true, unary-predicate, unary-group}
 use Rattle.grammar.specs.Reading.{Reading, got, none, on-got, Reads, leaf-at, binder-at, prefix-at, timed-among, more-turns, bind-by, bind-of, conjunction-of, alternative-of, closing, unary-by, enclosing, unary-at, bind-at, conjunction-at, alternative-at}
 use Rattle.grammar.proofs.Windows.{OperatorIs, timed-is}
 use Rattle.grammar.proofs.Turns.{Onward}

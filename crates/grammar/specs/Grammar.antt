@@ -4,6 +4,8 @@ use mathlib.Core.List.{List, _++_}
 use Rattle.text.specs.Bytes.{bytes}
 use Rattle.text.specs.Numeral.{Numeral}
 use Rattle.grammar.specs.declared.Span.{Span}
+use Rattle.grammar.specs.declared.Part.{Part}
+use Rattle.grammar.specs.declared.Part.the-variants.{Alternative as alternative, Conjunction as conjunction, Bind as bind, Unary as unary}
 use Rattle.tables.specs.Kind.{true-kind, predicate-kind, not-kind, and-kind, or-kind}
 use Rattle.grammar.specs.Operators.{letter, binders, prefixes, _∈_}
 use Rattle.tables.specs.Tree.{NODES, LONGEST, NO-END}
@@ -15,9 +17,6 @@ pub data WindowText : List ℕ → Span → Type 0 where
       → WindowText (bytes "[" ++ (v ++ (bytes "," ++ (w ++ bytes "]")))) (span lo hi)
   endless : {v : List ℕ} {lo : ℕ} → Numeral v lo → lo ≤ LONGEST
       → WindowText (bytes "[" ++ (v ++ (bytes "," ++ bytes "*]"))) (span lo NO-END)
-
-pub data Part : Type 0 where
-  alternative conjunction bind unary : Part
 
 -- `Derives part d text tree`: the text is such a part, says the tree, and at most d of `!`, `G`, `F` and `(` enclose one another in it
 pub data Derives : Part → ℕ → List ℕ → Tree → Type 0 where
@@ -45,7 +44,11 @@ pub data Derives : Part → ℕ → List ℕ → Tree → Type 0 where
   -- or a parenthesised alternative
   unary-group : {d : ℕ} {w : List ℕ} {a : Tree} → Derives alternative d w a → Derives unary (suc d) (bytes "(" ++ (w ++ bytes ")")) a
 
+-- at most so many of `!`, `G`, `F` and `(` enclose one another
+abbrev pub ENCLOSINGS : ℕ
+ENCLOSINGS = 32
+
 -- a requirement: an alternative with at most 32 enclosings and at most 64 nodes
 pub record Requires (text : List ℕ) (tree : Tree) : Type 0 where
-  pub derives : Derives alternative 32 text tree
+  pub derives : Derives alternative ENCLOSINGS text tree
   pub nodes : size tree ≤ NODES

@@ -14,6 +14,7 @@ use Rattle.grammar.specs.declared.Operator.the-variants.{Absent, Over, B
 use Rattle.tables.specs.Kind.{true-kind, predicate-kind, not-kind, and-kind, or-kind}
 use Rattle.grammar.specs.Operators.{letter, binders, prefixes}
 use Rattle.tables.specs.Tree.{NODES, LONGEST, NO-END}
+use Rattle.grammar.specs.Grammar.{ENCLOSINGS}
 use Rattle.grammar.specs.Tree.{Tree, truth, predicate, one, two, size, span, no-span}
 
 -- a window: `[lo,hi]` or `[lo,*]`
@@ -134,4 +135,4 @@ whole s x = on-got x (λ a n. cond (eqb n (length s)) (cond (leb (size a) NODES)
 
 -- the tree of a whole text
 unfoldable pub requirement-tree : List ℕ → Reading
-requirement-tree s = whole s (alternative-at 32 s 0)
+requirement-tree s = whole s (alternative-at ENCLOSINGS s 0)

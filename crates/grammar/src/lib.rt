@@ -1,4 +1,4 @@
-// What the pieces of a requirement text are, before they are put together: windows and the operators that carry one.
+// What the pieces of a requirement text are, before they are put together: windows and the operators that carry one; and the grammar's parts.
 
 // A window's two ends. Kinds without a window have both at 0.
 pub struct Span {
@@ -17,4 +17,12 @@ pub enum Operator {
     Absent,
     Over(u64, Span, usize),
     Bad,
+}
+
+// The parts of the grammar, each made of those after it; a parenthesis makes a unary of an alternative.
+pub enum Part {
+    Alternative,
+    Conjunction,
+    Bind,
+    Unary,
 }

@@ -20,7 +20,8 @@ use Rattle.tables.proofs.Rules.{table-passes}
 use Rattle.grammar.specs.declared.Span.{Span}
 use Rattle.grammar.specs.Operators.{binders, prefixes, _∈_}
 use Rattle.grammar.specs.Tree.{Tree, truth, predicate, one, two, size, no-span}
-use Rattle.grammar.specs.Grammar.{WindowText, closed, endless, Part, Derives, alternative-one, alternative-more, conjunction-one, conjunction-more, bind-one, bind-two, unary-not, unary-timed, unary-true, unary-predicate, unary-group, Requires}
+use Rattle.grammar.specs.declared.Part.{Part}
+use Rattle.grammar.specs.Grammar.{WindowText, closed, endless, Derives, alternative-one, alternative-more, conjunction-one, conjunction-more, bind-one, bind-two, unary-not, unary-timed, unary-true, unary-predicate, unary-group, Requires}
 use Rattle.grammar.proofs.Letters.{all-in}
 use Rattle.building.specs.Nodes.{node, empty-node, nodes-of, table-of}
 use Rattle.building.specs.Order.{NodeOrdered, LeftRightParent}

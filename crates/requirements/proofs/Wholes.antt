@@ -14,6 +14,7 @@ use Rattle.tables.specs.declared.Table.{Table}
 use Rattle.text.proofs.Tests.{by-test}
 use Rattle.tables.specs.Tree.{NODES}
 use Rattle.grammar.specs.Tree.{size}
+use Rattle.grammar.specs.Grammar.{ENCLOSINGS}
 use Rattle.grammar.specs.Reading.{Reading, got, none, alternative-at, whole, requirement-tree}
 use Rattle.building.specs.declared.Step.{Step}
 use Rattle.building.specs.declared.Step.the-variants.{Refused}
@@ -24,10 +25,10 @@ use Rattle.building.specs.Storing.{read-part, cells-of, step-of, Done, nodes-fr
 use Rattle.building.proofs.Cells.{zeros, length-nodes, table-back}
 use Rattle.building.proofs.Stores.{refused-big, ReadIs, read-is, done-as, cells-small}
 
-module _ (s : List ℕ) (p : Step) (cells : List ℕ) (u : Done 0 (alternative-at 32 s 0) p zeros cells) where
+module _ (s : List ℕ) (p : Step) (cells : List ℕ) (u : Done 0 (alternative-at ENCLOSINGS s 0) p zeros cells) where
   pub whole-refused : p ≡ Refused → refused ≡ requirement-of s
   unfolding requirement-tree
-  whole-refused q = go (alternative-at 32 s 0) (sym (u .step) ∙ q)
+  whole-refused q = go (alternative-at ENCLOSINGS s 0) (sym (u .step) ∙ q)
     where
       go : (x : Reading) → step-of 0 x ≡ Refused → refused ≡ answer-of (whole s x)
       go (got a n) h =
@@ -36,8 +37,8 @@ module _ (s : List ℕ) (p : Step) (cells : List ℕ) (u : Done 0 (alternative-a
       go none h = refl
 
   module _ (e r f : ℕ) (q : p ≡ read-part e r f) where
-    whole-read : ReadIs 0 (alternative-at 32 s 0) e r f
-    whole-read = read-is 0 (alternative-at 32 s 0) e r f (sym (u .step) ∙ q)
+    whole-read : ReadIs 0 (alternative-at ENCLOSINGS s 0) e r f
+    whole-read = read-is 0 (alternative-at ENCLOSINGS s 0) e r f (sym (u .step) ∙ q)
 
     whole-fits : f ≤ NODES
     whole-fits = let i = whole-read in let a = i .fits in let b = i .free in omega arith
@@ -52,7 +53,7 @@ module _ (s : List ℕ) (p : Step) (cells : List ℕ) (u : Done 0 (alternative-a
         let i = whole-read in
         let a = i .tree in
         let c : cells ≡ sets zeros 0 (cells-of (nodes-of 0 a)) =
-        cells-small 0 a e p zeros cells (done-as 0 (alternative-at 32 s 0) (got a e) p zeros cells (i .reading) u) (i .fits) in
+        cells-small 0 a e p zeros cells (done-as 0 (alternative-at ENCLOSINGS s 0) (got a e) p zeros cells (i .reading) u) (i .fits) in
         let n : f ≡ length (nodes-of 0 a) = i .free ∙ (zero-add (size a) ∙ sym (length-nodes 0 a)) in
         let l : length (nodes-of 0 a) ≤ NODES = rw (length-nodes 0 a) (let g = i .fits in omega arith) in
         let ns : nodes-from cells f ≡ nodes-of 0 a ++ replicate (NODES - size a) empty-node =
