@@ -6,30 +6,35 @@ use text::Field;
 use text::Mark;
 ghost use mathlib.Core.Path.{_≡_};
 ghost use Prim.Native.Nat.{_<_};
-ghost use mathlib.Core.List.{[], _∷_};
 ghost use lib.ListN.{length, getD};
 ghost use Rattle.text.specs.Mark.{mark-at};
-ghost use Rattle.grammar.specs.Operators.{letter};
+ghost use Rattle.grammar.specs.Operators.{letters, letter};
 ghost use Rattle.grammar.specs.Reading.{window-at, over-window, timed-at, or-else, binder-at, prefix-at};
 
-fn read_among(s: &[u8], at: usize, letters: &[u8], kind: u64) -> Mark
+fn letter_among(letters: &[u8], kind: u64) -> u8
     requires { ⌜ kind < length (now letters) ⌝ }
-    ensures { λ r. ⌜ r ≡ mark-at (getD (now (letters .entry)) kind 0 ∷ []) (now (s .entry)) at ⌝ }
+    ensures { λ r. ⌜ r ≡ getD (now (letters .entry)) kind 0 ⌝ }
 {
-    let from = kind as usize;
-    let to = from + 1;
-    text::read_mark(s, at, &letters[from..to])
+    letters[kind as usize]
 }
 
-// The letter of a kind, which stands at the kind's place of the one table of letters. A number that is no kind's is read as NUL, which the table gives past its end.
+// The letter of a kind, which stands at the kind's place of the one table of letters. A number that is no kind's has NUL, which the table gives past its end.
+pub fn letter_of(kind: u64) -> u8
+    ensures { λ r. ⌜ r ≡ getD letters kind 0 ⌝ }
+{
+    if kind < tables::KINDS {
+        letter_among(b"Tp!&|URFG", kind)
+    } else {
+        0
+    }
+}
+
+// The letter of a kind where it is due.
 pub fn read_letter(s: &[u8], at: usize, kind: u64) -> Mark
     ensures { λ r. ⌜ r ≡ mark-at (letter kind) (now (s .entry)) at ⌝ }
 {
-    if kind < tables::KINDS {
-        read_among(s, at, b"Tp!&|URFG", kind)
-    } else {
-        text::read_mark(s, at, b"\0")
-    }
+    let mark = [letter_of(kind)];
+    text::read_mark(s, at, &mark)
 }
 
 // A window, `[lo,hi]` or `[lo,*]`.
