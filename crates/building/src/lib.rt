@@ -9,7 +9,7 @@ ghost use Prim.Native.Nat.{_<_};
 ghost use Rattle.grammar.specs.Reading.{leaf-at};
 ghost use Rattle.tables.specs.Tree.{NODES};
 ghost use Rattle.building.specs.Nodes.{empty-table};
-ghost use Rattle.building.specs.Storing.{step-of, leaf-cells, pushed-step, pushed-cells, parent-step, wrap-cells, join-cells, closed-step, node-from, table-from};
+ghost use Rattle.building.specs.Storing.{cells-of, step-of, leaf-cells, pushed-step, pushed-cells, parent-step, wrap-cells, join-cells, closed-step, node-from, table-from};
 
 // A node has so many numbers.
 pub const WIDTH: usize = 5;
@@ -121,7 +121,8 @@ pub fn empty_table() -> Table
     }
 }
 
-fn node_at(cells: &[u64; CELLS], k: usize) -> Node
+// The node of a number.
+pub fn node_at(cells: &[u64; CELLS], k: usize) -> Node
     requires { ⌜ k < NODES ⌝ }
     ensures { λ r. ⌜ r ≡ node-from (now (cells .entry)) k ⌝ }
 {
@@ -133,6 +134,18 @@ fn node_at(cells: &[u64; CELLS], k: usize) -> Node
         lo: cells[first + 3],
         hi: cells[first + 4],
     }
+}
+
+// The five numbers of each of a table's nodes.
+pub fn cells_of(nodes: [Node; tables::NODES]) -> [u64; CELLS]
+    ensures { λ r. ⌜ r ≡ cells-of nodes ⌝ }
+{
+    let mut cells = [0u64; CELLS];
+    for k in 0..tables::NODES {
+        let node = nodes[k];
+        push(0, k, node, &mut cells);
+    }
+    cells
 }
 
 // The table of the first `count` nodes; the empty one where there cannot be so many.

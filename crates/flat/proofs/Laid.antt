@@ -1,4 +1,4 @@
--- Numbers laid out node by node or predicate by predicate: after k turns the front of the array is what the first k give. And what a range's number 0 or above 4 says.
+-- Numbers laid out predicate by predicate: after k turns the front of the array is what the first k give. And what a range's number 0 or above 4 says.
 -- Assumes nothing.
 use mathlib.Core.Path.{_≡_, refl, sym, ap, _∙_}
 use mathlib.Core.List.{List, [], _∷_, _++_, append-assoc}
@@ -6,13 +6,9 @@ use Prim.Native.Nat.{ℕ, zero, suc, _+_, _*_, _≤_, _<_}
 use native.Mathlib.Numerals.{add-one}
 use native.Mathlib.Omega.{arith}
 use lib.IntN.{ℤ}
-use lib.ListN.{length, getD, take, drop, set, length-set, length-append}
-use lib.Seq.{sets, sets-eq, length-sets, take-suc, take-suc-set, take-all, take-at, length-take-le}
-use borrow.Author.Tests.{lt-leb}
+use lib.ListN.{length, getD, take, set, length-set}
+use lib.Seq.{take-suc, take-suc-set, take-all}
 use Rattle.recordings.specs.declared.Range.the-variants.{Unset}
-use Rattle.tables.specs.declared.Node.{Node}
-use Rattle.building.specs.Storing.{cells-of, pushed-cells}
-use Rattle.building.proofs.Cells.{cells-append}
 use Rattle.flat.specs.Predicates.{pairs, range-from}
 
 -- ---- two numbers for each
@@ -50,38 +46,6 @@ module _ {A X : Type 0} (f g : A → X) (xs : List A) where
   pub pairs-over : (k : ℕ) (l : List X) → Paired f g xs k l → length xs ≤ k → l ≡ pairs f g xs
   pairs-over k l p h =
       sym (take-all (2 * k) l (omega (arith, p .long))) ∙ p .front ∙ ap (pairs f g) (take-all k xs h)
-
--- ---- five numbers for each
-
-pub record Laid (ns : List Node) (k : ℕ) (l : List ℕ) : Type 0 where
-  pub inside : k ≤ 64
-  pub long : length l ≡ 320
-  pub front : take (5 * k) l ≡ cells-of (take k ns)
-
-module _ (ns : List Node) (nodes : length ns ≡ 64) where
-  pub laid-start : (l : List ℕ) → length l ≡ 320 → Laid ns 0 l
-  unfolding cells-of
-  laid-start l e = record { inside = omega arith; long = e; front = refl }
-
-  pub laid-next : (k : ℕ) (l r : List ℕ) (d : Node) → Laid ns k l → k < 64 → r ≡ pushed-cells k (getD ns k d) l → Laid ns (k + 1) r
-  unfolding cells-of
-  laid-next k l r d p h e =
-      let x : Node = getD ns k d in
-      let five : List ℕ = x .kind ∷ x .left ∷ x .right ∷ x .lo ∷ x .hi ∷ [] in
-      let s : r ≡ sets l (5 * k) five = e ∙ rw (lt-leb 64 k h) in
-      let z : sets l (5 * k) five ≡ take (5 * k) l ++ five ++ drop (5 * k + 5) l = sets-eq five l (5 * k) (omega (arith, p .long)) in
-      let m : length (take (5 * k) l ++ five) ≡ 5 * (k + 1) = length-append (take (5 * k) l) five ∙ rw (length-take-le (5 * k) l (omega (arith, p .long))) (omega arith) in
-      record {
-        inside = omega arith;
-        long = ap length s ∙ length-sets l (5 * k) five ∙ p .long;
-        front =
-            rw (s, z, take-at (take (5 * k) l ++ five) (drop (5 * k + 5) l) (5 * (k + 1)) m, p .front, add-one k, take-suc ns k d (omega arith))
-            (sym (cells-append (take k ns) (x ∷ [])));
-      }
-
-  pub laid-over : (k : ℕ) (l : List ℕ) → Laid ns k l → 64 ≤ k → l ≡ cells-of ns
-  laid-over k l p h =
-      sym (take-all (5 * k) l (omega (arith, p .long))) ∙ p .front ∙ ap cells-of (take-all k ns (omega arith))
 
 -- ---- a number that no range has
 

@@ -7,13 +7,11 @@ use recordings::Range;
 use recordings::Scales;
 use recordings::Setup;
 use requirement_lines::Place;
-use tables::Node;
 use tables::Table;
 ghost use mathlib.Core.Path.{_≡_};
 ghost use Prim.Native.Nat.{_<_};
 ghost use lib.IntN.{pos};
 ghost use lib.ListN.{getD};
-ghost use Rattle.building.specs.Storing.{cells-of};
 ghost use Rattle.flat.specs.Written.{written};
 ghost use Rattle.flat.specs.Tables.{table-from};
 ghost use Rattle.flat.specs.Places.{places-of};
@@ -87,18 +85,6 @@ pub fn table_from(numbers: &[u64], count: u64) -> Table
     let mut padded = [0u64; CELLS];
     write_numbers(numbers, &mut padded);
     building::table_from(&padded, count as usize)
-}
-
-// The five numbers of each of a table's nodes, kept as the requirement reader keeps them.
-pub fn cells_of(nodes: [Node; tables::NODES]) -> [u64; CELLS]
-    ensures { λ r. ⌜ r ≡ cells-of nodes ⌝ }
-{
-    let mut cells = [0u64; CELLS];
-    for k in 0..tables::NODES {
-        let node = nodes[k];
-        building::push(0, k, node, &mut cells);
-    }
-    cells
 }
 
 // A number that no range has is unset.

@@ -90,7 +90,7 @@ pub extern "C" fn varmityep_requirement(text: &[u8], nodes: &mut [u64], count: &
     }
     let table = requirement.table;
     let read = table.nodes;
-    let cells = flat::cells_of(read);
+    let cells = building::cells_of(read);
     flat::write_numbers(&cells, nodes);
     let places = [table.count as u64];
     flat::write_numbers(&places, count);
