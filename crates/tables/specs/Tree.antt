@@ -47,14 +47,21 @@ formula (unary d e) n child = temporal d e (window n) (unary-left e) (child (n .
 abbrev pub node-at : List Node → ℕ → Node
 node-at ns k = getD ns k (record { kind = 0; left = 0; right = 0; lo = 0; hi = 0 })
 
--- the requirements of the first k nodes; node k looks its children up among them
-unfoldable pub trees : List Node → ℕ → List (Formula ℕ)
-trees ns zero = []
-trees ns (suc k) = trees ns k ++ (formula (operator (node-at ns k .kind)) (node-at ns k) (λ child. getD (trees ns k) child truth) ∷ [])
+-- what each of the first k nodes is taken for, `of` giving it from a node and what its children are taken for: they are earlier nodes, and it looks them up among those
+unfoldable pub meanings : {A : Type 0} → (Node → (ℕ → A) → A) → A → (ℕ → Node) → ℕ → List A
+meanings of none at zero = []
+meanings of none at (suc k) = meanings of none at k ++ (of (at k) (λ child. getD (meanings of none at k) child none) ∷ [])
+
+-- of node k
+unfoldable pub meaning : {A : Type 0} → (Node → (ℕ → A) → A) → A → (ℕ → Node) → ℕ → A
+meaning of none at k = getD (meanings of none at (suc k)) k none
 
 -- the requirement of node k
+abbrev pub node-formula : Node → (ℕ → Formula ℕ) → Formula ℕ
+node-formula n child = formula (operator (n .kind)) n child
+
 unfoldable pub tree : List Node → ℕ → Formula ℕ
-tree ns k = getD (trees ns (suc k)) k truth
+tree ns k = meaning node-formula truth (node-at ns) k
 
 -- the root is the last node
 abbrev pub root : Table → Formula ℕ
