@@ -45,12 +45,6 @@ module _ (p : ℕ → Bool) where
     | no e ↦ yes-or (any-below p n) (p n) (inl (at-any n j (omega arith) t))
   ]
 
--- two tests of every number are one test of both
-pub all-both : (p q : ℕ → Bool) (n : ℕ) → all-below (λ j. p j && q j) n ≡ (all-below p n && all-below q n)
-all-both p q n =
-    same-test (λ t. yes-and (all-below p n) (all-below q n) (at-all p n (λ j h. and-yes (p j) (q j) (all-at (λ k. p k && q k) n t j h) .0)) (at-all q n (λ j h. and-yes (p j) (q j) (all-at (λ k. p k && q k) n t j h) .1)))
-    (λ t. let g = and-yes (all-below p n) (all-below q n) t in at-all (λ k. p k && q k) n (λ j h. yes-and (p j) (q j) (all-at p n (g .0) j h) (all-at q n (g .1) j h)))
-
 -- ---- a loop `ok = ok & b; n += 1` that tests the numbers below `count` one after the other
 -- before the test of n, `ok` says whether p holds of every number below n
 pub record Tested (p : ℕ → Bool) (count n : ℕ) (ok : Bool) : Type 0 where

@@ -1,10 +1,8 @@
 // Refusals 3 and 4: a table with the predicates that it names, and the predicates with their channels. Their sentences are in tables/specs/Rules, in specs/ and in recordings/specs/Accepted.
-// No test branches on what it has found so far: each looks at everything that it judges.
+// No test branches on what it has found so far: each looks at everything that it judges. Names are looked up in a table that obeys.
 ghost use mathlib.Core.Path.{_≡_};
-ghost use mathlib.Core.Bool.{_&&_};
 ghost use Prim.Native.Nat.{_≤_};
 ghost use Rattle.tables.specs.Tree.{NODES};
-ghost use Rattle.tables.specs.Rules.{nodes-obey};
 ghost use Rattle.predicates.specs.Predicates.{is-set, names-set, all-named, requirement-obeys, value-obeys, range-obeys, predicate-obeys, predicates-obey, channels-obey};
 use recordings::FARTHEST;
 use recordings::MOST_CHANNELS;
@@ -35,34 +33,31 @@ fn names_set(node: Node, predicates: [Predicate; 16]) -> bool
     is_set(range)
 }
 
-// Whether each node obeys the table's rules, and names what is set.
-fn nodes_obey(nodes: [Node; tables::NODES], count: usize, predicates: [Predicate; 16]) -> bool
+fn all_named(nodes: [Node; tables::NODES], count: usize, predicates: [Predicate; 16]) -> bool
     requires { ⌜ count ≤ NODES ⌝ }
-    ensures { λ r. ⌜ r ≡ (nodes-obey nodes count && all-named nodes count predicates) ⌝ }
+    ensures { λ r. ⌜ r ≡ all-named nodes count predicates ⌝ }
 {
     let mut ok = true;
     let mut k = 0;
     while k < count {
         let node = nodes[k];
-        let obeys = tables::node_obeys(node, k);
         let set = names_set(node, predicates);
-        ok = ok & (obeys & set);
+        ok = ok & set;
         k += 1;
     }
     ok
 }
 
-// Refusal 3, of a table and what it names: 1 to 64 nodes, each of which obeys.
+// Refusal 3, of a table and what it names.
 pub fn requirement_obeys(table: Table, predicates: [Predicate; 16]) -> bool
     ensures { λ r. ⌜ r ≡ requirement-obeys table predicates ⌝ }
 {
-    let count = table.count;
-    if tables::NODES < count {
+    let obeys = tables::table_obeys(table);
+    if !obeys {
         return false;
     }
     let nodes = table.nodes;
-    let each = nodes_obey(nodes, count, predicates);
-    (1 <= count) & each
+    all_named(nodes, table.count, predicates)
 }
 
 pub fn value_obeys(v: i64) -> bool

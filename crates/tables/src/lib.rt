@@ -1,8 +1,10 @@
-// The requirement table: up to 64 nodes of five numbers each, the root last; and the test of a node's rules, which specs/Rules.antt states.
+// The requirement table: up to 64 nodes of five numbers each, the root last; and the test of its rules, which specs/Rules.antt states.
 // The tests take every number that the types hold: none of them adds to a number.
 ghost use mathlib.Core.Path.{_≡_};
 ghost use Rattle.tables.specs.Kind.{operator, operator-extremum};
-ghost use Rattle.tables.specs.Rules.{is-child, left-use, right-use, timed, use-obeys, window-obeys, ends-obey, node-obeys};
+ghost use Prim.Native.Nat.{_≤_};
+ghost use Rattle.tables.specs.Tree.{NODES};
+ghost use Rattle.tables.specs.Rules.{is-child, left-use, right-use, timed, use-obeys, window-obeys, ends-obey, node-obeys, nodes-obey, table-obeys};
 use logic::Extremum;
 
 // The kinds of nodes; the definitions have them in specs/Kind.antt.
@@ -52,7 +54,7 @@ pub struct Table {
 }
 
 // Whether a kind's left number is a child.
-fn has_left(kind: u64) -> bool
+pub fn has_left(kind: u64) -> bool
     ensures { λ r. ⌜ r ≡ is-child (left-use (operator kind)) ⌝ }
 {
     (NOT <= kind) & (kind <= ALWAYS)
@@ -128,4 +130,32 @@ pub fn node_obeys(node: Node, k: usize) -> bool
     let right = right_obeys(node.kind, node.right, k);
     let ends = ends_obey(node.kind, node.lo, node.hi);
     (node.kind < KINDS) & (left & (right & ends))
+}
+
+fn nodes_obey(nodes: [Node; NODES], count: usize) -> bool
+    requires { ⌜ count ≤ NODES ⌝ }
+    ensures { λ r. ⌜ r ≡ nodes-obey nodes count ⌝ }
+{
+    let mut ok = true;
+    let mut k = 0;
+    while k < count {
+        let node = nodes[k];
+        let obeys = node_obeys(node, k);
+        ok = ok & obeys;
+        k += 1;
+    }
+    ok
+}
+
+// Refusal 3, of the table alone: 1 to 64 nodes, each of which obeys.
+pub fn table_obeys(table: Table) -> bool
+    ensures { λ r. ⌜ r ≡ table-obeys table ⌝ }
+{
+    let count = table.count;
+    if NODES < count {
+        return false;
+    }
+    let nodes = table.nodes;
+    let each = nodes_obey(nodes, count);
+    (1 <= count) & each
 }

@@ -1,0 +1,56 @@
+-- `ok` says of the nodes before k whether each obeys.
+-- Assumes nothing.
+use Prim.Native.Nat.{_-_}
+use native.Mathlib.Omega.{arith}
+use borrow.Author.Needs.{needs}
+use Rattle.lists.proofs.Below.{Tested, tested-none, tested-next, tested-all}
+use Rattle.tables.specs.Tree.{node-at}
+use Rattle.tables.specs.Rules.{node-obeys, nodes-obey}
+use Rattle.tables.proofs.nodes_obey.Statement.{statement}
+use Rattle.tables.proofs.nodes_obey.Tie as tie
+
+abbrev Inv-loop : tie.InvT-loop
+Inv-loop count nodes ok₀ k₀ ok k = Tested (λ j. node-obeys (node-at nodes j) j) count k ok
+
+abbrev μ-loop : tie.MeasureT-loop
+μ-loop count nodes ok₀ k₀ ok k = count - k
+
+loop-holds : tie.Need-loop-holds Inv-loop μ-loop
+loop-holds c = tested-none
+
+mul-node : tie.Need-mul-node Inv-loop μ-loop
+mul-node c = omega arith
+
+array-copy-out-node : tie.Need-array-copy-out-node Inv-loop μ-loop
+array-copy-out-node c = omega arith
+
+node-obeys-requires : tie.Need-node-obeys-requires Inv-loop μ-loop
+node-obeys-requires c κs = search needs
+
+add-k : tie.Need-add-k Inv-loop μ-loop
+add-k c = omega arith
+
+loop-less : tie.Need-loop-less Inv-loop μ-loop
+loop-less c = omega arith
+
+loop-again : tie.Need-loop-again Inv-loop μ-loop
+loop-again c = tested-next (c .before .before .before .loop .inv) (c .before .before .loop-test .taken) (c .node-obeys .ensures)
+
+returns : tie.Need-returns Inv-loop μ-loop
+unfolding nodes-obey
+returns c = tested-all (c .before .loop .inv) (c .loop-test .left)
+
+pub nodes-obey-spec : {M : Type 1} → statement M
+nodes-obey-spec =
+    tie.close
+    (tie.spec
+    Inv-loop
+    μ-loop
+    loop-holds
+    mul-node
+    array-copy-out-node
+    node-obeys-requires
+    add-k
+    loop-less
+    loop-again
+    returns)
