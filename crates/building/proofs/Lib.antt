@@ -1,3 +1,4 @@
 pub mod Cells
 pub mod Stores
 pub mod Laid
+pub mod Unshared
