@@ -23,7 +23,8 @@ use Rattle.verdicts.specs.Answer.{verdict-refusal}
 use Rattle.row_lines.specs.Reading.{limit, channels-in-range, Listing, listed, broken, rows-of}
 use Rattle.row_lines.proofs.Exact.{rows-exact}
 use Rattle.sheet_rows.specs.declared.Answer.{Answer}
-use Rattle.sheet_rows.specs.Answer.{measured-of, filled-of, has-room, answer-of, times-of, values-of, in-front}
+use Rattle.lists.specs.Front.{in-front}
+use Rattle.sheet_rows.specs.Answer.{measured-of, filled-of, has-room, answer-of, times-of, values-of}
 use Rattle.sheet_rows.proofs.Storing.{length-times, length-values}
 use Rattle.sheet_rows.proofs.Numbers.{channels-are, room-for, for-room}
 use Rattle.heads.specs.declared.Head.{Head}

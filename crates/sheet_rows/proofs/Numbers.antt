@@ -18,7 +18,8 @@ use Rattle.row_lines.specs.Form.{Sample, ChannelsInRange}
 use Rattle.row_lines.specs.Reading.{limit, channels-in-range, Listing, listed, broken, rows-of, counts}
 use Rattle.row_lines.specs.Same.{SameButFilled}
 use Rattle.row_lines.proofs.Exact.{rows-alike}
-use Rattle.sheet_rows.specs.Answer.{has-room, RoomFor, no-rows, answer-of, times-of, values-of, in-front}
+use Rattle.lists.specs.Front.{in-front}
+use Rattle.sheet_rows.specs.Answer.{has-room, RoomFor, no-rows, answer-of, times-of, values-of}
 use Rattle.sheet_rows.specs.Room.{Fitting}
 
 listed-as : (x : Listing) (m k : ℕ) → counts x ≡ Found m k → (xs : List Sample) × (x ≡ listed xs k) × (length xs ≡ m)

@@ -18,7 +18,8 @@ use Rattle.lines.specs.Lines.{lines}
 use Rattle.row_lines.specs.Form.{Sample, Rows}
 use Rattle.row_lines.specs.Reading.{limit, channels-in-range, Listing, listed, broken, is-broken, rows-of}
 use Rattle.row_lines.proofs.Exact.{rows-exact, unbroken-rows, rows-unbroken}
-use Rattle.sheet_rows.specs.Answer.{measured-of, has-room, RoomFor, Readable, text-check, room-check, row-checks, refusal, no-rows, counted, answer-of, times-in, values-in, times-of, values-of, in-front}
+use Rattle.lists.specs.Front.{in-front}
+use Rattle.sheet_rows.specs.Answer.{measured-of, has-room, RoomFor, Readable, text-check, room-check, row-checks, refusal, no-rows, counted, answer-of, times-in, values-in, times-of, values-of}
 use Rattle.sheet_rows.proofs.Numbers.{channels-are, are-channels, room-for, for-room}
 
 -- a test that holds is an equation

@@ -7,7 +7,7 @@ use native.Mathlib.Nat.{zero-add, add-zero, zero-mul, sub-zero, suc-mul}
 use native.Mathlib.Numerals.{add-one}
 use native.Mathlib.Omega.{arith}
 use lib.ListN.{length, set, length-set, length-append}
-use lib.Seq.{sets, length-sets, sets-eq}
+use lib.Seq.{sets, length-sets}
 use lib.IntN.{ℤ}
 use Rattle.text.specs.declared.signed.Field.the-variants.{Number as Signed·Number, Bad as Signed·Bad}
 use Rattle.row_lines.specs.declared.RowLine.{RowLine}
@@ -17,12 +17,10 @@ use Rattle.row_lines.specs.Reading.{value-at, ValuesAt, read, missing, also, va
 use Rattle.row_lines.proofs.Steps.{values-over, values-none, values-next}
 use Rattle.row_lines.proofs.Written.{RowHere, row-here, values-length}
 use Rattle.row_lines.proofs.Exact.{row-past, rows-over, rows-turn, rows-exact}
-use Rattle.sheet_rows.specs.Answer.{times-in, values-in, times-of, values-of, in-front}
+use Rattle.lists.specs.Front.{in-front}
+use Rattle.lists.proofs.Front.{front}
+use Rattle.sheet_rows.specs.Answer.{times-in, values-in, times-of, values-of}
 use Rattle.sheet_rows.specs.Room.{Storable, Fitting}
-
--- what is stored from the front on stands before what is kept
-front : {A : Type 0} (vs l : List A) → length vs ≤ length l → sets l 0 vs ≡ in-front vs l
-front vs l h = rw zero-add at (sets-eq vs l 0 (omega arith))
 
 -- ---- the values of a row
 

@@ -3,7 +3,7 @@
 use Prim.Native.Nat.{ℕ, _*_, _≤_}
 use mathlib.Core.Bool.{Bool, not, _&&_}
 use mathlib.Core.List.{List, [], _∷_, _++_}
-use lib.ListN.{length, drop}
+use lib.ListN.{length}
 use lib.IntN.{ℤ}
 use lib.Dec.{leb}
 use Rattle.recordings.specs.Accepted.{MOST-ROWS}
@@ -97,7 +97,3 @@ times-of broken = []
 abbrev pub values-of : Listing → List ℤ
 values-of (listed xs k) = values-in xs
 values-of broken = []
-
--- a slice with new contents in front; places beyond them keep theirs
-abbrev pub in-front : {A : Type 0} → List A → List A → List A
-in-front new old = new ++ drop (length new) old

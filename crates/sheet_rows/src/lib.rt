@@ -10,7 +10,8 @@ ghost use lib.Seq.{sets};
 ghost use Rattle.recordings.specs.Accepted.{MOST-CHANNELS};
 ghost use Rattle.refusals.specs.First.{unless-refused};
 ghost use Rattle.row_lines.specs.Reading.{values-from, all-of, rows-of};
-ghost use Rattle.sheet_rows.specs.Answer.{has-room, no-rows, answer-of, times-of, values-of, in-front};
+ghost use Rattle.sheet_rows.specs.Answer.{has-room, no-rows, answer-of, times-of, values-of};
+ghost use Rattle.lists.specs.Front.{in-front};
 ghost use Rattle.sheet_rows.specs.Room.{Storable, Fitting};
 
 // Document 01's number, 0 where no refusal applies, and the counts of measured and of filled rows.

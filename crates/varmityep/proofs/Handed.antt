@@ -17,7 +17,7 @@ use Rattle.requirements.proofs.Rules.{required-rules}
 use Rattle.predicate_lines.proofs.Exact.{lines-keep}
 use Rattle.sheets.specs.Sheets.{sheet-of}
 use Rattle.sheets.proofs.Exact.{sheet-sound}
-use Rattle.sheet_rows.specs.Answer.{in-front}
+use Rattle.lists.specs.Front.{in-front}
 use Rattle.refusals.proofs.First.{unless-some}
 use Rattle.flat.specs.Written.{written}
 use Rattle.flat.specs.Tables.{table-from}

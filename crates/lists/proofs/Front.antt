@@ -1,0 +1,13 @@
+-- What is stored from the front on stands before what is kept.
+-- Assumes nothing.
+use mathlib.Core.Path.{_≡_}
+use mathlib.Core.List.{List}
+use Prim.Native.Nat.{_≤_}
+use native.Mathlib.Nat.{zero-add}
+use native.Mathlib.Omega.{arith}
+use lib.ListN.{length}
+use lib.Seq.{sets, sets-eq}
+use Rattle.lists.specs.Front.{in-front}
+
+pub front : {A : Type 0} (vs l : List A) → length vs ≤ length l → sets l 0 vs ≡ in-front vs l
+front vs l h = rw zero-add at (sets-eq vs l 0 (omega arith))
