@@ -1,4 +1,4 @@
--- A number of 64 bits has at most twenty digits: each digit less divides it by ten.
+-- A number of 64 bits has at most twenty digits, one below 10,000,000,000 at most ten: each digit less divides it by ten.
 -- Assumes nothing.
 use mathlib.Core.Path.{_≡_, ap, _∙_}
 use mathlib.Core.List.{[], _∷_}
@@ -34,6 +34,10 @@ digits-few (suc k) n h = elim (decLt n 10) [
 twenty : (n : ℕ) → n < 2 ^ 64 → length (decimal n) ≤ 20
 unfolding beyond
 twenty n h = digits-few 19 n (omega arith)
+
+pub decimal-ten : (n : ℕ) → n < 10 ^ 10 → length (decimal n) ≤ 10
+unfolding beyond
+decimal-ten n h = digits-few 9 n (omega arith)
 
 pub decimal-few : (n : ℕ) → Fits w64 n → length (decimal n) ≤ 20
 decimal-few n f = twenty n (f .fits)

@@ -1,7 +1,7 @@
--- What is printed of a number is how the readers have it written: a numeral, so no zero leads.
+-- What is printed of a number is how the readers have it written: a numeral, so no zero leads. No other numeral writes the number.
 -- Assumes nothing.
-use mathlib.Core.Path.{_≡_, subst}
-use mathlib.Core.List.{[], _∷_, _++_}
+use mathlib.Core.Path.{_≡_, sym, ap, subst, _∙_}
+use mathlib.Core.List.{List, [], _∷_, _++_}
 use Prim.Native.Nat.{ℕ, zero, suc, _+_, _*_, _/_, _%_, _≤_, _<_}
 use native.Mathlib.Omega.{arith}
 use native.Mathlib.Decide.{decLt}
@@ -29,3 +29,13 @@ sized (suc f) n h = elim (decLt n 10) [ yes s ↦ one-digit n s | no s ↦ more-
 
 pub decimal-numeral : (n : ℕ) → Numeral (decimal n) n
 decimal-numeral n = sized n n (omega arith)
+
+-- a number has one numeral
+pub numeral-decimal : {w : List ℕ} {v : ℕ} → Numeral w v → w ≡ decimal v
+numeral-decimal (digit {d} h) =
+    let e : d % 10 ≡ d = omega arith in
+    sym (decimal-one d (omega arith) ∙ ap (λ (n : ℕ). (48 + n) ∷ []) e)
+numeral-decimal (longer {w} {v} {d} n p h) =
+    let q : (v * 10 + d) / 10 ≡ v = omega arith in
+    let r : (v * 10 + d) % 10 ≡ d = omega arith in
+    rw (decimal-more (v * 10 + d) (omega arith), q, r) (ap (λ (l : List ℕ). l ++ ((48 + d) ∷ [])) (numeral-decimal n))

@@ -1,0 +1,5 @@
+-- The text of a tree (`Text`) and its pieces (`Pieces`), how deep its enclosings go (`Enclosings`), and how long it can be (`Room`).
+pub mod Text
+pub mod Pieces
+pub mod Enclosings
+pub mod Room
