@@ -62,7 +62,7 @@ sets-nodes l o m xs ys e =
 -- ---- reading back
 
 -- the node at a number of cells that nodes begin
-node-back : (xs : List Node) (r : List ℕ) (k : ℕ) → k < length xs → node-from (cells-of xs ++ r) k ≡ getD xs k empty-node
+pub node-back : (xs : List Node) (r : List ℕ) (k : ℕ) → k < length xs → node-from (cells-of xs ++ r) k ≡ getD xs k empty-node
 unfolding cells-of
 node-back [] r k l = absurd (omega arith)
 node-back (x ∷ xs) r zero l = refl

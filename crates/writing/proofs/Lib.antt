@@ -1,0 +1,6 @@
+-- Measures from the measures of children (`Measures`), and a node's text in the pieces that are printed (`Nodes`); a table that obeys (`Tables`), its refusals (`Refusals`), and the slice (`Fronts`).
+pub mod Measures
+pub mod Nodes
+pub mod Tables
+pub mod Refusals
+pub mod Fronts
