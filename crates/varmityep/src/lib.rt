@@ -2,6 +2,7 @@
 // but that each slice is a pointer and a length that belong together. include/varmityep.h has the declarations in C.
 use recordings::Predicate;
 use recordings::Verdict;
+use writing::Written;
 ghost use mathlib.Core.Path.{_≡_};
 ghost use mathlib.Core.List.{[], _∷_};
 ghost use Prim.Native.Nat.{_≤_};
@@ -13,6 +14,7 @@ ghost use Rattle.flat.specs.Predicates.{ranges-of, ends-of};
 ghost use Rattle.flat.specs.Places.{places-of};
 ghost use Rattle.sheets.specs.Sheets.{sheet-of};
 ghost use Rattle.requirements.specs.Requirement.{requirement-of};
+ghost use Rattle.writing.specs.Written.{written-of, text-slice};
 ghost use Rattle.row_lines.specs.Reading.{rows-of};
 ghost use Rattle.refusals.specs.First.{unless-refused};
 ghost use Rattle.lists.specs.Front.{in-front};
@@ -96,6 +98,16 @@ pub extern "C" fn varmityep_requirement(text: &[u8], nodes: &mut [u64], count: &
     let places = [table.count as u64];
     flat::write_numbers(&places, count);
     0
+}
+
+// The text of a table, and its length.
+#[no_mangle]
+pub extern "C" fn varmityep_write(nodes: &[u64], count: u64, text: &mut [u8]) -> Written
+    ensures answer { λ r. ⌜ r ≡ written-of (table-from (now (nodes .entry)) count) (length (now (text .entry))) ⌝ }
+    ensures text { λ _. ⌜ now (text .exit) ≡ text-slice (table-from (now (nodes .entry)) count) (now (text .entry)) ⌝ }
+{
+    let table = flat::table_from(nodes, count);
+    writing::write_requirement(table, text)
 }
 
 // The measured rows of a text, and the counts of measured and filled rows.
