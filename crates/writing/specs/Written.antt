@@ -45,6 +45,12 @@ write-checks t room = table-check t ∷ limits-check t ∷ room-check t room ∷
 abbrev pub write-refusal : Table → ℕ → ℕ
 write-refusal t room = first (write-checks t room)
 
+-- none of them applies
+pub record Writable (t : Table) (room : ℕ) : Type 0 where
+  pub ruled : TableRules t
+  pub required : Requires (table-text t) (tree-of t)
+  pub fits : length (table-text t) ≤ room
+
 -- the length is 0 under a refusal
 abbrev pub no-text : ℕ → Written
 no-text number = record { number = number; length = 0 }

@@ -197,7 +197,8 @@ fn write_table(table: Table, text: &mut [u8]) -> Written
     if text.len() < length {
         return refuse(15);
     }
-    printing::word(text, 0, &bytes[..length]);
+    let end = length;
+    printing::word(text, 0, &bytes[..end]);
     Written {
         number: 0,
         length: length,

@@ -4,8 +4,7 @@ use mathlib.Core.Path.{sym}
 use Prim.Native.Nat.{_≤_}
 use native.Mathlib.Omega.{arith}
 use denote.Ref.{now}
-use lib.ListN.{length}
-use lib.Seq.{length-take-le}
+use lib.ListN.{length, length-take}
 use Rattle.printing.proofs.Printed.{place-inside}
 use Rattle.writing.specs.Written.{table-text}
 use Rattle.writing.proofs.Tables.{laid-ruled}
@@ -44,10 +43,10 @@ returns c =
     (rw e (c .refuse .ensures), rw e)
 
 array-share-prefix-bytes : tie.Need-array-share-prefix-bytes
-array-share-prefix-bytes c = place-inside _ _ (c .before .before .before .write-node .ensures) (omega arith)
+array-share-prefix-bytes c = let l = place-inside _ _ (c .before .before .before .write-node .ensures) (omega arith) in search needs
 
 slice-aggregate-word : tie.Need-slice-aggregate-word
-slice-aggregate-word c = sym (length-take-le _ _ (place-inside _ _ (c .before .before .before .before .write-node .ensures) (omega arith)))
+slice-aggregate-word c = let l = place-inside _ _ (c .before .before .before .before .write-node .ensures) (omega arith) in rw length-take (omega arith)
 
 word-requires : tie.Need-word-requires
 word-requires c κs = search needs
