@@ -1,4 +1,4 @@
--- What is accepted: the conditions of refusals 4, 13, 5 to 7 and 9 to 11, none of which applies, each as a sentence. Their tests stand in predicates, rules and sampling.
+-- What is accepted: the conditions of refusals 4, 13, 5 to 7 and 9 to 11, none of which applies, each as a sentence. Their tests stand in predicates, scales, rules and sampling.
 -- Assumes nothing.
 use mathlib.Core.Path.{_≡_}
 use mathlib.Core.Logic.{_⊎_}
