@@ -1,8 +1,9 @@
 -- Each test of the table's rules holds exactly where its sentence does. A test is taken apart into its parts and put together from them.
 -- Assumes nothing.
+use mathlib.Core.Path.{_≡_}
 use mathlib.Core.Bool.{Bool, true, false, _&&_, _||_}
 use mathlib.Core.Logic.{inl, inr}
-use Prim.Native.Nat.{ℕ}
+use Prim.Native.Nat.{ℕ, _<_}
 use lib.Dec.{T, leb, ltb, eqb, leb→le, le→leb, ltb→lt, lt→ltb, eqb→eq}
 use lib.ListN.{length}
 use mir.Facts.{and-yes, yes-and, or-yes, yes-eqb}
@@ -22,6 +23,10 @@ pub use-passes : (u : Use) (k x : ℕ) → Used u k x → T (use-obeys u k x)
 use-passes child k x h = lt→ltb x k h
 use-passes number k x h = le→leb x 15 h
 use-passes unused k x h = yes-eqb h
+
+-- a child is an earlier node
+pub child-before : (u : Use) (k x : ℕ) → Used u k x → u ≡ child → x < k
+child-before u k x h e = rw e at h
 
 pub window-rules : (lo hi : ℕ) → T (window-obeys lo hi) → WindowRules lo hi
 window-rules lo hi t =

@@ -13,6 +13,7 @@ use Rattle.tables.specs.declared.Node.{Node}
 use Rattle.tables.specs.Kind.{operator}
 use Rattle.tables.specs.Tree.{NODES}
 use Rattle.tables.specs.Rules.{Use, child, number, unused, is-child, Used, left-use, right-use, NodeRules}
+use Rattle.tables.proofs.Rules.{child-before}
 use Rattle.grammar.specs.declared.Span.{Span}
 use Rattle.grammar.specs.declared.Part.{Part}
 use Rattle.grammar.specs.declared.Part.the-variants.{Alternative as alternative, Unary as unary}
@@ -75,9 +76,6 @@ pub no-child : (u v : Use) (p : Part) (a b : Measure) → is-child u ≡ false �
 no-child child v p a b h = absurd (false-true (sym h))
 no-child number v p a b h = refl
 no-child unused v p a b h = refl
-
-child-before : (u : Use) (k x : ℕ) → Used u k x → u ≡ child → x < k
-child-before u k x h e = rw e at h
 
 pub measured : (at : ℕ → Node) (k : ℕ) (g : ℕ → Measure) → NodeRules (at k) k → ((j : ℕ) → j < k → g j ≡ measure-of (unshared at j))
     → node-measure (left-use (operator (at k .kind))) (right-use (operator (at k .kind))) (part-of (at k .kind)) (g (at k .left)) (g (at k .right)) ≡ measure-of (unshared at k)

@@ -1,9 +1,9 @@
 -- What is written of a node, by what its numbers are: two children, one, or none. The pieces printed one after the other are the text of the node's tree where a part is due.
 -- Assumes nothing.
-use mathlib.Core.Path.{_≡_, refl, sym, ap, subst, _∙_}
+use mathlib.Core.Path.{_≡_, refl, sym, ap, _∙_}
 use mathlib.Core.List.{List, _++_, append-assoc}
-use mathlib.Core.Bool.{Bool, true, false, cond}
-use Prim.Native.Nat.{ℕ, _≤_, _<_}
+use mathlib.Core.Bool.{true, false, cond}
+use Prim.Native.Nat.{ℕ, _<_}
 use native.Mathlib.Omega.{arith}
 use lib.Dec.{eqb}
 use Rattle.text.proofs.Tests.{by-test, false-true}
@@ -11,12 +11,13 @@ use Rattle.printing.specs.Output.{Output, printed}
 use Rattle.printing.proofs.Printed.{printed-then}
 use Rattle.tables.specs.declared.Node.{Node}
 use Rattle.tables.specs.Kind.{Operator, constant, named, negated, unknown, joined, binary, unary as single, operator, predicate-kind}
-use Rattle.tables.specs.Rules.{Use, child, number, unused, is-child, left-use, right-use, Used, NodeRules}
+use Rattle.tables.specs.Rules.{child, number, unused, is-child, left-use, right-use, NodeRules}
+use Rattle.tables.proofs.Rules.{child-before}
 use Rattle.tables.proofs.EveryKind.{left-is}
 use Rattle.grammar.specs.declared.Part.{Part}
 use Rattle.grammar.specs.declared.Part.the-variants.{Unary as unary}
-use Rattle.grammar.specs.Tree.{Tree, span}
-use Rattle.building.specs.Unshared.{tree-by, node-tree, unshared}
+use Rattle.grammar.specs.Tree.{span}
+use Rattle.building.specs.Unshared.{node-tree, unshared}
 use Rattle.building.proofs.Unshared.{unshared-node}
 use Rattle.spelling.specs.Text.{part-of, left-part, right-part, sign, text-as}
 use Rattle.spelling.specs.Pieces.{opening, closing}
@@ -52,14 +53,11 @@ module _ (at : ℕ → Node) (k : ℕ) (n : Node) (e : n ≡ at k) (ruled : Rule
   earlier : (j : ℕ) → j < k → Ruled at j
   earlier j l = record { inside = omega (arith, ruled .inside); each = λ i h. ruled .each i (omega arith) }
 
-  before : (u : Use) (x : ℕ) → Used u k x → u ≡ child → x < k
-  before u x h c = rw c at h
-
   pub left-before : left-use (operator (n .kind)) ≡ child → (n .left < k) × Ruled at (n .left)
-  left-before c = let l = before _ (n .left) (own-rules .left) c in (l, earlier (n .left) l)
+  left-before c = let l = child-before _ k (n .left) (own-rules .left) c in (l, earlier (n .left) l)
 
   pub right-before : right-use (operator (n .kind)) ≡ child → (n .right < k) × Ruled at (n .right)
-  right-before c = let l = before _ (n .right) (own-rules .right) c in (l, earlier (n .right) l)
+  right-before c = let l = child-before _ k (n .right) (own-rules .right) c in (l, earlier (n .right) l)
 
   tree-is : unshared at k ≡ node-tree n (unshared at)
   tree-is = rw e (unshared-node at k (ruled .each k (omega arith)))

@@ -16,8 +16,6 @@ use Rattle.tables.specs.Tree.{root}
 use Rattle.tables.specs.Rules.{TableRules, table-obeys}
 use Rattle.grammar.specs.Tree.{Tree}
 use Rattle.grammar.specs.Grammar.{Requires}
-use Rattle.building.specs.Nodes.{table-of}
-use Rattle.building.specs.Says.{says}
 use Rattle.building.specs.Unshared.{tree-of}
 use Rattle.building.proofs.Unshared.{tree-says}
 use Rattle.requirements.specs.declared.Requirement.{Requirement}
@@ -25,7 +23,6 @@ use Rattle.requirements.specs.Requirement.{accepted, requirement-of}
 use Rattle.requirements.proofs.Answers.{answer-sound}
 use Rattle.requirements.proofs.Rules.{required-rules, derives-proper}
 use Rattle.requirements.proofs.Says.{tree-back, root-says}
-use Rattle.spelling.specs.Text.{text-of}
 use Rattle.spelling.specs.Room.{LONGEST-TEXT}
 use Rattle.spelling.proofs.Fits.{required-text, text-read, text-room}
 use Rattle.writing.specs.declared.Written.{Written}

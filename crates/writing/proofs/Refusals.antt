@@ -1,6 +1,6 @@
 -- Each of the writer's tests holds exactly where its sentence does, so its number is the first sentence's that does not hold. The measures, cut off past the limits, tell whether 14 applies.
 -- Assumes nothing.
-use mathlib.Core.Path.{_≡_, refl, sym, ap, subst, _∙_}
+use mathlib.Core.Path.{_≡_, refl, sym, subst}
 use mathlib.Core.Bool.{Bool, true, false, not, _&&_, _||_}
 use Prim.Native.Nat.{ℕ, suc, _≤_, _<_, min}
 use native.Mathlib.Omega.{arith}

@@ -2,8 +2,7 @@
 -- Assumes nothing.
 use Prim.Native.Nat.{_-_}
 use native.Mathlib.Omega.{arith}
-use lib.ListN.{length-replicate}
-use Rattle.tables.specs.Tree.{NODES, node-at}
+use Rattle.tables.specs.Tree.{node-at}
 use Rattle.writing.proofs.Measures.{Measured, left-small, right-small, measured-next}
 use borrow.Author.Needs.{needs}
 use Rattle.writing.proofs.last_measure.Statement.{statement}

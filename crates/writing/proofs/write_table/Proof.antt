@@ -1,6 +1,5 @@
 -- The array holds the whole text, whose length tells whether the slice has room; then it is what the slice begins with.
 -- Assumes nothing.
-use mathlib.Core.Path.{sym}
 use Prim.Native.Nat.{_≤_}
 use native.Mathlib.Omega.{arith}
 use denote.Ref.{now}
