@@ -20,7 +20,7 @@ use Rattle.predicate_lines.specs.Form.{unset}
 use Rattle.building.specs.Nodes.{empty-node}
 use Rattle.building.specs.Storing.{cells-of, nodes-from}
 use Rattle.building.proofs.Cells.{zeros, length-cells, cells-append, table-back}
-use Rattle.flat.specs.Written.{written}
+use Rattle.lists.specs.Front.{written}
 use Rattle.flat.specs.Tables.{table-from}
 use Rattle.requirement_lines.specs.declared.Place.{Place}
 use Rattle.requirement_lines.specs.Form.{no-place}

@@ -9,7 +9,7 @@ use lib.ListN.{length, getD, take, drop, replicate, length-take, length-replicat
 use lib.Seq.{take-all, getD-take, getD-drop, getD-append-add}
 use borrow.Author.Tests.{lt-leb}
 use Rattle.building.specs.Storing.{node-from, nodes-from, table-from as table-in}
-use Rattle.flat.specs.Written.{written}
+use Rattle.lists.specs.Front.{written}
 use Rattle.flat.specs.Tables.{table-from}
 
 module _ (a b : List ℕ) (room : ℕ) (alike : (j : ℕ) → j < room → getD a j 0 ≡ getD b j 0) where

@@ -15,7 +15,7 @@ use Rattle.recordings.specs.Card.{Card, scale, eight, passed}
 use Rattle.recordings.specs.Accepted.{MOST-CHANNELS, ScaleInRange, Scaled}
 use Rattle.scales.specs.Scales.{scale-obeys}
 use Rattle.scales.proofs.Scales.{scale-is, scale-passes}
-use Rattle.flat.specs.Written.{written}
+use Rattle.lists.specs.Front.{written}
 use Rattle.flat.specs.Scales.{each-obeys, scales-from}
 use Rattle.flat.proofs.Padded.{padded-at}
 

@@ -10,7 +10,7 @@ use Rattle.recordings.specs.declared.Scales.{Scales}
 use Rattle.recordings.specs.declared.Setup.{Setup}
 use Rattle.recordings.specs.Accepted.{MOST-CHANNELS}
 use Rattle.scales.specs.Scales.{scale-obeys}
-use Rattle.flat.specs.Written.{written}
+use Rattle.lists.specs.Front.{written}
 use Rattle.flat.specs.Predicates.{predicates-from}
 
 -- every one is in range

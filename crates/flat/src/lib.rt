@@ -12,7 +12,7 @@ ghost use mathlib.Core.Path.{_≡_};
 ghost use Prim.Native.Nat.{_<_};
 ghost use lib.IntN.{pos};
 ghost use lib.ListN.{getD};
-ghost use Rattle.flat.specs.Written.{written};
+ghost use Rattle.lists.specs.Front.{written};
 ghost use Rattle.flat.specs.Tables.{table-from};
 ghost use Rattle.flat.specs.Places.{places-of};
 ghost use Rattle.flat.specs.Predicates.{range-number, lo-of, hi-of, ranges-of, ends-of, range-from, predicate-from, predicates-from};
@@ -34,20 +34,6 @@ pub fn write_numbers(new: &[u64], out: &mut [u64])
 
 // The same of signed numbers.
 pub fn write_values(new: &[i64], out: &mut [i64])
-    ensures { λ _. ⌜ now (out .exit) ≡ written (now (new .entry)) (now (out .entry)) ⌝ }
-{
-    let mut i = 0;
-    while i < new.len() {
-        if i == out.len() {
-            return;
-        }
-        out[i] = new[i];
-        i += 1;
-    }
-}
-
-// And of bytes.
-pub fn write_bytes(new: &[u8], out: &mut [u8])
     ensures { λ _. ⌜ now (out .exit) ≡ written (now (new .entry)) (now (out .entry)) ⌝ }
 {
     let mut i = 0;

@@ -1,6 +1,7 @@
 // Prints words and numbers into a lent slice from a place on, and answers the place behind them. A byte that the slice has no place for is left out.
 ghost use mathlib.Core.Path.{_≡_};
 ghost use mathlib.Core.List.{[], _∷_};
+ghost use Rattle.lists.specs.Front.{written};
 ghost use Rattle.printing.specs.Decimal.{digit-of, decimal, decimal-signed};
 ghost use Rattle.printing.specs.Output.{output, printed};
 
@@ -54,5 +55,19 @@ pub fn signed(out: &mut [u8], at: usize, v: i64) -> usize
         number(out, digits, size)
     } else {
         number(out, at, size)
+    }
+}
+
+// Writes bytes into a slice from its front on, as far as it goes: a copy, which a byte at a time with its place would not be compiled to.
+pub fn write_bytes(new: &[u8], out: &mut [u8])
+    ensures { λ _. ⌜ now (out .exit) ≡ written (now (new .entry)) (now (out .entry)) ⌝ }
+{
+    let mut i = 0;
+    while i < new.len() {
+        if i == out.len() {
+            return;
+        }
+        out[i] = new[i];
+        i += 1;
     }
 }

@@ -7,7 +7,6 @@ use Prim.Native.Nat.{ℕ, _+_, _-_, _*_, _≤_, _<_}
 use native.Mathlib.Omega.{arith}
 use lib.IntN.{ℤ}
 use lib.ListN.{length, getD, take, replicate, List·getD-append}
-use lib.Seq.{take-all}
 use Rattle.building.specs.Nodes.{nodes-of}
 use Rattle.building.specs.Storing.{cells-of}
 use Rattle.building.proofs.Cells.{length-nodes}
@@ -17,9 +16,8 @@ use Rattle.requirements.proofs.Rules.{required-rules}
 use Rattle.predicate_lines.proofs.Exact.{lines-keep}
 use Rattle.sheets.specs.Sheets.{sheet-of}
 use Rattle.sheets.proofs.Exact.{sheet-sound}
-use Rattle.lists.specs.Front.{in-front}
 use Rattle.refusals.proofs.First.{unless-some}
-use Rattle.flat.specs.Written.{written}
+use Rattle.lists.specs.Front.{written}
 use Rattle.flat.specs.Tables.{table-from}
 use Rattle.flat.specs.Predicates.{ranges-of, ends-of, predicates-from}
 use Rattle.varmityep.specs.Places.{handed}
@@ -38,11 +36,6 @@ use Rattle.flat.proofs.Back.{predicates-back, places-back, table-read-back}
 -- under a refusal a slice keeps what it held
 pub kept : {X : Type 0} (n : ℕ) (new old : List X) → (n ≡ 0 → ⊥) → old ≡ handed n new old
 kept n new old h = sym (unless-some n (written new old) old h)
-
--- as the row reader's rows do
-pub written-in-front : {X : Type 0} (new old : List X) → length new ≤ length old → written new old ≡ in-front new old
-unfolding written
-written-in-front new old r = rw (take-all (length old) new r)
 
 pub table-handed : (s : List ℕ) → requirement-of s .refusal ≡ 0 → (nodes : List ℕ) → 320 ≤ length nodes
     → table-from (handed (requirement-of s .refusal) (cells-of (requirement-of s .table .nodes)) nodes) (requirement-of s .table .count) ≡ requirement-of s .table

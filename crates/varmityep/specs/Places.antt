@@ -15,7 +15,7 @@ use Rattle.sheets.specs.declared.Sheet.{Sheet}
 use Rattle.sheet_rows.specs.declared.Answer.{Answer as Rows}
 use Rattle.flat.specs.Predicates.{range-from}
 use Rattle.flat.specs.Scales.{setup-from}
-use Rattle.flat.specs.Written.{written}
+use Rattle.lists.specs.Front.{written}
 
 -- what a requirement is read against: a setup in flat numbers, and a recording
 unfoldable pub card-from : List ℕ → List ℤ → ℕ → List ℕ → List ℕ → List ℤ → Card

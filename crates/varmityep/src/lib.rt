@@ -8,7 +8,6 @@ ghost use mathlib.Core.List.{[], _∷_};
 ghost use Prim.Native.Nat.{_≤_};
 ghost use lib.ListN.{length};
 ghost use Rattle.building.specs.Storing.{cells-of};
-ghost use Rattle.flat.specs.Written.{written};
 ghost use Rattle.flat.specs.Tables.{table-from};
 ghost use Rattle.flat.specs.Predicates.{ranges-of, ends-of};
 ghost use Rattle.flat.specs.Places.{places-of};
@@ -17,7 +16,7 @@ ghost use Rattle.requirements.specs.Requirement.{requirement-of};
 ghost use Rattle.writing.specs.Written.{written-of, text-slice};
 ghost use Rattle.row_lines.specs.Reading.{rows-of};
 ghost use Rattle.refusals.specs.First.{unless-refused};
-ghost use Rattle.lists.specs.Front.{in-front};
+ghost use Rattle.lists.specs.Front.{in-front, written};
 ghost use Rattle.sheet_rows.specs.Answer.{answer-of, times-of, values-of};
 ghost use Rattle.distances.specs.Answers.{distance-outcome, distance-judged};
 ghost use Rattle.margins.specs.Answers.{margin-outcome, margin-judged, margin-cells};
@@ -35,7 +34,7 @@ pub extern "C" fn varmityep_answer(text: &[u8], lines: &mut [u8]) -> usize
 {
     let mut printed = [0u8; outcome_lines::LINES];
     let len = answers::answer_lines(text, &mut printed);
-    flat::write_bytes(&printed[..len], lines);
+    printing::write_bytes(&printed[..len], lines);
     len
 }
 

@@ -198,7 +198,7 @@ fn write_table(table: Table, text: &mut [u8]) -> Written
         return refuse(15);
     }
     let end = length;
-    printing::word(text, 0, &bytes[..end]);
+    printing::write_bytes(&bytes[..end], text);
     Written {
         number: 0,
         length: length,

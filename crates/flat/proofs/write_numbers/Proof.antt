@@ -3,7 +3,7 @@
 use mathlib.Core.Path.{refl}
 use Prim.Native.Nat.{_-_}
 use lib.ListN.{length}
-use Rattle.flat.proofs.Writing.{Writing, start, next, full, over}
+use Rattle.lists.proofs.Writing.{Writing, start, next, full, over}
 use borrow.Author.Needs.{needs}
 use Rattle.flat.proofs.write_numbers.Statement.{statement}
 use Rattle.flat.proofs.write_numbers.Tie as tie

@@ -3,7 +3,7 @@
 use Prim.Native.Nat.{_-_}
 use lib.IntN.{pos}
 use lib.ListN.{length}
-use Rattle.flat.proofs.Writing.{Writing, start, next, full, over}
+use Rattle.lists.proofs.Writing.{Writing, start, next, full, over}
 use borrow.Author.Needs.{needs}
 use Rattle.flat.proofs.write_values.Statement.{statement}
 use Rattle.flat.proofs.write_values.Tie as tie

@@ -12,7 +12,7 @@ use Rattle.varmityep.proofs.varmityep_answer.Tie as tie
 use Rattle.varmityep.proofs.varmityep_answer.Reads as reads
 use Rattle.varmityep.proofs.varmityep_answer.Lts as lts
 use Rattle.answers.proofs.answer_lines.Reads as answer-lines-reads
-use Rattle.flat.proofs.write_bytes.Reads as write-bytes-reads
+use Rattle.printing.proofs.write_bytes.Reads as write-bytes-reads
 
 slice-aggregate-answer-lines : tie.Need-slice-aggregate-answer-lines
 slice-aggregate-answer-lines c = search needs

@@ -1,21 +1,22 @@
 -- The array holds the whole text, whose length tells whether the slice has room; then it is what the slice begins with.
 -- Assumes nothing.
+use mathlib.Core.Path.{_∙_}
 use Prim.Native.Nat.{_≤_}
 use native.Mathlib.Omega.{arith}
 use denote.Ref.{now}
 use lib.ListN.{length, length-take}
+use Rattle.lists.proofs.Front.{written-in-front}
 use Rattle.printing.proofs.Printed.{place-inside}
 use Rattle.writing.specs.Written.{table-text}
 use Rattle.writing.proofs.Tables.{laid-ruled}
 use Rattle.writing.proofs.Refusals.{is-fifteen, is-none}
-use Rattle.writing.proofs.Fronts.{text-printed, put-front}
+use Rattle.writing.proofs.Arrays.{text-printed}
 use borrow.Author.Needs.{needs}
 use Rattle.writing.proofs.write_table.Statement.{statement}
 use Rattle.writing.proofs.write_table.Tie as tie
 use Rattle.writing.proofs.write_table.Reads as reads
 use Rattle.writing.proofs.write_table.Lts as lts
 use Rattle.building.proofs.cells_of.Reads as cells-of-reads
-use Rattle.printing.proofs.word.Reads as word-reads
 use Rattle.writing.proofs.refuse.Reads as refuse-reads
 use Rattle.writing.proofs.write_node.Reads as write-node-reads
 
@@ -42,13 +43,13 @@ returns c =
     (rw e (c .refuse .ensures), rw e)
 
 array-share-prefix-bytes : tie.Need-array-share-prefix-bytes
-array-share-prefix-bytes c = let l = place-inside _ _ (c .before .before .before .write-node .ensures) (omega arith) in search needs
+array-share-prefix-bytes c = let l = place-inside _ _ (c .before .before .write-node .ensures) (omega arith) in search needs
 
-slice-aggregate-word : tie.Need-slice-aggregate-word
-slice-aggregate-word c = let l = place-inside _ _ (c .before .before .before .before .write-node .ensures) (omega arith) in rw length-take (omega arith)
+slice-aggregate-write-bytes : tie.Need-slice-aggregate-write-bytes
+slice-aggregate-write-bytes c = let l = place-inside _ _ (c .before .before .before .write-node .ensures) (omega arith) in rw length-take (omega arith)
 
-word-requires : tie.Need-word-requires
-word-requires c κs = search needs
+write-bytes-requires : tie.Need-write-bytes-requires
+write-bytes-requires c κs = search needs
 
 same-length : tie.Need-same-length
 same-length c = search needs
@@ -59,7 +60,7 @@ returns-2 c =
     let w = text-printed (a .args .table) _ (c .before .before .before .before .before .before .before .before .before .before .before .cells-of .ensures) (search needs) (a .pre .0) (a .pre .1) (c .before .before .before .before .before .before .before .write-node .ensures) in
     let h : length (table-text (a .args .table)) ≤ length (now (a .args .text)) = rw (w .0) at (c .before .before .before .before .before .if1 .left) in
     let e = is-none (a .args .table) (length (now (a .args .text))) (a .pre .0) (a .pre .1) h in
-    (rw (e, w .0), rw e (put-front (table-text (a .args .table)) (now (a .args .text)) (rw (w .1) at (c .before .before .word .ensures)) h))
+    (rw (e, w .0), rw e ((rw (w .1) at (c .before .before .write-bytes .ensures)) ∙ written-in-front (table-text (a .args .table)) (now (a .args .text)) h))
 
 pub write-table-spec : {M : Type 1} → statement M
 write-table-spec =
@@ -72,7 +73,7 @@ write-table-spec =
     refuse-requires
     returns
     array-share-prefix-bytes
-    slice-aggregate-word
-    word-requires
+    slice-aggregate-write-bytes
+    write-bytes-requires
     same-length
     returns-2)

@@ -8,7 +8,7 @@ use native.Mathlib.Numerals.{add-one}
 use native.Mathlib.Omega.{arith}
 use lib.ListN.{length, getD, take, drop, set, length-set, drop-of-length-le}
 use lib.Seq.{paste-suc, take-all}
-use Rattle.flat.specs.Written.{written}
+use Rattle.lists.specs.Front.{written}
 
 pub record Writing {X : Type 0} (new old out : List X) (i : ℕ) : Type 0 where
   pub inside : i ≤ length new

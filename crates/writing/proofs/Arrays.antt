@@ -1,14 +1,12 @@
--- The text is written into an array that has room for every requirement's, and from there into the front of the slice.
+-- The text is written into an array that has room for every requirement's: what the array begins with, up to the place behind the last byte, is the text.
 -- Assumes nothing.
 use mathlib.Core.Path.{_≡_, ap, _∙_}
 use mathlib.Core.List.{List}
-use Prim.Native.Nat.{ℕ, _-_, _≤_}
+use Prim.Native.Nat.{ℕ, _-_}
 use native.Mathlib.Omega.{arith}
 use lib.ListN.{length, take, replicate, length-replicate}
-use Rattle.lists.specs.Front.{in-front}
-use Rattle.lists.proofs.Front.{front}
-use Rattle.printing.specs.Output.{Output, printed}
-use Rattle.printing.proofs.Printed.{printed-whole, front-says}
+use Rattle.printing.specs.Output.{printed}
+use Rattle.printing.proofs.Printed.{front-says}
 use Rattle.tables.specs.declared.Table.{Table}
 use Rattle.tables.specs.Rules.{TableRules}
 use Rattle.grammar.specs.declared.Part.the-variants.{Alternative as alternative}
@@ -27,6 +25,3 @@ pub text-printed : (t : Table) (cells : List ℕ) → cells ≡ cells-of (t .nod
 text-printed t cells e l r q h =
     front-says (replicate LONGEST-TEXT 0) (table-text t) (h ∙ ap (λ a. printed (record { bytes = replicate LONGEST-TEXT 0; end = 0 }) (text-as alternative a)) (laid-tree t cells e l r))
     (omega (arith, text-room (tree-of t) q, length-replicate {A = ℕ} LONGEST-TEXT 0))
-
-pub put-front : (w old : List ℕ) {slice : List ℕ} {end : ℕ} → record { bytes = slice; end = end } ≡ printed (record { bytes = old; end = 0 }) w → length w ≤ length old → slice ≡ in-front w old
-put-front w old e h = ap (λ (o : Output). o .bytes) (e ∙ printed-whole (record { bytes = old; end = 0 }) w (omega arith)) ∙ front w old h

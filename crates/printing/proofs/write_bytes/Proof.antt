@@ -3,10 +3,10 @@
 use mathlib.Core.Path.{refl}
 use Prim.Native.Nat.{_-_}
 use lib.ListN.{length}
-use Rattle.flat.proofs.Writing.{Writing, start, next, full, over}
+use Rattle.lists.proofs.Writing.{Writing, start, next, full, over}
 use borrow.Author.Needs.{needs}
-use Rattle.flat.proofs.write_bytes.Statement.{statement}
-use Rattle.flat.proofs.write_bytes.Tie as tie
+use Rattle.printing.proofs.write_bytes.Statement.{statement}
+use Rattle.printing.proofs.write_bytes.Tie as tie
 
 abbrev Inv-loop : tie.InvT-loop
 Inv-loop new out₀ i₀ out i = Writing new out₀ out i
