@@ -11,7 +11,7 @@ use flat::{flat_nodes, flat_predicates};
 use names::Call;
 use plain::{Card, Node, Predicate, Range, NO_END};
 use std::fmt;
-use timing::{seconds, Random};
+use timing::{best, seconds, times_as_long, Random};
 
 const STEP: u64 = 3;
 /// Any two values obey it where the scales are 1.
@@ -118,18 +118,6 @@ struct Times {
     proved: Vec<f64>,
     plain: Vec<f64>,
     afresh: Vec<f64>,
-}
-
-fn best(times: &[f64]) -> f64 {
-    times.iter().copied().fold(f64::INFINITY, f64::min)
-}
-
-/// How many times as long the one takes as the other: the median of the rounds. What is timed in one round is timed under the same conditions, and a round that
-/// was disturbed does not count.
-fn times_as_long(one: &[f64], other: &[f64]) -> f64 {
-    let mut ratios: Vec<f64> = one.iter().zip(other).map(|(a, b)| a / b).collect();
-    ratios.sort_by(f64::total_cmp);
-    ratios[ratios.len() / 2]
 }
 
 /// What is timed: a table's margin or its verdict over a recording of two channels, with scales of 1 unless said otherwise.

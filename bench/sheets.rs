@@ -7,6 +7,7 @@ mod flat;
 #[allow(dead_code)]
 mod plain;
 mod plain_sheets;
+#[allow(dead_code)]
 mod timing;
 
 use flat::{flat_nodes, flat_predicates};

@@ -1,4 +1,4 @@
-//! The time of one call, and figures drawn at random from a seed.
+//! The time of one call, what is made of many, and figures drawn at random from a seed.
 
 use std::time::Instant;
 
@@ -29,4 +29,16 @@ pub fn seconds(mut call: impl FnMut()) -> f64 {
         }
         calls *= 2;
     }
+}
+
+pub fn best(times: &[f64]) -> f64 {
+    times.iter().copied().fold(f64::INFINITY, f64::min)
+}
+
+/// How many times as long the one takes as the other: the median of the rounds. What is timed in one round is timed under
+/// the same conditions, and a round that was disturbed does not count.
+pub fn times_as_long(one: &[f64], other: &[f64]) -> f64 {
+    let mut ratios: Vec<f64> = one.iter().zip(other).map(|(a, b)| a / b).collect();
+    ratios.sort_by(f64::total_cmp);
+    ratios[ratios.len() / 2]
 }

@@ -9,10 +9,10 @@
  * No function keeps a pointer, allocates, or has a state: calls on several threads are
  * independent, and equal inputs give equal answers.
  *
- * A refusal is its number below, 0 for none. Of several that apply, the first in that list is
- * returned, whatever the size of its number. Under a refusal nothing is written: every slice keeps
- * its contents. varmityep_answer alone returns no number, and writes its lines under a refusal too:
- * they say it.
+ * A refusal is its number below, 0 for none: what a function returns, or, of varmityep_write, a
+ * member of what it returns. Of several that apply, the first in that list is given, whatever the
+ * size of its number. Under a refusal nothing is written: every slice keeps its contents.
+ * varmityep_answer alone gives no number, and writes its lines under a refusal too: they say it.
  */
 #ifndef VARMITYEP_H
 #define VARMITYEP_H
@@ -34,6 +34,8 @@ extern "C" {
 #define VARMITYEP_COUNTS 2   /* counts of rows: measured, filled */
 #define VARMITYEP_RESULT 3   /* result of a verdict: verdict, hold, fail */
 #define VARMITYEP_LINES 2688 /* lines, in bytes: no answer is longer */
+/* text of a written requirement, in bytes: 64 nodes of at most 26, so none is longer */
+#define VARMITYEP_REQUIREMENT_BYTES 1664
 
 /* Limits of what is accepted. */
 #define VARMITYEP_MOST_BYTES 65536
@@ -60,8 +62,12 @@ enum {
     VARMITYEP_TOO_MANY_REQUIREMENTS = 12,
     /* requirement text outside the grammar or its limits */
     VARMITYEP_REQUIREMENT = 2,
-    /* a table rule broken, or a predicate named unset or above 15 */
+    /* a table rule broken, or a predicate named above 15 or, where predicates are passed, unset */
     VARMITYEP_TABLE = 3,
+    /* a table to be written: its tree, unshared, over 64 nodes, or its text over 32 enclosings */
+    VARMITYEP_TOO_LARGE = 14,
+    /* no room for the written text */
+    VARMITYEP_ROOM = 15,
     /* channels not 1 to 8, or a set predicate's channel or ends */
     VARMITYEP_PREDICATE = 4,
     /* a scale not 1 to 1,000 */
@@ -80,6 +86,23 @@ enum {
     VARMITYEP_GAP = 10,
     /* two neighbouring values of a channel differ, scaled, by over 2 x drift */
     VARMITYEP_JUMP = 11
+};
+
+/*
+ * Kinds of node k, at nodes[5k]; left, right, lo and hi follow it, and those that a kind does not use
+ * are 0. A child is the number of an earlier node, the root is the last one. A window has lo and hi up
+ * to 1,000,000,000 seconds, lo not above hi, or hi VARMITYEP_NO_END.
+ */
+enum {
+    VARMITYEP_KIND_TRUE = 0,
+    VARMITYEP_KIND_PREDICATE = 1,  /* its number, 0 to 15, in left */
+    VARMITYEP_KIND_NOT = 2,        /* child left */
+    VARMITYEP_KIND_AND = 3,        /* children left and right; so in or, until and release */
+    VARMITYEP_KIND_OR = 4,
+    VARMITYEP_KIND_UNTIL = 5,      /* window lo and hi; so in the kinds below */
+    VARMITYEP_KIND_RELEASE = 6,
+    VARMITYEP_KIND_EVENTUALLY = 7, /* child left */
+    VARMITYEP_KIND_ALWAYS = 8      /* child left */
 };
 
 /* Ranges of a predicate, at ranges[2p]; its channel is at ranges[2p + 1]. */
@@ -138,6 +161,26 @@ uint64_t varmityep_sheet(const uint8_t *text, size_t text_len,
 uint64_t varmityep_requirement(const uint8_t *text, size_t text_len,
                                uint64_t *nodes, size_t nodes_len,
                                uint64_t *count, size_t count_len);
+
+/* What varmityep_write hands back. */
+struct varmityep_written {
+    uint64_t number; /* the refusal, 0 for none */
+    size_t length;   /* of the text in bytes; 0 under a refusal */
+};
+
+/*
+ * Writes a table (nodes: VARMITYEP_NODES) as requirement text: refusal 0, 3 (of the table alone,
+ * every node; no predicates are passed), 14 or 15 (text_len is less than the text needs;
+ * VARMITYEP_REQUIREMENT_BYTES are enough for every text).
+ * The text is that of the last node, the root. Parentheses stand only where the grammar would
+ * otherwise read another requirement or none; a node that several nodes use is written once for each
+ * use; a window whose hi is VARMITYEP_NO_END ends in `*`. The text stands in text from its first
+ * byte on, without a closing 0; bytes behind it keep their contents.
+ * Read by varmityep_requirement, it gives back the table where that is one that a text can give, and
+ * otherwise the root's tree as a text gives it: nodes stand left, right, parent, none shared.
+ */
+struct varmityep_written varmityep_write(const uint64_t *nodes, size_t nodes_len, uint64_t count,
+                                         uint8_t *text, size_t text_len);
 
 /*
  * Reads rows, the part of a sheet's text from VARMITYEP_SHEET_ROWS on: refusal 0, 1, 4 (channels)

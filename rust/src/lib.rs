@@ -2,7 +2,8 @@
 //!
 //! [`answer`] gives the lines that the program `margin` prints for a sheet. The parts of that answer
 //! can be taken one by one: [`read_sheet`], [`read_requirement`], [`read_rows`], [`margin()`] and
-//! [`verdict`]; `examples/judge.rs` puts them together. What an input is refused for is a
+//! [`verdict`]; `examples/judge.rs` puts them together. [`Table::write`] gives a requirement's text
+//! for a sheet that is being made, as `examples/write.rs` does. What an input is refused for is a
 //! [`Refusal`].
 //!
 //! Here numbers are only brought into and out of the flat form that the library takes. Whatever is
@@ -22,7 +23,7 @@ pub use judge::{margin, verdict, Judgement, Recording, Verdict, MOST_SCALE, TOP}
 pub use predicate::{Predicate, Predicates, Range};
 pub use refusal::Refusal;
 pub use sheet::{read_rows, read_sheet, Counts, Sheet, MOST_REQUIREMENTS};
-pub use table::{read_requirement, Node, Table, NO_END};
+pub use table::{kind, read_requirement, Node, Table, MOST_REQUIREMENT_BYTES, NO_END};
 
 /// Measured rows that [`answer`] has room for; more are refused by 5.
 pub const ANSWER_ROWS: usize = 2_048;

@@ -34,6 +34,14 @@ extern "C" {
         count_len: usize,
     ) -> u64;
 
+    fn varmityep_write(
+        nodes: *const u64,
+        nodes_len: usize,
+        count: u64,
+        text: *mut u8,
+        text_len: usize,
+    ) -> Written;
+
     fn varmityep_rows(
         text: *const u8,
         text_len: usize,
@@ -104,6 +112,16 @@ extern "C" {
 
 /// No answer is longer, in bytes.
 pub const LINES: usize = 2_688;
+/// No written requirement is longer, in bytes.
+pub const REQUIREMENT_BYTES: usize = 1_664;
+
+/// What a requirement's writing hands back: the refusal, 0 for none, and the length of the text.
+#[repr(C)]
+#[derive(Clone, Copy, PartialEq, Eq, Debug)]
+pub struct Written {
+    pub number: u64,
+    pub length: usize,
+}
 
 /// The length of the printed lines together.
 pub fn answer(text: &[u8], lines: &mut [u8]) -> usize {
@@ -151,6 +169,11 @@ pub fn requirement(text: &[u8], nodes: &mut [u64], count: &mut [u64]) -> u64 {
             count.len(),
         )
     }
+}
+
+pub fn write(nodes: &[u64], count: u64, text: &mut [u8]) -> Written {
+    let (place, length) = (text.as_mut_ptr(), text.len());
+    unsafe { varmityep_write(nodes.as_ptr(), nodes.len(), count, place, length) }
 }
 
 pub fn rows(

@@ -11,6 +11,8 @@ pub enum Refusal {
     TooManyRequirements = 12,
     Requirement = 2,
     Table = 3,
+    TooLarge = 14,
+    Room = 15,
     Predicates = 4,
     Scales = 13,
     Samples = 5,
@@ -24,11 +26,13 @@ pub enum Refusal {
 
 impl Refusal {
     /// Every refusal, in the order in which they count.
-    pub const ALL: [Refusal; 13] = [
+    pub const ALL: [Refusal; 15] = [
         Refusal::Text,
         Refusal::TooManyRequirements,
         Refusal::Requirement,
         Refusal::Table,
+        Refusal::TooLarge,
+        Refusal::Room,
         Refusal::Predicates,
         Refusal::Scales,
         Refusal::Samples,
@@ -67,8 +71,14 @@ impl fmt::Display for Refusal {
             Refusal::TooManyRequirements => "a seventeenth `req=` line",
             Refusal::Requirement => "requirement text outside the grammar or its limits",
             Refusal::Table => {
-                "a table rule broken, or a node names a predicate that is unset or above 15"
+                "a table rule broken, or a node names a predicate that is above 15 or, where \
+                 predicates are passed, unset"
             }
+            Refusal::TooLarge => {
+                "a table to be written whose tree, unshared, exceeds 64 nodes, or its text 32 \
+                 enclosings"
+            }
+            Refusal::Room => "no room for the written text",
             Refusal::Predicates => {
                 "channels not 1 to 8, or a set predicate with a channel not below that count, an \
                  end out of range or lo > hi"

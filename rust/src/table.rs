@@ -5,8 +5,23 @@ use crate::refusal::Refusal;
 
 /// The end of a window that has none: [`Node::hi`].
 pub const NO_END: u64 = 4_294_967_295;
+/// No text that [`Table::write`] gives is longer, in bytes.
+pub const MOST_REQUIREMENT_BYTES: usize = names::REQUIREMENT_BYTES;
 
-/// Five numbers; those that a kind does not use are 0.
+/// The kinds of nodes: [`Node::kind`].
+pub mod kind {
+    pub const TRUE: u64 = 0;
+    pub const PREDICATE: u64 = 1;
+    pub const NOT: u64 = 2;
+    pub const AND: u64 = 3;
+    pub const OR: u64 = 4;
+    pub const UNTIL: u64 = 5;
+    pub const RELEASE: u64 = 6;
+    pub const EVENTUALLY: u64 = 7;
+    pub const ALWAYS: u64 = 8;
+}
+
+/// Five numbers; those that a kind does not use are 0. [`kind`] has names for the kinds.
 ///
 /// | Kind | Meaning |
 /// |---|---|
@@ -25,10 +40,39 @@ pub struct Node {
     pub hi: u64,
 }
 
-/// A requirement: 1 to 64 nodes, each behind its children, the root last.
+/// A requirement: 1 to 64 nodes, each behind its children, the root last. Several nodes may use the
+/// same one.
 #[derive(Clone, PartialEq, Eq, Hash, Debug, Default)]
 pub struct Table {
     pub nodes: Vec<Node>,
+}
+
+impl Table {
+    /// The table as requirement text, such as `F[0,7200]G[0,*]p0`. Refusals 3 and 14.
+    ///
+    /// Parentheses stand only where the grammar would otherwise read another requirement or none. A
+    /// node that several nodes use is written once for each use, and one that the root does not
+    /// reach is judged by 3 and not written. So [`read_requirement`] gives back the table where that
+    /// is one that a text can give, and otherwise the root's tree as a text gives it: nodes stand
+    /// left, right, parent, none shared.
+    ///
+    /// 3 judges the table alone: which predicates are set is not asked. 14: the tree has more than 64
+    /// nodes once each use has its own, or more than 32 of `!`, `G`, `F` and `(` would enclose one
+    /// another in the text.
+    pub fn write(&self) -> Result<String, Refusal> {
+        let mut text = [0; names::REQUIREMENT_BYTES];
+        let length = self.write_into(&mut text)?;
+        Ok(String::from_utf8_lossy(&text[..length]).into_owned())
+    }
+
+    /// The same into lent bytes: the length of the text, which stands in front; the bytes behind it
+    /// keep their contents. Refusals 3, 14 and 15 (the text is longer than what is lent), under which
+    /// all do. [`MOST_REQUIREMENT_BYTES`] are enough for every text.
+    pub fn write_into(&self, text: &mut [u8]) -> Result<usize, Refusal> {
+        let written = names::write(&to_flat(self), self.nodes.len() as u64, text);
+        Refusal::check(written.number)?;
+        Ok(written.length)
+    }
 }
 
 const NUMBERS: usize = 5;

@@ -1,10 +1,10 @@
 //! Document 01's example, whole and by its parts, windows from now, predicates by number, scales,
-//! several requirements, and every refusal number.
+//! several requirements, tables written out, and every refusal number.
 
 use varmityep::{
-    answer, margin, read_requirement, read_rows, read_sheet, verdict, Counts, Judgement, Node,
-    Predicate, Predicates, Range, Recording, Refusal, Table, Verdict, MOST_REQUIREMENTS,
-    MOST_SCALE, TOP,
+    answer, kind, margin, read_requirement, read_rows, read_sheet, verdict, Counts, Judgement,
+    Node, Predicate, Predicates, Range, Recording, Refusal, Table, Verdict, MOST_REQUIREMENTS,
+    MOST_REQUIREMENT_BYTES, MOST_SCALE, NO_END, TOP,
 };
 
 const EXAMPLE: &str = "\
@@ -308,6 +308,94 @@ fn every_refusal_of_the_readers() {
     assert_eq!((times, values), ([7], [7]));
 }
 
+fn written(nodes: &[Node]) -> Result<String, Refusal> {
+    Table { nodes: nodes.to_vec() }.write()
+}
+
+/// Predicate 0, and nodes that have no window.
+const LEAF: Node = Node { kind: kind::PREDICATE, left: 0, right: 0, lo: 0, hi: 0 };
+
+fn of(kind: u64, left: u64, right: u64) -> Node {
+    Node { kind, left, right, lo: 0, hi: 0 }
+}
+
+#[test]
+fn a_table_is_written_with_the_parentheses_that_it_needs() {
+    for (text, least) in [
+        ("G[0,2]p0", "G[0,2]p0"),
+        ("(F[0,5400]G[0,*]p0|p4)&(G[0,*]p2)", "(F[0,5400]G[0,*]p0|p4)&G[0,*]p2"),
+        ("(p0&p1)|(p2&p3)", "p0&p1|p2&p3"),
+        ("(p0|p1)|(p2|p3)", "p0|p1|(p2|p3)"),
+        ("(p0&p1)&(p2&p3)", "p0&p1&(p2&p3)"),
+        ("((p0U[1,*]p1))R[0,9](!p15)", "(p0U[1,*]p1)R[0,9]!p15"),
+        ("!(!((p0R[0,0]T)))", "!!(p0R[0,0]T)"),
+        ("!(p0&p1)U[0,1000000000]F[1,1](p2|T)", "!(p0&p1)U[0,1000000000]F[1,1](p2|T)"),
+    ] {
+        let table = read_requirement(text.as_bytes()).unwrap();
+        assert_eq!(table.write().as_deref(), Ok(least));
+        assert_eq!(read_requirement(least.as_bytes()), Ok(table));
+    }
+}
+
+#[test]
+fn a_shared_table_is_read_back_unshared() {
+    let always = Node { kind: kind::ALWAYS, left: 2, right: 0, lo: 3, hi: NO_END };
+    let second = Node { left: 1, ..LEAF };
+    // Node 4 is not reached.
+    let shared =
+        [LEAF, second, of(kind::OR, 1, 0), always, of(kind::NOT, 0, 0), of(kind::AND, 0, 3)];
+    assert_eq!(written(&shared).as_deref(), Ok("p0&G[3,*](p1|p0)"));
+    let read = read_requirement(b"p0&G[3,*](p1|p0)").unwrap();
+    let always = Node { left: 3, ..always };
+    assert_eq!(read.nodes, [LEAF, second, LEAF, of(kind::OR, 1, 2), always, of(kind::AND, 0, 4)]);
+    assert_eq!(read.write(), written(&shared));
+}
+
+#[test]
+fn a_text_is_written_into_what_is_lent() {
+    let table = read_requirement(b"G[0,2]p0").unwrap();
+    let mut text = *b"~~~~~~~~~~";
+    assert_eq!(table.write_into(&mut text), Ok(8));
+    assert_eq!(text, *b"G[0,2]p0~~");
+    let mut text = *b"~~~~~~~~";
+    assert_eq!(table.write_into(&mut text[..7]), Err(Refusal::Room));
+    assert_eq!(table.write_into(&mut []), Err(Refusal::Room));
+    assert_eq!(text, *b"~~~~~~~~");
+    assert_eq!(table.write_into(&mut text), Ok(8));
+    assert_eq!(text, *b"G[0,2]p0");
+    assert_eq!(table.write_into(&mut [0; MOST_REQUIREMENT_BYTES]), Ok(8));
+}
+
+#[test]
+fn every_refusal_of_the_writer() {
+    let nots = |count: u64| -> Vec<Node> {
+        [LEAF].into_iter().chain((0..count).map(|k| of(kind::NOT, k, 0))).collect()
+    };
+    let doubled = |count: u64| -> Vec<Node> {
+        [LEAF].into_iter().chain((0..count).map(|k| of(kind::AND, k, k))).collect()
+    };
+    assert_eq!(written(&nots(32)), Ok(format!("{}p0", "!".repeat(32))));
+    assert_eq!(written(&doubled(5)).map(|text| text.matches("p0").count()), Ok(32));
+    // One enclosing too many, a tree too large, and one that would be larger than any memory.
+    for nodes in [nots(33), doubled(6), doubled(63)] {
+        assert_eq!(written(&nodes), Err(Refusal::TooLarge));
+        let mut text = [7; 9];
+        assert_eq!(Table { nodes }.write_into(&mut text[..0]), Err(Refusal::TooLarge));
+        assert_eq!(text, [7; 9]);
+    }
+    let sixteenth = Node { left: 16, ..LEAF };
+    for nodes in [vec![], vec![LEAF; 65], vec![sixteenth], vec![sixteenth, LEAF], nots(64)] {
+        assert_eq!(written(&nodes), Err(Refusal::Table));
+    }
+    // 3 goes before 14 and 15, also by a node that the root does not reach.
+    let mut broken = doubled(62);
+    broken.insert(62, Node { hi: 1, ..LEAF });
+    broken[63] = of(kind::AND, 61, 61);
+    assert_eq!(Table { nodes: broken }.write_into(&mut []), Err(Refusal::Table));
+    // Which predicates are set is not asked.
+    assert_eq!(written(&[Node { left: 15, ..LEAF }]).as_deref(), Ok("p15"));
+}
+
 #[test]
 fn distances_are_counted_from_one() {
     let by = |range, scale, value| Predicate { channel: 7, range }.distance(scale, value);
@@ -334,5 +422,5 @@ fn distances_are_counted_from_one() {
 #[test]
 fn refusals_have_the_papers_numbers() {
     let numbers = Refusal::ALL.map(Refusal::number);
-    assert_eq!(numbers, [1, 12, 2, 3, 4, 13, 5, 6, 7, 8, 9, 10, 11]);
+    assert_eq!(numbers, [1, 12, 2, 3, 14, 15, 4, 13, 5, 6, 7, 8, 9, 10, 11]);
 }

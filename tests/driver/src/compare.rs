@@ -2,7 +2,7 @@
 
 use crate::flat::{flat_nodes, flat_predicates, Peer};
 use crate::library::{Library, COUNTS, ENDS, NODES, NUMBERS, PLACES, RANGES, RESULT, SCALES};
-use crate::names::{self, LINES};
+use crate::names::{self, Written, LINES};
 use crate::program::Program;
 use peer::generate::calls::Call;
 use peer::limits::MOST_SCALE;
@@ -101,6 +101,26 @@ pub fn requirements(others: &Others, text: &[u8], room: [usize; 2]) -> Result<u6
         (number, nodes, count)
     };
     Ok(same(others, "requirement", read)?.0)
+}
+
+/// So many bytes, each unlike its neighbours, of letters that no requirement has.
+pub fn pattern(length: usize) -> String {
+    "abcdefghijklmnoqrstuvwxyz".chars().cycle().take(length).collect()
+}
+
+/// The writer, with so much room for the text: what it hands back, and the slice with what is behind
+/// it afterwards, in which `pattern` stood. A byte that is no letter shows as another one than the
+/// peer's, so nothing is lost.
+pub fn writings(
+    others: &Others,
+    nodes: &[u64],
+    count: u64,
+    room: usize,
+) -> Result<(Written, String), String> {
+    same(others, "writing", |library| {
+        let mut text = pattern(room + BEHIND).into_bytes();
+        (library.write(nodes, count, &mut text[..room]), lossy(&text))
+    })
 }
 
 /// The row reader, with slices of the given lengths: times, values, counts.

@@ -9,6 +9,7 @@ use crate::ordered;
 use crate::scaled;
 use crate::shapes;
 use crate::tally::Tally;
+use crate::written::{limit_tables, read_again, written_table, WRITTEN};
 use peer::answer::{entry_line, judge_sheet, printed, Answer, Entry};
 use peer::generate::calls::{call, Foretold};
 use peer::generate::damage::{damaged, damaged_requirement};
@@ -46,23 +47,24 @@ pub struct Family {
 }
 
 /// A family's place gives its seeds, so a new one goes to the end.
-pub const FAMILIES: [Family; 9] = [
+pub const FAMILIES: [Family; 10] = [
     Family { name: "sound", share: 180, run: sound_sheet },
     Family { name: "tiny", share: 90, run: tiny_sheet },
-    Family { name: "faulty", share: 220, run: faulty_sheet },
-    Family { name: "damaged", share: 160, run: damaged_sheet },
+    Family { name: "faulty", share: 210, run: faulty_sheet },
+    Family { name: "damaged", share: 120, run: damaged_sheet },
     Family { name: "several", share: 70, run: several_sheet },
     Family { name: "calls", share: 150, run: library_call },
     Family { name: "requirements", share: 50, run: requirement_text },
     Family { name: "rows", share: 50, run: rows_text },
     Family { name: WINDOWS, share: 30, run: windows_call },
+    Family { name: WRITTEN, share: 50, run: written_table },
 ];
 
 pub const WINDOWS: &str = "windows";
 /// Recordings as long as the library takes: slow by the literal definitions, so for long runs.
 pub const LONG: &str = "long";
 
-fn at<T>(input: &[u8], result: Result<T, String>) -> Result<T, Failure> {
+pub fn at<T>(input: &[u8], result: Result<T, String>) -> Result<T, Failure> {
     result.map_err(|what| Failure { input: input.to_vec(), what })
 }
 
@@ -307,7 +309,7 @@ fn requirement_text(bench: &mut Bench, rng: &mut Prng) -> Result<(), Failure> {
         return at(&text, Err("a bad requirement was read".to_string()));
     }
     bench.tally.add(format!("requirement refused={refusal}"));
-    Ok(())
+    at(&text, read_again(bench, &text))
 }
 
 fn rows_text(bench: &mut Bench, rng: &mut Prng) -> Result<(), Failure> {
@@ -348,7 +350,8 @@ pub fn limit_sheets(bench: &mut Bench) -> Result<(), Failure> {
         bench.tally.add("limits");
     }
     limit_rows(bench)?;
-    limit_distances(bench)
+    limit_distances(bench)?;
+    limit_tables(bench)
 }
 
 /// Distances where the products are largest, and where 4, 13 and 7 meet.

@@ -1,7 +1,7 @@
 //! The peer's types as flat numbers, and the peer in the library's place.
 
 use crate::library::{Library, ENDS, NODES, NUMBERS, PLACES, RANGES, SCALES};
-use crate::names::{self, Call};
+use crate::names::{self, Call, Written};
 use peer::predicate::{Predicate, Predicates, Range, UNSET};
 use peer::recording::Recording;
 use peer::refusal::Refusal;
@@ -69,7 +69,8 @@ fn padded<T: Copy + Default, const N: usize>(lent: &[T]) -> [T; N] {
     std::array::from_fn(|place| lent.get(place).copied().unwrap_or_default())
 }
 
-fn table(call: &Call) -> Table {
+/// The table of so many nodes, from their numbers.
+pub fn table(nodes: &[u64], count: u64) -> Table {
     let node = |numbers: &[u64]| Node {
         kind: numbers[0],
         left: numbers[1],
@@ -77,9 +78,9 @@ fn table(call: &Call) -> Table {
         lo: numbers[3],
         hi: numbers[4],
     };
-    let mut nodes: Vec<Node> = padded::<_, NODES>(call.nodes).chunks(5).map(node).collect();
+    let mut nodes: Vec<Node> = padded::<_, NODES>(nodes).chunks(5).map(node).collect();
     // A count beyond 64 is refused whatever it is; one node too many stands for it.
-    nodes.resize(call.count.min(65) as usize, Node::default());
+    nodes.resize(count.min(65) as usize, Node::default());
     Table { nodes }
 }
 
@@ -156,6 +157,11 @@ impl Library for Peer {
         })
     }
 
+    fn write(&self, nodes: &[u64], count: u64, text: &mut [u8]) -> Written {
+        let written = peer::writer::write_requirement(&table(nodes, count), text);
+        Written { number: written.refusal.map_or(0, Refusal::number), length: written.length }
+    }
+
     fn rows(
         &self,
         text: &[u8],
@@ -181,7 +187,8 @@ impl Library for Peer {
     }
 
     fn margin(&self, call: &Call, work: &mut [i64], result: &mut [i64]) -> u64 {
-        let found = peer::margin::margin(&table(call), &predicates(call), &recording(call), work);
+        let table = table(call.nodes, call.count);
+        let found = peer::margin::margin(&table, &predicates(call), &recording(call), work);
         hand(found, |margin| write(&[margin], result))
     }
 
@@ -193,7 +200,7 @@ impl Library for Peer {
         work: &mut [i64],
         result: &mut [i64],
     ) -> u64 {
-        let (table, predicates) = (table(call), predicates(call));
+        let (table, predicates) = (table(call.nodes, call.count), predicates(call));
         let judged =
             peer::verdict::verdict(&table, &predicates, &recording(call), step, drift, work);
         hand(judged, |judgement| {

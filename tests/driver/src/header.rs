@@ -1,15 +1,22 @@
 //! The numbers of `include/varmityep.h`, which C takes from there alone, are the papers', the
-//! driver's and the proved source's.
+//! driver's and the proved source's; its functions are those that Rust declares.
 
 use crate::library::{COUNTS, ENDS, NODES, NUMBERS, PLACES, RANGES, RESULT, SCALES};
-use crate::names::LINES;
+use crate::names::{Written, LINES, REQUIREMENT_BYTES};
 use peer::limits::*;
 use peer::refusal::ORDER;
+use std::mem::offset_of;
 
 const HEADER: &str = include_str!("../../../include/varmityep.h");
 
+/// What Rust declares of the same functions.
+const NAMES: &str = include_str!("../../../rust/src/names.rs");
+
 /// The proved source of what is printed.
 const PRINTED: &str = include_str!("../../../crates/outcome_lines/src/lib.rt");
+
+/// And of the writer.
+const WRITER: &str = include_str!("../../../crates/writing/src/lib.rt");
 
 /// What follows these words, up to the first byte that stands in no number.
 fn number(source: &str, words: &str) -> u64 {
@@ -36,6 +43,7 @@ fn lengths_and_limits_are_those_of_the_header() {
         ("COUNTS", COUNTS),
         ("RESULT", RESULT),
         ("LINES", LINES),
+        ("REQUIREMENT_BYTES", REQUIREMENT_BYTES),
         ("MOST_BYTES", MOST_BYTES),
         ("MOST_ROWS", MOST_SAMPLES as usize),
         ("MOST_CHANNELS", MOST_CHANNELS as usize),
@@ -62,4 +70,75 @@ fn refusals_stand_in_the_order_in_which_they_count() {
     let (list, _) = list.split_once('}').expect("its end");
     let numbers: Vec<u64> = list.split(" = ").skip(1).map(|rest| number(rest, "")).collect();
     assert_eq!(numbers, ORDER);
+}
+
+#[test]
+fn kinds_are_the_papers() {
+    use peer::table::kind;
+    for (name, number) in [
+        ("TRUE", kind::TRUE),
+        ("PREDICATE", kind::PREDICATE),
+        ("NOT", kind::NOT),
+        ("AND", kind::AND),
+        ("OR", kind::OR),
+        ("UNTIL", kind::UNTIL),
+        ("RELEASE", kind::RELEASE),
+        ("EVENTUALLY", kind::EVENTUALLY),
+        ("ALWAYS", kind::ALWAYS),
+    ] {
+        assert_eq!(self::number(HEADER, &format!("VARMITYEP_KIND_{name} = ")), number, "{name}");
+    }
+    assert_eq!(HEADER.matches("VARMITYEP_KIND_").count(), 9);
+}
+
+#[test]
+fn a_written_requirement_has_at_most_26_bytes_a_node() {
+    // The longest sign and a pair; a leaf and every other operator have fewer.
+    let longest = "U[1000000000,1000000000]()".len();
+    assert_eq!(MOST_NODES * longest, REQUIREMENT_BYTES);
+    assert!(WRITER.contains(&format!("LONGEST_TEXT: usize = {longest} * tables::NODES;")));
+}
+
+#[test]
+fn what_writing_hands_back_is_laid_out_as_in_c() {
+    let (_, list) = HEADER.split_once("struct varmityep_written {").expect("the struct");
+    let (list, _) = list.split_once('}').expect("its end");
+    let fields: Vec<&str> = list.lines().filter_map(|line| line.split(';').next()).collect();
+    assert_eq!(
+        fields.join("").split_whitespace().collect::<Vec<_>>(),
+        ["uint64_t", "number", "size_t", "length"]
+    );
+    assert_eq!((offset_of!(Written, number), offset_of!(Written, length)), (0, 8));
+}
+
+/// Each function's name and those of its parameters, by name: what stands in parentheses right behind
+/// a name of the library.
+fn functions(
+    source: &str,
+    before: &str,
+    parameter: impl Fn(&str) -> String,
+) -> Vec<(String, Vec<String>)> {
+    let declared = source.split(before).skip(1).filter_map(|rest| {
+        let (name, rest) = rest.split_once('(')?;
+        let (list, _) = rest.split_once(')')?;
+        let is_name = name.chars().all(|letter| letter.is_ascii_lowercase() || letter == '_');
+        let words = list.split(',').map(str::trim).filter(|words| !words.is_empty());
+        is_name.then(|| (name.to_string(), words.map(&parameter).collect()))
+    });
+    let mut declared: Vec<_> = declared.collect();
+    declared.sort();
+    declared
+}
+
+#[test]
+fn functions_have_the_parameters_that_rust_declares() {
+    // In C a parameter's name is the last word, in Rust the one before the colon.
+    let in_c = |words: &str| words.rsplit([' ', '*']).next().unwrap_or_default().to_string();
+    let in_rust = |words: &str| words.split(':').next().unwrap_or_default().to_string();
+    let declared = functions(HEADER, " varmityep_", in_c);
+    assert_eq!(declared, functions(NAMES, "fn varmityep_", in_rust));
+    let names: Vec<&str> = declared.iter().map(|(name, _)| name.as_str()).collect();
+    let all = ["answer", "distance", "margin", "requirement", "rows", "sheet", "verdict", "write"];
+    assert_eq!(names, all);
+    assert_eq!(declared[7].1, ["nodes", "nodes_len", "count", "text", "text_len"]);
 }

@@ -5,7 +5,7 @@
 //! A refusal is its number, 0 for none. Whatever is lent is written under 0 alone, as far as it
 //! reaches, and keeps its contents under every other number.
 
-use crate::names::{Call, Sheet};
+use crate::names::{Call, Sheet, Written};
 use peer::limits::{MOST_CHANNELS, MOST_NODES, MOST_REQUIREMENTS, PREDICATES};
 
 /// Lengths that lose nothing.
@@ -27,6 +27,9 @@ pub trait Library {
 
     /// Refusal 0 or 2.
     fn requirement(&self, text: &[u8], nodes: &mut [u64], count: &mut [u64]) -> u64;
+
+    /// Refusal 0, 3, 14 or 15, and the length of the text, 0 under a refusal.
+    fn write(&self, nodes: &[u64], count: u64, text: &mut [u8]) -> Written;
 
     /// Refusal 0, 1, 4 or 5; measured and filled rows in counts.
     fn rows(

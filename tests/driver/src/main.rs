@@ -15,6 +15,7 @@ mod library;
 #[path = "../../../rust/src/names.rs"]
 mod names;
 mod ordered;
+mod pairs;
 mod program;
 #[cfg(any(feature = "proved", test))]
 mod proved;
@@ -23,18 +24,20 @@ mod shapes;
 #[cfg(all(test, not(feature = "proved")))]
 mod standin;
 mod tally;
+mod written;
 
 use arguments::Arguments;
 use compare::Others;
 use families::{limit_sheets, long_call, Bench, Failure, Family, FAMILIES, LONG, WINDOWS};
 use peer::generate::prng::{case_seed, Prng};
 use peer::generate::windows::LONG_CASES;
-use peer::refusal::ORDER;
+use peer::refusal::of_a_sheet;
 use program::Program;
 use std::ops::Range;
 use std::process::ExitCode;
 use std::time::Instant;
 use tally::Tally;
+use written::WRITTEN;
 
 /// Thousands of cases of a run.
 const THOUSANDS: u64 = 100;
@@ -186,20 +189,9 @@ fn run_long(others: &Others, tally: &mut Tally, run: u64) -> bool {
 
 /// What must come up, and how often: every refusal and every verdict, of every entry point, every
 /// order of predicates, every fault of `c=` lines, cards with unequal scales, all that claims may
-/// be about, and every shape of window.
+/// be about, every kind of table that is written and of pair in its text, every shape of window.
 fn wanted(thousands: u64, long: bool) -> Vec<(String, u64)> {
-    let mut wanted = Vec::new();
-    let mut each = |what: &str, numbers: &[u64], least: u64| {
-        wanted.extend(numbers.iter().map(|number| (format!("{what}{number}"), least * thousands)));
-    };
-    each("answer refused=", &ORDER, 5);
-    each("margin call refused=", &[0, 3, 4, 13, 5, 6, 7, 8], 3);
-    each("verdict call refused=", &[0, 3, 4, 13, 5, 6, 7, 8, 9, 10, 11], 2);
-    each("scales miscounted refused=", &[4, 13, 5], 2);
-    each("cut call refused=", &[0, 3], 2);
-    each("distance refused=", &[0, 4, 13, 7], 20);
-    each("requirement refused=", &[0, 2], 10);
-    each("rows refused=", &[0, 1, 4, 5], 2);
+    let mut wanted = wanted_refusals(thousands);
     for verdict in ["holds", "fails", "unshown"] {
         wanted.push((format!("answer verdict={verdict}"), 20 * thousands));
     }
@@ -224,9 +216,35 @@ fn wanted(thousands: u64, long: bool) -> Vec<(String, u64)> {
         wanted.push((format!("histories: {histories}"), 10 * thousands));
     }
     wanted.extend(claimed::all().iter().map(|about| (format!("histories: {about}"), thousands)));
+    wanted.extend(wanted_writings(thousands));
     for shape in shapes::all() {
         wanted.push((format!("{WINDOWS}: {shape}"), thousands / 5));
         wanted.extend(long.then(|| (format!("{LONG}: {shape}"), 1)));
     }
+    wanted
+}
+
+fn wanted_refusals(thousands: u64) -> Vec<(String, u64)> {
+    let mut wanted = Vec::new();
+    let mut each = |what: &str, numbers: &[u64], least: u64| {
+        wanted.extend(numbers.iter().map(|number| (format!("{what}{number}"), least * thousands)));
+    };
+    each("answer refused=", &of_a_sheet(), 5);
+    each("margin call refused=", &[0, 3, 4, 13, 5, 6, 7, 8], 3);
+    each("verdict call refused=", &[0, 3, 4, 13, 5, 6, 7, 8, 9, 10, 11], 2);
+    each("scales miscounted refused=", &[4, 13, 5], 2);
+    each("cut call refused=", &[0, 3], 2);
+    each("distance refused=", &[0, 4, 13, 7], 20);
+    each("requirement refused=", &[0, 2], 10);
+    each("rows refused=", &[0, 1, 4, 5], 2);
+    each(&format!("{WRITTEN} refused="), &[0, 3, 14, 15], 10);
+    each(&format!("{WRITTEN}, cut refused="), &[0, 3], 1);
+    wanted
+}
+
+fn wanted_writings(thousands: u64) -> Vec<(String, u64)> {
+    let mut wanted = vec![(format!("{WRITTEN}: read, written, read"), 10 * thousands)];
+    wanted.extend(written::ALL.map(|about| (format!("{WRITTEN}: {about}"), thousands / 4)));
+    wanted.extend(pairs::all().iter().map(|pair| (format!("{WRITTEN}: {pair}"), thousands)));
     wanted
 }

@@ -1,7 +1,7 @@
 //! The proved static library, through the C names as the Rust wrapper declares them.
 
 use crate::library::Library;
-use crate::names::{self, Call, Sheet};
+use crate::names::{self, Call, Sheet, Written};
 
 pub struct Proved;
 
@@ -16,6 +16,10 @@ impl Library for Proved {
 
     fn requirement(&self, text: &[u8], nodes: &mut [u64], count: &mut [u64]) -> u64 {
         names::requirement(text, nodes, count)
+    }
+
+    fn write(&self, nodes: &[u64], count: u64, text: &mut [u8]) -> Written {
+        names::write(nodes, count, text)
     }
 
     fn rows(

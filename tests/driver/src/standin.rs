@@ -3,7 +3,7 @@
 
 use crate::flat::Peer;
 use crate::library::Library;
-use crate::names::{Call, Sheet};
+use crate::names::{Call, Sheet, Written};
 use std::slice::{from_raw_parts, from_raw_parts_mut};
 
 #[no_mangle]
@@ -53,6 +53,17 @@ unsafe extern "C" fn varmityep_requirement(
     let nodes = from_raw_parts_mut(nodes, nodes_len);
     let count = from_raw_parts_mut(count, count_len);
     Peer.requirement(from_raw_parts(text, text_len), nodes, count)
+}
+
+#[no_mangle]
+unsafe extern "C" fn varmityep_write(
+    nodes: *const u64,
+    nodes_len: usize,
+    count: u64,
+    text: *mut u8,
+    text_len: usize,
+) -> Written {
+    Peer.write(from_raw_parts(nodes, nodes_len), count, from_raw_parts_mut(text, text_len))
 }
 
 #[no_mangle]

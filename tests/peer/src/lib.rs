@@ -1,4 +1,4 @@
-//! Document 01 with Changes 1, 3, 4 and 5 of document 02 as literal definitions.
+//! Document 01 with Changes 1, 3, 4, 5 and 6 of document 02 as literal definitions.
 //!
 //! Nothing here is fast and nothing is shared with the proved library: each definition is read
 //! from the papers anew, each largest and smallest is taken afresh, so that an agreement of the
@@ -30,6 +30,7 @@ pub mod fields;
 pub mod grammar;
 pub mod rows;
 pub mod sheet;
+pub mod writer;
 
 // Second ways to the same answers, which the driver compares with the first.
 pub mod between;
@@ -43,3 +44,5 @@ mod scales;
 mod several;
 #[cfg(test)]
 mod worked;
+#[cfg(test)]
+mod writing;

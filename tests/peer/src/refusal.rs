@@ -6,6 +6,8 @@ pub enum Refusal {
     TooManyRequirements,
     Requirement,
     Table,
+    TooLarge,
+    Room,
     Predicates,
     Scales,
     Samples,
@@ -24,6 +26,8 @@ impl Refusal {
             Refusal::TooManyRequirements => 12,
             Refusal::Requirement => 2,
             Refusal::Table => 3,
+            Refusal::TooLarge => 14,
+            Refusal::Room => 15,
             Refusal::Predicates => 4,
             Refusal::Scales => 13,
             Refusal::Samples => 5,
@@ -38,7 +42,12 @@ impl Refusal {
 }
 
 /// The numbers in the order in which they count, which is not that of their size.
-pub const ORDER: [u64; 13] = [1, 12, 2, 3, 4, 13, 5, 6, 7, 8, 9, 10, 11];
+pub const ORDER: [u64; 15] = [1, 12, 2, 3, 14, 15, 4, 13, 5, 6, 7, 8, 9, 10, 11];
+
+/// Those of them that a sheet may be refused by: 14 and 15 are for tables that are written out.
+pub fn of_a_sheet() -> Vec<u64> {
+    ORDER.into_iter().filter(|number| ![14, 15].contains(number)).collect()
+}
 
 /// The one of these numbers that counts first, 0 where there is none.
 pub fn first_of(numbers: &[u64]) -> u64 {

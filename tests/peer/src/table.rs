@@ -61,15 +61,18 @@ impl Table {
         self.nodes.len()
     }
 
-    /// Refusal 3: all nodes are looked at, also those that the root doesn't reach.
+    /// Refusal 3 where predicates are passed: "a table rule above broken, or a node names a
+    /// predicate that is unset or above 15".
     pub fn broken(&self, predicates: &Predicates) -> bool {
+        self.broken_alone() || self.nodes.iter().any(|node| names_unset(node, predicates))
+    }
+
+    /// Refusal 3 of the table alone. All nodes are looked at, also those that the root doesn't
+    /// reach.
+    pub fn broken_alone(&self) -> bool {
         self.nodes.is_empty()
             || self.nodes.len() > MOST_NODES
-            || self
-                .nodes
-                .iter()
-                .enumerate()
-                .any(|(k, node)| node_broken(k as u64, node, predicates))
+            || self.nodes.iter().enumerate().any(|(k, node)| node_broken(k as u64, node))
     }
 
     /// The tree of each node, of a table that is not broken.
@@ -90,12 +93,17 @@ impl Table {
     }
 }
 
-fn node_broken(k: u64, node: &Node, predicates: &Predicates) -> bool {
+/// Of a table that is not broken alone.
+fn names_unset(node: &Node, predicates: &Predicates) -> bool {
+    node.kind == kind::PREDICATE && !predicates[node.left as usize].is_set()
+}
+
+fn node_broken(k: u64, node: &Node) -> bool {
     let Some(uses) = uses(node.kind) else { return true };
     let left_fits = if uses.left_child {
         node.left < k
     } else if uses.predicate {
-        node.left < PREDICATES as u64 && predicates[node.left as usize].is_set()
+        node.left < PREDICATES as u64
     } else {
         node.left == 0
     };

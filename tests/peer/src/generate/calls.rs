@@ -132,15 +132,18 @@ fn range(rng: &mut Prng) -> Range {
     }
 }
 
-/// Children are any earlier nodes, mostly late ones, so that many are shared and some unreached.
 fn table(rng: &mut Prng, predicates: &Predicates, unit: i64) -> Table {
     let set: Vec<usize> = (0..16).filter(|&number| predicates[number].is_set()).collect();
-    let taste = Taste { predicates: set, unit, reach: 12 };
+    any_table(rng, &Taste { predicates: set, unit, reach: 12 })
+}
+
+/// Children are any earlier nodes, mostly late ones, so that many are shared and some unreached.
+pub(super) fn any_table(rng: &mut Prng, taste: &Taste) -> Table {
     let count = if rng.once_in(15) { 64 } else { 1 + rng.below(12) };
     let mut nodes = Vec::new();
     for k in 0..count {
         let node =
-            if k == 0 || rng.once_in(3) { leaf(rng, &taste) } else { operator(rng, &taste, k) };
+            if k == 0 || rng.once_in(3) { leaf(rng, taste) } else { operator(rng, taste, k) };
         nodes.push(node);
     }
     Table { nodes }
@@ -219,11 +222,24 @@ fn two_rows(call: &mut Call) {
 fn break_table(rng: &mut Prng, call: &mut Call) {
     let nodes = &mut call.table.nodes;
     let place = rng.below(nodes.len());
-    let k = place as u64;
+    nodes[place] = broken_node(rng, place as u64);
+    match rng.below(10) {
+        0 => nodes.clear(),
+        1 => nodes.resize(65, Node::default()),
+        2 => {
+            nodes[place] = Node { kind: kind::PREDICATE, left: 15, ..Node::default() };
+            call.predicates[15] = UNSET;
+        }
+        _ => {}
+    }
+}
+
+/// A node that breaks a rule of the table alone, as its node of number k.
+pub(super) fn broken_node(rng: &mut Prng, k: u64) -> Node {
     let far = rng.pick(&[k, k + 1, u64::MAX]);
     let odd = rng.pick(&[1, 5, u64::MAX]);
     let node = |kind, left, right, lo, hi| Node { kind, left, right, lo, hi };
-    nodes[place] = match rng.below(12) {
+    match rng.below(12) {
         0 => node(9 + odd % 9, 0, 0, 0, 0),
         1 => node(0, odd, 0, 0, 0),
         2 => node(rng.below(2) as u64, 0, odd, 0, 0),
@@ -242,15 +258,6 @@ fn break_table(rng: &mut Prng, call: &mut Call) {
         ),
         10 => node(5 + rng.below(4) as u64, 0, 0, rng.pick(&[1_000_000_001, NO_END]), NO_END),
         _ => node(7 + rng.below(2) as u64, 0, odd, 0, 0),
-    };
-    match rng.below(10) {
-        0 => nodes.clear(),
-        1 => nodes.resize(65, Node::default()),
-        2 => {
-            nodes[place] = node(1, 15, 0, 0, 0);
-            call.predicates[15] = UNSET;
-        }
-        _ => {}
     }
 }
 

@@ -9,7 +9,7 @@ use crate::limits::{
     LARGEST_SIGNED, LARGEST_STEP, LARGEST_UNSIGNED, LARGEST_VALUE, LAST_TIME, MOST_BYTES,
     MOST_REQUIREMENTS,
 };
-use crate::refusal::{first_of, last_to_first, ORDER};
+use crate::refusal::{first_of, last_to_first, of_a_sheet};
 use crate::rows::Row;
 
 /// The number that a whole sheet is refused by (1 or 12), else for each requirement the number
@@ -19,7 +19,7 @@ pub type Numbers = Result<Vec<u64>, u64>;
 /// A sheet with one to three faults, and the numbers that it must be refused by.
 pub fn faulty(rng: &mut Prng) -> (Vec<u8>, Numbers) {
     let mut draft = sound(rng).draft;
-    let numbers: Vec<u64> = (0..1 + rng.below(3)).map(|_| rng.pick(&ORDER)).collect();
+    let numbers: Vec<u64> = (0..1 + rng.below(3)).map(|_| rng.pick(&of_a_sheet())).collect();
     let mut entries = vec![Vec::new(); draft.requirements.len()];
     // Cells run out by many rows and nodes, which later faults keep.
     if numbers.contains(&8) {

@@ -1,4 +1,4 @@
-//! Random requirements as trees, and their text with parentheses to spare.
+//! Random requirements as trees, and their text, with parentheses to spare or without.
 
 use super::prng::Prng;
 use crate::tree::{atom, predicate, Atom, Shared, Tree};
@@ -87,28 +87,67 @@ enum Level {
 /// The tree's text. Once in `spare` places a pair of parentheses stands that isn't needed.
 pub fn written(tree: &Tree, rng: &mut Prng, spare: usize) -> String {
     let mut text = String::new();
-    write(&mut text, tree, Level::Alternative, rng, spare);
+    write(&mut text, tree, Level::Alternative, &mut || rng.once_in(spare));
     text
 }
 
-fn write(text: &mut String, tree: &Tree, level: Level, rng: &mut Prng, spare: usize) {
+/// The tree's text, in which every pair of parentheses is needed.
+pub fn least(tree: &Tree) -> String {
+    let mut text = String::new();
+    write(&mut text, tree, Level::Alternative, &mut || false);
+    text
+}
+
+/// How many of `!`, `G`, `F` and `(` enclose one another in that text, and how many of `!`, `G` and
+/// `F` alone.
+pub fn enclosings(tree: &Tree) -> (usize, usize) {
+    (enclosings_at(tree, Level::Alternative, 1), enclosings_at(tree, Level::Alternative, 0))
+}
+
+/// The same where that level is due; a pair counts for so many.
+fn enclosings_at(tree: &Tree, level: Level, pair: usize) -> usize {
+    let below = |part: &Tree, level| enclosings_at(part, level, pair);
     let own = match tree {
+        Tree::Atom(_) => 0,
+        Tree::Not(left) | Tree::Eventually(_, left) | Tree::Always(_, left) => {
+            1 + below(left, Level::Unary)
+        }
+        Tree::Or(left, right) => {
+            below(left, Level::Alternative).max(below(right, Level::Conjunction))
+        }
+        Tree::And(left, right) => below(left, Level::Conjunction).max(below(right, Level::Bind)),
+        Tree::Until(left, _, right) | Tree::Release(left, _, right) => {
+            below(left, Level::Unary).max(below(right, Level::Unary))
+        }
+    };
+    if level_of(tree) < level {
+        own + pair
+    } else {
+        own
+    }
+}
+
+fn level_of(tree: &Tree) -> Level {
+    match tree {
         Tree::Or(..) => Level::Alternative,
         Tree::And(..) => Level::Conjunction,
         Tree::Until(..) | Tree::Release(..) => Level::Bind,
         _ => Level::Unary,
-    };
-    if own < level || rng.once_in(spare) {
-        text.push('(');
-        write_bare(text, tree, rng, spare);
-        text.push(')');
-    } else {
-        write_bare(text, tree, rng, spare);
     }
 }
 
-fn write_bare(text: &mut String, tree: &Tree, rng: &mut Prng, spare: usize) {
-    let mut part = |text: &mut String, part: &Tree, level| write(text, part, level, rng, spare);
+fn write(text: &mut String, tree: &Tree, level: Level, spare: &mut dyn FnMut() -> bool) {
+    if level_of(tree) < level || spare() {
+        text.push('(');
+        write_bare(text, tree, spare);
+        text.push(')');
+    } else {
+        write_bare(text, tree, spare);
+    }
+}
+
+fn write_bare(text: &mut String, tree: &Tree, spare: &mut dyn FnMut() -> bool) {
+    let mut part = |text: &mut String, part: &Tree, level| write(text, part, level, spare);
     match tree {
         Tree::Atom(Atom::True) => text.push('T'),
         Tree::Atom(Atom::Predicate(number)) => text.push_str(&format!("p{number}")),
