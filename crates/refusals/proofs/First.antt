@@ -153,3 +153,8 @@ unless-none a b e = rw e refl
 pub unless-some : {X : Type 0} (n : ℕ) (a b : X) → (n ≡ 0 → ⊥) → unless-refused n a b ≡ b
 unless-some zero a b h = absurd (h refl)
 unless-some (suc n) a b h = refl
+
+-- what is handed back has the number that was found, where a has 0 and b has it
+pub unless-number : {X : Type 0} (number : X → ℕ) (n : ℕ) (a b : X) → number a ≡ 0 → number b ≡ n → number (unless-refused n a b) ≡ n
+unless-number number zero a b e f = e
+unless-number number (suc n) a b e f = f

@@ -13,12 +13,13 @@ use borrow.Author.Tests.{leb-true, le-leb}
 use Rattle.numbers.proofs.Parts.{holds}
 use Rattle.text.proofs.Tests.{by-test, both, false-true}
 use Rattle.refusals.specs.First.{AllExact, check-at, Refused, unless-refused}
-use Rattle.refusals.proofs.First.{refused, first-is, passed, none-fails, unless-some}
+use Rattle.refusals.proofs.First.{refused, first-is, passed, none-fails, unless-some, unless-number}
 use Rattle.lines.specs.Lines.{lines}
 use Rattle.row_lines.specs.Form.{Sample, Rows}
 use Rattle.row_lines.specs.Reading.{limit, channels-in-range, Listing, listed, broken, is-broken, rows-of}
 use Rattle.row_lines.proofs.Exact.{rows-exact, unbroken-rows, rows-unbroken}
 use Rattle.lists.specs.Front.{in-front}
+use Rattle.sheet_rows.specs.declared.Answer.{Answer}
 use Rattle.sheet_rows.specs.Answer.{measured-of, has-room, RoomFor, Readable, text-check, room-check, row-checks, refusal, no-rows, counted, answer-of, times-in, values-in, times-of, values-of}
 use Rattle.sheet_rows.proofs.Numbers.{channels-are, are-channels, room-for, for-room}
 
@@ -66,11 +67,7 @@ module _ (s : List ℕ) (channels times values : ℕ) where
 
   -- the answer's number is the first refusal that applies
   number-is : answer-of s channels times values .number ≡ refusal s channels times values
-  number-is = go (refusal s channels times values)
-    where
-      go : (n : ℕ) → unless-refused n (counted (rows-of channels s)) (no-rows n) .number ≡ n
-      go zero = refl
-      go (suc n) = refl
+  number-is = unless-number (λ (x : Answer). x .number) (refusal s channels times values) (counted (rows-of channels s)) (no-rows (refusal s channels times values)) refl refl
 
   -- a number m is answered exactly when its condition applies and no earlier one does
   pub number-refused : (answer-of s channels times values .number ≡ 0 → ⊥) → Refused (row-checks s channels times values) (answer-of s channels times values .number)

@@ -9,8 +9,8 @@ use Rattle.text.proofs.Tests.{by-test, by-le}
 use lib.ListN.{length, take, drop}
 use lib.Seq.{take-append-seam}
 use Rattle.lists.specs.Front.{in-front}
-use Rattle.refusals.specs.First.{Refused, check-at, unless-refused}
-use Rattle.refusals.proofs.First.{refused, first-is, passed, none-fails, unless-none, unless-some}
+use Rattle.refusals.specs.First.{Refused, check-at}
+use Rattle.refusals.proofs.First.{refused, first-is, passed, none-fails, unless-none, unless-some, unless-number}
 use Rattle.tables.specs.declared.Table.{Table}
 use Rattle.tables.specs.Tree.{root}
 use Rattle.tables.specs.Rules.{TableRules, table-obeys}
@@ -31,11 +31,7 @@ use Rattle.writing.proofs.Refusals.{exact, is-three, is-fifteen, is-non
 
 module _ (t : Table) (room : ℕ) where
   number-is : written-of t room .number ≡ write-refusal t room
-  number-is = go (write-refusal t room)
-    where
-      go : (n : ℕ) → unless-refused n (record { number = 0; length = length (table-text t) }) (no-text n) .number ≡ n
-      go zero = refl
-      go (suc n) = refl
+  number-is = unless-number (λ (w : Written). w .number) (write-refusal t room) (record { number = 0; length = length (table-text t) }) (no-text (write-refusal t room)) refl refl
 
   -- a number m is answered exactly when its condition applies and no earlier one does
   pub number-refused : (written-of t room .number ≡ 0 → ⊥) → Refused (write-checks t room) (written-of t room .number)
@@ -135,11 +131,14 @@ module _ (s : List ℕ) (h : requirement-of s .refusal ≡ 0) where
   read-again : ReadAgain (requirement-of s)
   read-again = let x = answer-sound s h in subst ReadAgain (sym (x .2)) (again s (x .0) (x .1))
 
-  -- neither 3 nor 14 ever applies to it
+  -- neither 3 nor 14 ever applies to it: the number is 0 where the slice has room, and otherwise 15
   pub reader-written : (room : ℕ) → length (table-text read) ≤ room → written-of read room .number ≡ 0
   reader-written room l = none-number read room (record { ruled = read-again .0; required = read-again .1; fits = l })
 
-  -- nor does any refusal where there is room for every text
+  pub reader-short : (room : ℕ) → room < length (table-text read) → written-of read room .number ≡ 15
+  reader-short room l = number-is read room ∙ is-fifteen read room (read-again .0) (read-again .1) l
+
+  -- so none does where there is room for every text
   pub reader-room : (room : ℕ) → LONGEST-TEXT ≤ room → written-of read room .number ≡ 0
   reader-room room l = room-enough read room l (read-again .0) (read-again .1)
 

@@ -193,15 +193,14 @@ fn write_table(table: Table, text: &mut [u8]) -> Written
     let nodes = table.nodes;
     let cells = building::cells_of(nodes);
     let mut bytes = [0u8; LONGEST_TEXT];
-    let length = write_node(&cells, table.count - 1, Part::Alternative, &mut bytes, 0);
-    if text.len() < length {
+    let end = write_node(&cells, table.count - 1, Part::Alternative, &mut bytes, 0);
+    if text.len() < end {
         return refuse(15);
     }
-    let end = length;
     printing::write_bytes(&bytes[..end], text);
     Written {
         number: 0,
-        length: length,
+        length: end,
     }
 }
 
