@@ -1,12 +1,13 @@
 // Refusals 3, 4, 13 and 5 to 7: what a table, a setup and a recording are judged by before a margin is taken. Their sentences are listed in specs/Refusals.
 // No test branches on what it has found so far; none counts past what an earlier one has bounded.
 ghost use mathlib.Core.Path.{_≡_};
+ghost use mathlib.Core.List.{[]};
 ghost use Prim.Native.Nat.{_≤_};
 ghost use lib.ListN.{length};
 ghost use Rattle.refusals.specs.First.{first};
 ghost use Rattle.rules.specs.Recording.{samples-obey, lengths-obey, all-rising, all-early, times-obey, values-obey};
-ghost use Rattle.rules.specs.Refusals.{checks};
-ghost use Rattle.recordings.specs.Card.{lent};
+ghost use Rattle.rules.specs.Refusals.{table-checks, checks};
+ghost use Rattle.recordings.specs.Card.{card, lent};
 ghost use Rattle.recordings.specs.Accepted.{MOST-CHANNELS};
 use recordings::LATEST;
 use recordings::MOST_ROWS;
@@ -72,7 +73,7 @@ fn times_obey(times: &[u64]) -> bool
     rising & early
 }
 
-fn values_obey(values: &[i64]) -> bool
+pub fn values_obey(values: &[i64]) -> bool
     ensures { λ r. ⌜ r ≡ values-obey (now (values .entry)) ⌝ }
 {
     let mut ok = true;
@@ -85,26 +86,37 @@ fn values_obey(values: &[i64]) -> bool
     ok
 }
 
-// The first of refusals 3, 4, 13 and 5 to 7 that applies, 0 where none does.
-pub fn refusal(table: Table, setup: Setup, times: &[u64], values: &[i64]) -> u64
-    ensures { λ r. ⌜ r ≡ first (checks (lent setup (times .entry) (values .entry)) table) ⌝ }
+// The first of refusals 3, 4 and 13 that applies, 0 where none does.
+pub fn table_refusal(table: Table, setup: Setup) -> u64
+    ensures { λ r. ⌜ r ≡ first (table-checks (card setup [] []) table) ⌝ }
 {
     let predicates = setup.predicates;
-    let scales = setup.scales;
-    let channels = setup.channels;
     let three = predicates::requirement_obeys(table, predicates);
     if !three {
         return 3;
     }
-    let four = predicates::channels_obey(predicates, channels);
+    let four = predicates::channels_obey(predicates, setup.channels);
     if !four {
         return 4;
     }
+    let scales = setup.scales;
     let thirteen = scales::scales_obey(scales);
     if !thirteen {
         return 13;
     }
-    let five = lengths_obey(scales.count, channels, times.len(), values.len());
+    0
+}
+
+// The first of refusals 3, 4, 13 and 5 to 7 that applies, 0 where none does.
+pub fn refusal(table: Table, setup: Setup, times: &[u64], values: &[i64]) -> u64
+    ensures { λ r. ⌜ r ≡ first (checks (lent setup (times .entry) (values .entry)) table) ⌝ }
+{
+    let earlier = table_refusal(table, setup);
+    if earlier != 0 {
+        return earlier;
+    }
+    let scales = setup.scales;
+    let five = lengths_obey(scales.count, setup.channels, times.len(), values.len());
     if !five {
         return 5;
     }
