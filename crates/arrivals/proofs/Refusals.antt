@@ -1,0 +1,68 @@
+-- Each test of the lists holds exactly where its sentence does, so a number is answered exactly when its condition applies and no earlier one does (`refused` and
+-- `first-is` of refusals). The rows that were accepted make a recording that is as document 01 asks, but for their count.
+-- Assumes nothing.
+use mathlib.Core.Path.{_≡_, refl, sym, _∙_}
+use mathlib.Core.Bool.{Bool, true, false, cond, _||_}
+use mathlib.Core.Logic.{_⊎_, inl, inr}
+use mathlib.Core.List.{List, [], _∷_, _++_}
+use Prim.Native.Nat.{ℕ, suc, _-_, _*_, _≤_, _<_}
+use native.Mathlib.Omega.{arith}
+use lib.Dec.{T, leb, ltb, eqb, leb→le, le→leb, ltb→lt, lt→ltb, eqb→eq}
+use lib.ListN.{length, getD}
+use lib.IntN.{pos}
+use borrow.Author.Tests.{eq-eqb, ne-eqb}
+use mir.Facts.{and-yes, yes-and, yes-eqb}
+use Rattle.lists.proofs.Below.{yes-or}
+use Rattle.recordings.specs.Card.{Card, card, rows, last-time}
+use Rattle.recordings.specs.Accepted.{LATEST}
+use Rattle.tables.specs.declared.Table.{Table}
+use Rattle.refusals.specs.First.{first, AllExact}
+use Rattle.refusals.proofs.First.{exact-append}
+use Rattle.rules.specs.Recording.{values-obey}
+use Rattle.rules.specs.Refusals.{table-checks}
+use Rattle.rules.proofs.Recording.{values-are, values-pass}
+use Rattle.rules.proofs.Refusals.{table-exact}
+use Rattle.nesting.proofs.Nesting.{unnested-are, unnested-pass}
+use Rattle.arrivals.specs.Arrivals.{Row, nesting-check, making-checks, Later, follows, row-checks, offer-checks, some-row-check, asked-checks}
+
+or-yes : (a b : Bool) → T (a || b) → T a ⊎ T b
+or-yes true b h = inl tt
+or-yes false b h = inr h
+
+module _ (c : Card) (t : Table) where
+  pub making-exact : AllExact (making-checks c t)
+  making-exact = exact-append (table-checks c t) (nesting-check t ∷ []) (table-exact c t) (λ _. (record { sound = unnested-are t; complete = unnested-pass t }, λ _. tt))
+
+  -- before the first accepted row the margin is refused by 5
+  pub asked-exact : AllExact (asked-checks c t)
+  asked-exact = exact-append (making-checks c t) (some-row-check c ∷ []) making-exact (λ _. (record { sound = leb→le 1 (rows c); complete = le→leb 1 (rows c) }, λ _. tt))
+
+  module _ (r : Row) where
+    later-is : T (follows (rows c) (last-time c) (r .time)) → Later c (r .time)
+    later-is h =
+        let b = and-yes (leb (r .time) LATEST) (eqb (rows c) 0 || ltb (last-time c) (r .time)) h in
+        record {
+          early = leb→le (r .time) LATEST (b .0);
+          rising = elim (or-yes (eqb (rows c) 0) (ltb (last-time c) (r .time)) (b .1)) [ inl e ↦ inl (eqb→eq (rows c) 0 e) | inr l ↦ inr (ltb→lt (last-time c) (r .time) l) ];
+        }
+
+    later-passes : Later c (r .time) → T (follows (rows c) (last-time c) (r .time))
+    later-passes l =
+        yes-and (leb (r .time) LATEST) (eqb (rows c) 0 || ltb (last-time c) (r .time)) (le→leb (r .time) LATEST (l .early))
+        (yes-or (eqb (rows c) 0) (ltb (last-time c) (r .time)) (elim (l .rising) [ inl e ↦ inl (yes-eqb e) | inr k ↦ inr (lt→ltb (last-time c) (r .time) k) ]))
+
+    row-exact : AllExact (row-checks c r)
+    row-exact = (record { sound = eqb→eq _ _; complete = yes-eqb }, λ _. (record { sound = later-is; complete = later-passes }, λ _. (record { sound = values-are (card (c .setup) [] (r .values)); complete = values-pass (card (c .setup) [] (r .values)) }, λ _. tt)))
+
+    pub offer-exact : AllExact (offer-checks c t r)
+    offer-exact = exact-append (making-checks c t) (row-checks c r) making-exact (λ _. row-exact)
+
+-- ---- a row's list, from what is known of the rows before it: whether there were any, and the time of the last
+module _ (c : Card) (r : Row) (taken : ℕ) {channels last : ℕ} (hc : channels ≡ c .setup .channels) (ht : eqb taken 0 ≡ eqb (rows c) 0) (hl : last ≡ last-time c) where
+  pub row-five : (length (r .values) ≡ channels → ⊥) → 5 ≡ first (row-checks c r)
+  unfolding first
+  row-five h = rw (ne-eqb (length (r .values)) (c .setup .channels) (λ e. h (e ∙ sym hc)))
+
+  pub row-later : length (r .values) ≡ channels → {a b : Bool} → a ≡ follows taken last (r .time) → b ≡ values-obey (r .values) → cond a (cond b 0 7) 6 ≡ first (row-checks c r)
+  unfolding first
+  row-later h p q = rw (p, q, hl, ht, eq-eqb (length (r .values)) (c .setup .channels) (h ∙ hc))
