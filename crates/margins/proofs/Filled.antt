@@ -11,7 +11,7 @@ use Rattle.logic.specs.Formula.{Formula}
 use Rattle.recordings.specs.Card.{Card, rows}
 use Rattle.recordings.specs.Accepted.{Recorded}
 use Rattle.recordings.specs.Margin.{margin}
-use Rattle.recordings.proofs.Margins.{margin-bounded}
+use Rattle.recordings.proofs.Margins.{measured, margin-bounded}
 use Rattle.tables.specs.declared.Node.{Node}
 use Rattle.tables.specs.Kind.{operator}
 use Rattle.tables.specs.Tree.{tree, formula, node-at}
@@ -26,7 +26,7 @@ module _ (c : Card) (φ : ℕ → Formula ℕ) where
   filled-holds k w h e = record { holds = λ q i a b. rw e (rows-in (rows c) (λ q. margin c (φ q)) k w q i (pos 0) a b h) }
 
   pub holds-bounded : {l : List ℤ} (k : ℕ) → Recorded c → Holds c l k φ → (q : ℕ) → q < k → Bounded l (rows c) q
-  holds-bounded k r H q h = record { bounded = λ i a. rw (H .holds q i h a) (margin-bounded r (φ q) i) }
+  holds-bounded k r H q h = record { bounded = λ i a. rw (H .holds q i h a) (margin-bounded (measured r) (φ q) i) }
 
 -- one row more
 pub filled-next : (c : Card) (ns : List Node) (k : ℕ) (w : List ℤ) {l m : List ℤ} → NodeRules (node-at ns k) k → l ≡ fill-rows (rows c) (λ q. margin c (tree ns q)) k w → m ≡ fill (k * rows c) (rows c) (margin c (formula (operator (node-at ns k .kind)) (node-at ns k) (tree ns))) l → m ≡ fill-rows (rows c) (λ q. margin c (tree ns q)) (k + 1) w

@@ -13,7 +13,7 @@ use Rattle.lists.proofs.Filled.{rows-in, rows-out}
 use Rattle.recordings.specs.Distance.{TOP}
 use Rattle.recordings.specs.Card.{Card, rows}
 use Rattle.recordings.specs.Margin.{margin, true-of}
-use Rattle.recordings.proofs.Margins.{recorded-positive, margin-bounded, margin-truth, margin-not-zero}
+use Rattle.recordings.proofs.Margins.{measured, measured-positive, margin-bounded, margin-truth, margin-not-zero}
 use Rattle.tables.specs.declared.Table.{Table}
 use Rattle.tables.specs.Tree.{tree, root}
 use Rattle.refusals.specs.First.{AllExact, Refused}
@@ -57,14 +57,14 @@ module _ (c : Card) (t : Table) (cells : ℕ) where
   margin-is e = unless-none _ _ e
 
   pub margin-nonzero : margin-judged c t cells .number ≡ 0 → margin-judged c t cells .margin ≡ pos 0 → ⊥
-  margin-nonzero e h = margin-not-zero (recorded-positive (number-none e .0 .recorded)) (root t) 0 (sym (margin-is e) ∙ h)
+  margin-nonzero e h = margin-not-zero (measured-positive (measured (number-none e .0 .recorded))) (root t) 0 (sym (margin-is e) ∙ h)
 
   -- it is above 0 exactly when the requirement is true of the samples
   pub margin-sign : margin-judged c t cells .number ≡ 0 → ltZ (pos 0) (margin-judged c t cells .margin) ≡ true-of c (root t) 0
-  margin-sign e = rw (margin-is e) (margin-truth (recorded-positive (number-none e .0 .recorded)) (root t) 0)
+  margin-sign e = rw (margin-is e) (margin-truth (measured-positive (measured (number-none e .0 .recorded))) (root t) 0)
 
   pub margin-within : margin-judged c t cells .number ≡ 0 → Within TOP (margin-judged c t cells .margin)
-  margin-within e = rw (margin-is e) (margin-bounded (number-none e .0 .recorded) (root t) 0)
+  margin-within e = rw (margin-is e) (margin-bounded (measured (number-none e .0 .recorded)) (root t) 0)
 
 module _ (c : Card) (t : Table) (w : List ℤ) where
   -- nothing lent changes under a refusal

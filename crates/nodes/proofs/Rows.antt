@@ -17,7 +17,7 @@ use Rattle.logic.specs.Negation.{turn}
 use Rattle.recordings.specs.Card.{Card, rows, scale, predicate, samples}
 use Rattle.recordings.specs.Distance.{TOP}
 use Rattle.recordings.specs.Margin.{distance-at}
-use Rattle.recordings.proofs.Margins.{channel-scaled}
+use Rattle.recordings.proofs.Margins.{measured, channel-scaled}
 use Rattle.rows.specs.Cells.{signed, Above, Leaf}
 use Rattle.temporal.specs.declared.Left.{Left}
 use Rattle.temporal.specs.Reading.{temporal-at, LeftEarlier}
@@ -47,7 +47,7 @@ module _ {w : List ℤ} {c : Card} {n : Node} {left right row : ℕ} (a : NodeAs
 
   pub leaf : n .kind ≡ predicate-kind → Leaf (c .values) (c .setup .channels) (predicate c (n .left)) (scale c (predicate c (n .left) .channel)) (rows c)
   leaf e = record {
-    small-scale = channel-scaled (a .recorded) _ (channel-known e) .most;
+    small-scale = channel-scaled (measured (a .recorded)) _ (channel-known e) .most;
     known = channel-known e;
     ends = a .recorded .channels .proper (n .left) .ends;
     all-values = omega (arith, a .recorded .lengths .all-values);

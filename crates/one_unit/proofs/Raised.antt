@@ -26,7 +26,7 @@ use Rattle.recordings.specs.Distance.{TOP, distance, scaled-distance}
 use Rattle.recordings.specs.Margin.{robustness, margin, distance-at}
 use Rattle.recordings.specs.Accepted.{LARGEST-DRIFT, InRange, Ends, Recorded}
 use Rattle.recordings.proofs.Distances.{Open, free-or-not, distance-small, scaled-times}
-use Rattle.recordings.proofs.Margins.{in-range-at}
+use Rattle.recordings.proofs.Margins.{measured, in-range-at}
 use Rattle.one_unit.specs.Before.{OneUnit, TOP-BEFORE, distance-before, margin-before, raised}
 
 -- the parts of a raised margin: what reaches the TOP of before gains the difference of the two
@@ -132,7 +132,7 @@ module _ {c : Card} (ok : Recorded c) (u : OneUnit c) where
   raise φ i = read-step raise-step (samples c) raise-negated atoms φ i
     where
       atoms : (p j : ℕ) → Raise (distance-before c p j) (distance-at TOP c p j)
-      atoms p j = distance-raised (scale c (predicate c p .channel)) (predicate c p .range) (value c (predicate c p .channel) j) (ok .channels .proper p .ends) (in-range-at ok _) (elim (ok .channels .proper p .known) [ inl n ↦ inl n | inr n ↦ inr (u .each (predicate c p .channel) n) ])
+      atoms p j = distance-raised (scale c (predicate c p .channel)) (predicate c p .range) (value c (predicate c p .channel) j) (ok .channels .proper p .ends) (in-range-at (measured ok) _) (elim (ok .channels .proper p .known) [ inl n ↦ inl n | inr n ↦ inr (u .each (predicate c p .channel) n) ])
 
   pub margin-raised : (φ : Formula ℕ) (i : ℕ) → margin c φ i ≡ raised (margin-before c φ i)
   margin-raised φ i = raise φ i .is

@@ -25,7 +25,7 @@ use Rattle.recordings.specs.Card.{Card, scale, value, predicate, samples
 use Rattle.recordings.specs.Distance.{TOP}
 use Rattle.recordings.specs.Margin.{distance-at, true-at, robustness, margin, true-of}
 use Rattle.recordings.specs.History.{true-when, true-over}
-use Rattle.recordings.specs.Accepted.{ScaleInRange, InRange, Recorded}
+use Rattle.recordings.specs.Accepted.{ScaleInRange, InRange, Measured, Recorded}
 use Rattle.recordings.proofs.Distances.{Open, scaled-sign, scaled-small, scaled-open}
 
 pub top-positive : 0 < TOP
@@ -60,7 +60,10 @@ pub robustness-bounded : (top : ℕ) (c : Card) → Bounded top c → (φ : Form
 unfolding robustness
 robustness-bounded top c h φ i = read-step (bounded-step top) (samples c) {at′ = true-at c} (λ a b. within-neg) (h .bound) φ i
 
-module _ {c : Card} (ok : Recorded c) where
+pub measured : {c : Card} → Recorded c → Measured c
+measured ok = record { channels = ok .channels; scaled = ok .scaled; all-scales = ok .lengths .all-scales; values = ok .values }
+
+module _ {c : Card} (ok : Measured c) where
   -- what stands past the values reads as 0
   pub in-range-at : (m : ℕ) → InRange (getD (c .values) m (pos 0))
   in-range-at m = go (decLt m (length (c .values)))
@@ -71,13 +74,13 @@ module _ {c : Card} (ok : Recorded c) where
 
   -- each channel has a scale, one of those that were judged
   pub channel-scaled : (ch : ℕ) → ch < c .setup .channels → ScaleInRange (scale c ch)
-  channel-scaled ch h = ok .scaled .each ch (omega (arith, ok .lengths .all-scales)) (omega (arith, ok .channels .few-channels))
+  channel-scaled ch h = ok .scaled .each ch (omega (arith, ok .all-scales)) (omega (arith, ok .channels .few-channels))
 
   scale-judged : (p : ℕ) → (predicate c p .range ≡ Unset) ⊎ ScaleInRange (scale c (predicate c p .channel))
   scale-judged p = elim (ok .channels .proper p .known) [ inl u ↦ inl u | inr h ↦ inr (channel-scaled _ h) ]
 
-  pub recorded-positive : Positive c
-  recorded-positive = record { positive = λ p. elim (scale-judged p) [ inl u ↦ inl u | inr k ↦ inr (k .some) ] }
+  pub measured-positive : Positive c
+  measured-positive = record { positive = λ p. elim (scale-judged p) [ inl u ↦ inl u | inr k ↦ inr (k .some) ] }
 
   -- a distance that is not free is smaller than TOP
   pub distance-below : (p i : ℕ) → Open (predicate c p .range) ⊎ Within 2_000_000_001_000 (distance-at TOP c p i)
@@ -86,8 +89,8 @@ module _ {c : Card} (ok : Recorded c) where
     | inr k ↦ scaled-small TOP _ (k .most) (predicate c p .range) _ (ok .channels .proper p .ends) (in-range-at (i * c .setup .channels + predicate c p .channel))
   ]
 
-  pub recorded-bounded : Bounded TOP c
-  recorded-bounded = record { bound = λ p i. go p i (distance-below p i) }
+  pub measured-bounded : Bounded TOP c
+  measured-bounded = record { bound = λ p i. go p i (distance-below p i) }
     where
       go : (p i : ℕ) → Open (predicate c p .range) ⊎ Within 2_000_000_001_000 (distance-at TOP c p i) → Within TOP (distance-at TOP c p i)
       go p i (inl o) = rw (scaled-open TOP (scale c (predicate c p .channel)) (predicate c p .range) (value c (predicate c p .channel) i) o) (record { size = lit≤ tt })
@@ -95,7 +98,7 @@ module _ {c : Card} (ok : Recorded c) where
 
   -- no margin is further from zero than TOP
   pub margin-bounded : (φ : Formula ℕ) (i : ℕ) → Within TOP (margin c φ i)
-  margin-bounded = robustness-bounded TOP c recorded-bounded
+  margin-bounded = robustness-bounded TOP c measured-bounded
 
 -- ---- "not" pushed down: at true nothing changes, at false the margin and the truth are negated
 pub push-margin : (c : Card) (b : Bool) (φ : Formula ℕ) (i : ℕ) → signed (margins TOP) b (margin c φ i) ≡ margin c (push b φ) i

@@ -21,7 +21,7 @@ use Rattle.recordings.specs.Margin.{margin, true-of}
 use Rattle.recordings.specs.Verdict.{hold, fail, verdict}
 use Rattle.recordings.specs.Accepted.{Accepted}
 use Rattle.recordings.specs.Shown.{Shown}
-use Rattle.recordings.proofs.Margins.{robustness-sign, top-positive, recorded-positive, recorded-bounded}
+use Rattle.recordings.proofs.Margins.{robustness-sign, top-positive, measured, measured-positive, measured-bounded}
 use Rattle.recordings.proofs.Strengthened.{strengthening-lowers}
 use Rattle.recordings.proofs.Between.{Sampled, carries}
 
@@ -46,7 +46,7 @@ module _ {c : Card} {step drift : ℕ} (ok : Accepted c step drift) where
 
   -- what a strengthened margin is above, the margin itself is above, so its sign is positive
   samples-agree : (b : Bool) (φ : Formula ℕ) → T (above (pos drift) (margin c (strengthened step b φ) 0)) → T (signed booleans b (true-of c φ 0))
-  samples-agree b φ m = told b (robustness-sign TOP top-positive (recorded-positive (ok .recorded)) φ 0) (lower _ _ m (strengthening-lowers TOP c step (recorded-bounded (ok .recorded)) b φ 0))
+  samples-agree b φ m = told b (robustness-sign TOP top-positive (measured-positive (measured (ok .recorded))) φ 0) (lower _ _ m (strengthening-lowers TOP c step (measured-bounded (measured (ok .recorded))) b φ 0))
     where
       lower : (s z : ℤ) → T (above (pos drift) s) → s ≤ℤ z → T (above (pos 0) z)
       lower s z t l = parts-lt (pos 0) z (omega (arith, lt-parts (pos drift) s t, le-parts s z (l .le)))

@@ -103,6 +103,13 @@ pub record Gapless (c : Card) (step : ℕ) : Type 0 where
 pub record Steady (c : Card) (drift : ℕ) : Type 0 where
   pub no-jump : (i ch : ℕ) → suc i < rows c → ch < c .setup .channels → scale c ch * natAbs (value c ch (suc i) -ℤ value c ch i) ≤ 2 * drift
 
+-- ---- what distances rest on: 4 and 13 do not apply, each channel has its scale, and no value is out of range; however many rows there are
+pub record Measured (c : Card) : Type 0 where
+  pub channels : Channels c
+  pub scaled : Scaled c
+  pub all-scales : c .setup .scales .count ≡ c .setup .channels
+  pub values : Values (c .values)
+
 -- ---- refusals 4, 13 and 5 to 7 do not apply
 pub record Recorded (c : Card) : Type 0 where
   pub channels : Channels c

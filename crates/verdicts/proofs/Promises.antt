@@ -16,7 +16,7 @@ use Rattle.recordings.specs.Margin.{margin}
 use Rattle.recordings.specs.Verdict.{hold, fail, verdict}
 use Rattle.recordings.specs.Accepted.{Accepted}
 use Rattle.recordings.specs.Shown.{Shown}
-use Rattle.recordings.proofs.Margins.{recorded-positive, margin-not-zero}
+use Rattle.recordings.proofs.Margins.{measured, measured-positive, margin-not-zero}
 use Rattle.recordings.proofs.Verdicts.{holds-shown, fails-shown}
 use Rattle.tables.specs.declared.Table.{Table}
 use Rattle.tables.specs.Tree.{tree, root}
@@ -66,7 +66,7 @@ module _ (c : Card) (t : Table) (step drift size : ℕ) where
   pub refused-some : {n : ℕ} → verdict-outcome (RefusedBy n) ≡ verdict-judged c t step drift size → n ≡ 0 → ⊥
   refused-some e z =
       let m : verdict-judged c t step drift size .number ≡ 0 = ap (λ (o : VerdictOutcome). o .number) (sym e) ∙ z in
-      margin-not-zero (recorded-positive (number-none m .0 .recorded)) (strengthened step true (root t)) 0 (sym (hold-is m) ∙ ap (λ (o : VerdictOutcome). o .hold) (sym e))
+      margin-not-zero (measured-positive (measured (number-none m .0 .recorded))) (strengthened step true (root t)) 0 (sym (hold-is m) ∙ ap (λ (o : VerdictOutcome). o .hold) (sym e))
 
   pub refused-values : (verdict-judged c t step drift size .number ≡ 0 → ⊥) → (verdict-judged c t step drift size .verdict ≡ NotShown) × (verdict-judged c t step drift size .hold ≡ pos 0) × (verdict-judged c t step drift size .fail ≡ pos 0)
   unfolding verdict-judged

@@ -12,7 +12,7 @@ use Rattle.recordings.specs.Card.{Card}
 use Rattle.recordings.specs.Distance.{TOP}
 use Rattle.recordings.specs.Margin.{robustness, margin}
 use Rattle.recordings.specs.Accepted.{Recorded}
-use Rattle.recordings.proofs.Margins.{margin-bounded}
+use Rattle.recordings.proofs.Margins.{measured, margin-bounded}
 use Rattle.tables.specs.declared.Node.{Node}
 use Rattle.tables.specs.Kind.{Operator, constant, named, negated, unknown, joined, binary, unary, operator}
 use Rattle.tables.specs.Tree.{formula, node-at, tree}
@@ -48,4 +48,4 @@ module _ (c : Card) (step : ℕ) where
 
   pub strong-bounded : Recorded c → (ns : List Node) (b : Bool) (k i : ℕ) → Within TOP (strong c step ns b k i)
   unfolding strong
-  strong-bounded ok ns b k i = margin-bounded ok (strengthened step b (tree ns k)) i
+  strong-bounded ok ns b k i = margin-bounded (measured ok) (strengthened step b (tree ns k)) i

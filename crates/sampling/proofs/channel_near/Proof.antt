@@ -9,7 +9,7 @@ use lib.IntN.{pos}
 use Rattle.numbers.proofs.Bits.{back-ok}
 use Rattle.lists.proofs.Below.{Tested, tested-none, tested-next, tested-all}
 use Rattle.lists.proofs.Filled.{earlier-row}
-use Rattle.recordings.proofs.Margins.{channel-scaled}
+use Rattle.recordings.proofs.Margins.{measured, channel-scaled}
 use Rattle.sampling.specs.Sampling.{near, channel-near}
 use Rattle.sampling.proofs.channel_near.Statement.{statement}
 use Rattle.sampling.proofs.channel_near.Tie as tie
@@ -76,7 +76,7 @@ near-requires c κs =
     let l = c .before .before in
     let s = start (l .before) in
     record {
-      small-scale = channel-scaled (s .pre .0 .recorded) _ (s .pre .1) .most;
+      small-scale = channel-scaled (measured (s .pre .0 .recorded)) _ (s .pre .1) .most;
       from-in-range = rw (back-ok _ (c .before .from .given)) (s .pre .0 .recorded .values .each _ (here l));
       to-in-range = rw (back-ok _ (c .to .given), add-one) (s .pre .0 .recorded .values .each _ (next l));
       small-drift = s .pre .0 .small-drift;
