@@ -23,5 +23,5 @@ pub fn distance(predicate: Predicate, scale: u64, value: i64) -> Answer
         return Answer::Refused(7);
     }
     let range = predicate.range;
-    Answer::Distance(rows::scaled_distance(range, scale, value))
+    Answer::Distance(points::scaled_distance(range, scale, value))
 }

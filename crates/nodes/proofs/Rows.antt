@@ -18,7 +18,8 @@ use Rattle.recordings.specs.Card.{Card, rows, scale, predicate, samples}
 use Rattle.recordings.specs.Distance.{TOP}
 use Rattle.recordings.specs.Margin.{distance-at}
 use Rattle.recordings.proofs.Margins.{measured, channel-scaled}
-use Rattle.rows.specs.Cells.{signed, Above, Leaf}
+use Rattle.points.specs.Point.{signed}
+use Rattle.rows.specs.Cells.{Above, Leaf}
 use Rattle.temporal.specs.declared.Left.{Left}
 use Rattle.temporal.specs.Reading.{temporal-at, LeftEarlier}
 use Rattle.temporal.specs.Asks.{TemporalAsks}

@@ -11,7 +11,7 @@ use Rattle.logic.specs.Negation.{turn}
 use Rattle.recordings.specs.Card.{Card, samples}
 use Rattle.recordings.specs.Distance.{TOP}
 use Rattle.recordings.specs.Margin.{distance-at}
-use Rattle.rows.specs.Cells.{signed}
+use Rattle.points.specs.Point.{signed}
 use Rattle.temporal.specs.Reading.{temporal-at}
 use Rattle.tables.specs.declared.Node.{Node}
 use Rattle.tables.specs.Kind.{Operator, constant, named, negated, unknown, joined, binary, unary}

@@ -1,9 +1,8 @@
 -- Rows of cells: with n places to a row, row r owns the cells from r × n on.
 -- Assumes nothing.
-use mathlib.Core.Bool.{Bool, true, false}
 use mathlib.Core.List.{List}
 use Prim.Native.Nat.{ℕ, _+_, _*_, _≤_, _<_}
-use lib.IntN.{ℤ, pos, negℤ}
+use lib.IntN.{ℤ, pos}
 use lib.ListN.{length, getD}
 use Rattle.numbers.specs.Order.{Within}
 use Rattle.recordings.specs.Distance.{TOP}
@@ -13,11 +12,6 @@ use Rattle.recordings.specs.declared.Predicate.{Predicate}
 -- the value of row r at place i
 abbrev pub cell : List ℤ → ℕ → ℕ → ℕ → ℤ
 cell w n r i = getD w (r * n + i) (pos 0)
-
--- a value, or, where it is denied, its negative
-abbrev pub signed : Bool → ℤ → ℤ
-signed true z = z
-signed false z = negℤ z
 
 -- a row that is filled from an earlier row
 pub record Above (w : List ℤ) (n child row : ℕ) : Type 0 where

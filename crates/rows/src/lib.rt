@@ -1,44 +1,18 @@
 // The cells of one node from the recording or from its children's cells. With `rows` places to a row, row r of the work slice owns the cells from
 // r × rows on. A margin has one row for each node; a verdict has two.
 ghost use mathlib.Core.Path.{_≡_};
-ghost use Prim.Native.Nat.{ℕ, _+_, _*_, _≤_, _<_};
-ghost use lib.IntN.{pos, negℤ};
-ghost use mir.Syntax.{w64};
-ghost use mir.Val.{SFits};
+ghost use Prim.Native.Nat.{_+_, _*_, _≤_, _<_};
+ghost use lib.IntN.{pos};
 ghost use lib.ListN.{length, getD};
 ghost use Rattle.lists.specs.Fill.{fill};
 ghost use Rattle.logic.specs.declared.Extremum.the-variants.{Smallest};
 ghost use Rattle.logic.specs.Reading.{margin-extreme, margin-nothing};
-ghost use Rattle.recordings.specs.Distance.{TOP, clearance, distance, scaled-distance};
-ghost use Rattle.recordings.specs.Accepted.{MOST-SCALE, InRange, Ends};
-ghost use Rattle.rows.specs.Cells.{cell, signed, Above, Bounded, Leaf};
+ghost use Rattle.recordings.specs.Distance.{TOP, scaled-distance};
+ghost use Rattle.points.specs.Point.{signed};
+ghost use Rattle.rows.specs.Cells.{cell, Above, Bounded, Leaf};
 use logic::Extremum;
 use recordings::Predicate;
-use recordings::Range;
 use recordings::TOP;
-
-// No margin is further from zero than TOP.
-const BOTTOM: i64 = -TOP;
-
-// The larger of two, or the smaller.
-pub fn extreme(e: Extremum, a: i64, b: i64) -> i64
-    ensures { λ r. ⌜ r ≡ margin-extreme e a b ⌝ }
-{
-    match e {
-        Extremum::Largest => numbers::larger(a, b),
-        Extremum::Smallest => numbers::smaller(a, b),
-    }
-}
-
-// The largest over nothing, or the smallest.
-pub fn over_nothing(e: Extremum) -> i64
-    ensures { λ r. ⌜ r ≡ margin-nothing TOP e ⌝ }
-{
-    match e {
-        Extremum::Largest => BOTTOM,
-        Extremum::Smallest => TOP,
-    }
-}
 
 // The value of a row at place i.
 pub fn cell_at(rows: usize, work: &[i64], row: usize, i: usize) -> i64
@@ -46,54 +20,6 @@ pub fn cell_at(rows: usize, work: &[i64], row: usize, i: usize) -> i64
     ensures { λ r. ⌜ r ≡ cell (now (work .entry)) rows row i ⌝ }
 {
     work[row * rows + i]
-}
-
-// How far b is from falling below a, counted from 1, or minus how far it is below.
-fn clearance_of(a: i64, b: i64) -> i64
-    requires { ⌜ InRange a × InRange b ⌝ }
-    ensures { λ r. ⌜ r ≡ clearance a b ⌝ }
-{
-    let apart = numbers::difference(b, a);
-    let kept = numbers::at_most(a, b);
-    if kept { apart + 1 } else { apart }
-}
-
-// The distance of a value from a range.
-fn distance_of(range: Range, value: i64) -> i64
-    requires { ⌜ InRange value × Ends range ⌝ }
-    ensures { λ r. ⌜ r ≡ distance TOP range value ⌝ }
-{
-    match range {
-        Range::Unset => TOP,
-        Range::Free => TOP,
-        Range::AtLeast(lo) => clearance_of(lo, value),
-        Range::AtMost(hi) => clearance_of(value, hi),
-        Range::Between(lo, hi) => numbers::smaller(
-            clearance_of(lo, value),
-            clearance_of(value, hi),
-        ),
-    }
-}
-
-// The same in the channel's unit: free alone stays at TOP.
-pub fn scaled_distance(range: Range, scale: u64, value: i64) -> i64
-    requires { ⌜ InRange value × Ends range × (scale ≤ MOST-SCALE) ⌝ }
-    ensures { λ r. ⌜ r ≡ scaled-distance TOP scale range value ⌝ }
-{
-    let far = distance_of(range, value);
-    let free = recordings::is_free(range);
-    if free {
-        return TOP;
-    }
-    numbers::product(scale as i64, far)
-}
-
-// A value, or, where it is denied, its negative.
-fn signed_of(affirmed: bool, a: i64) -> i64
-    requires { ⌜ SFits w64 (negℤ a) ⌝ }
-    ensures { λ r. ⌜ r ≡ signed affirmed a ⌝ }
-{
-    if affirmed { a } else { numbers::negated(a) }
 }
 
 // The first `rows` places of a part, all with one value.
@@ -114,7 +40,7 @@ pub fn true_row(rows: usize, affirmed: bool, work: &mut [i64], row: usize)
     ensures { λ _. ⌜ now (work .exit) ≡ fill (row * rows) rows (λ i. signed affirmed (margin-nothing TOP Smallest)) (now (work .entry)) ⌝ }
 {
     let from = row * rows;
-    let value = signed_of(affirmed, TOP);
+    let value = points::signed_of(affirmed, TOP);
     fill_same(rows, value, &mut work[from..]);
 }
 
@@ -137,8 +63,8 @@ fn fill_distances(
     let mut i = 0;
     while i < rows {
         let value = values[i * channels + channel];
-        let far = scaled_distance(range, scale, value);
-        part[i] = signed_of(affirmed, far);
+        let far = points::scaled_distance(range, scale, value);
+        part[i] = points::signed_of(affirmed, far);
         i += 1;
     }
 }
@@ -179,7 +105,7 @@ pub fn signed_row(rows: usize, affirmed: bool, work: &mut [i64], child: usize, r
     let mut i = 0;
     while i < rows {
         let value = cell_at(rows, work, child, i);
-        work[base + i] = signed_of(affirmed, value);
+        work[base + i] = points::signed_of(affirmed, value);
         i += 1;
     }
 }
@@ -194,7 +120,7 @@ pub fn joined_row(rows: usize, e: Extremum, work: &mut [i64], left: usize, right
     while i < rows {
         let first = cell_at(rows, work, left, i);
         let second = cell_at(rows, work, right, i);
-        work[base + i] = extreme(e, first, second);
+        work[base + i] = points::extreme(e, first, second);
         i += 1;
     }
 }

@@ -23,7 +23,7 @@ pub struct SlidingExtremum {
 pub fn start(e: Extremum) -> SlidingExtremum
     ensures { λ r. ⌜ r ≡ at-start e ⌝ }
 {
-    let nothing = rows::over_nothing(e);
+    let nothing = points::over_nothing(e);
     SlidingExtremum {
         cut: 0,
         high: 0,
@@ -49,7 +49,7 @@ fn joined_on(
     let mut j = from;
     while j < high {
         let value = rows::cell_at(rows, cells, source, j);
-        joined = rows::extreme(e, joined, value);
+        joined = points::extreme(e, joined, value);
         j += 1;
     }
     joined
@@ -70,12 +70,12 @@ fn fill_suffixes(
     ensures { λ _. ⌜ now (work .exit) ≡ suffixed e (cell (now (work .entry)) rows source) (row * rows) low high (now (work .entry)) ⌝ }
 {
     let base = row * rows;
-    let mut suffix = rows::over_nothing(e);
+    let mut suffix = points::over_nothing(e);
     let mut j = high;
     while low < j {
         j -= 1;
         let value = rows::cell_at(rows, work, source, j);
-        suffix = rows::extreme(e, suffix, value);
+        suffix = points::extreme(e, suffix, value);
         work[base + j] = suffix;
     }
     suffix
@@ -100,7 +100,7 @@ pub fn advanced(
     if low < cut {
         let tail = joined_on(rows, e, work, source, s.tail, s.high, high);
         let suffix = rows::cell_at(rows, work, row, low);
-        let value = rows::extreme(e, suffix, tail);
+        let value = points::extreme(e, suffix, tail);
         return SlidingExtremum {
             cut: cut,
             high: high,
@@ -109,7 +109,7 @@ pub fn advanced(
         };
     }
     let value = fill_suffixes(rows, e, work, source, row, low, high);
-    let nothing = rows::over_nothing(e);
+    let nothing = points::over_nothing(e);
     SlidingExtremum {
         cut: high,
         high: high,

@@ -89,14 +89,14 @@ fn bound_at(
     ensures { λ r. ⌜ r ≡ along (margins TOP) e (record { from = first; stop = Before end }) (λ m. i + m) (λ m. cell (now (cells .entry)) rows left (i + m)) (λ m. cell (now (cells .entry)) rows right (i + m)) (rows - i) ⌝ }
 {
     let other = logic::dual(e);
-    let mut best = rows::over_nothing(e);
+    let mut best = points::over_nothing(e);
     let mut run = carried;
     let mut j = first;
     while j < end {
         let r = rows::cell_at(rows, cells, right, j);
         let l = rows::cell_at(rows, cells, left, j);
-        best = rows::extreme(e, best, rows::extreme(other, r, run));
-        run = rows::extreme(other, run, l);
+        best = points::extreme(e, best, points::extreme(other, r, run));
+        run = points::extreme(other, run, l);
         j += 1;
         if settled(e, best, run) {
             return best;

@@ -9,7 +9,7 @@ use borrow.Author.Tests.{not-true, not-false}
 use Rattle.numbers.proofs.Parts.{holds}
 use Rattle.numbers.proofs.Bits.{back-is, back-ok}
 use Rattle.recordings.specs.Distance.{TOP, scaled-distance}
-use Rattle.rows.proofs.Fits.{in-back}
+use Rattle.points.proofs.Fits.{in-back}
 use Rattle.predicates.specs.Predicates.{predicate-obeys, value-obeys}
 use Rattle.predicates.proofs.Predicates.{proper, value-in-range}
 use Rattle.scales.specs.Scales.{scale-obeys}

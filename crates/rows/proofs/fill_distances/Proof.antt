@@ -11,9 +11,9 @@ use Rattle.lists.proofs.Filled.{fill-none, fill-to}
 use Rattle.numbers.proofs.Parts.{within-neg}
 use Rattle.numbers.proofs.Bits.{back, back-is, back-ok}
 use Rattle.recordings.specs.Distance.{TOP, scaled-distance}
-use Rattle.rows.specs.Cells.{signed}
+use Rattle.points.specs.Point.{signed}
+use Rattle.points.proofs.Fits.{fit, in-back, top-fits, scaled-within}
 use Rattle.rows.proofs.Kept.{fill-more}
-use Rattle.rows.proofs.Fits.{fit, in-back, top-fits, scaled-within}
 use Rattle.recordings.specs.Accepted.{InRange}
 use Rattle.rows.proofs.fill_distances.Statement.{statement}
 use Rattle.rows.proofs.fill_distances.Tie as tie

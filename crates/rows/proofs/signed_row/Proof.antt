@@ -8,9 +8,10 @@ use Rattle.lists.specs.Fill.{fill}
 use Rattle.lists.proofs.Filled.{fill-none, fill-next, fill-to}
 use Rattle.numbers.proofs.Parts.{within-neg}
 use Rattle.numbers.proofs.Bits.{back, back-ok}
-use Rattle.rows.specs.Cells.{cell, signed}
+use Rattle.points.specs.Point.{signed}
+use Rattle.points.proofs.Fits.{top-fits}
+use Rattle.rows.specs.Cells.{cell}
 use Rattle.rows.proofs.Kept.{child-inside, child-kept}
-use Rattle.rows.proofs.Fits.{top-fits}
 use Rattle.rows.proofs.signed_row.Statement.{statement}
 use Rattle.rows.proofs.signed_row.Tie as tie
 

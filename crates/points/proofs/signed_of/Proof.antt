@@ -3,8 +3,8 @@
 use mathlib.Core.Path.{_∙_}
 use mir.Facts.{toZ-ofZ}
 use Rattle.numbers.proofs.Bits.{back-is, back-ok}
-use Rattle.rows.proofs.signed_of.Statement.{statement}
-use Rattle.rows.proofs.signed_of.Tie as tie
+use Rattle.points.proofs.signed_of.Statement.{statement}
+use Rattle.points.proofs.signed_of.Tie as tie
 
 negated-requires : tie.Need-negated-requires
 negated-requires c κs = let f = c .before .fits .a in simp toZ-ofZ (c .before .pre)

@@ -4,8 +4,8 @@ use mathlib.Core.Path.{_∙_}
 use mir.Facts.{toZ-ofZ}
 use borrow.Author.Needs.{needs}
 use Rattle.numbers.proofs.Bits.{back-ok}
-use Rattle.rows.proofs.extreme.Statement.{statement}
-use Rattle.rows.proofs.extreme.Tie as tie
+use Rattle.points.proofs.extreme.Statement.{statement}
+use Rattle.points.proofs.extreme.Tie as tie
 
 enum-told : tie.Need-enum-told
 enum-told c = search needs

@@ -10,9 +10,9 @@ use mir.Val.{toZ}
 use mir.Facts.{toZ-pos}
 use Rattle.numbers.proofs.Bits.{back, back-is, back-ok}
 use Rattle.recordings.specs.Distance.{TOP, distance, is-free}
-use Rattle.rows.proofs.Fits.{fit, in-back, times-fits}
-use Rattle.rows.proofs.scaled_distance.Statement.{statement}
-use Rattle.rows.proofs.scaled_distance.Tie as tie
+use Rattle.points.proofs.Fits.{fit, in-back, times-fits}
+use Rattle.points.proofs.scaled_distance.Statement.{statement}
+use Rattle.points.proofs.scaled_distance.Tie as tie
 
 -- the distance that was found, read back
 found : (c : tie.After-distance-of) → back (c .distance-of .result) ≡ distance TOP (c .before .args .range) (c .before .args .value)

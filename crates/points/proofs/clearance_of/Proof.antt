@@ -6,9 +6,9 @@ use lib.Signed.{leZ}
 use mir.Facts.{toZ-ofZ}
 use borrow.Author.Needs.{needs}
 use Rattle.numbers.proofs.Bits.{back, back-ok}
-use Rattle.rows.proofs.Fits.{plus-one, apart-fits, more-fits, difference-back, clearance-kept, clearance-lost}
-use Rattle.rows.proofs.clearance_of.Statement.{statement}
-use Rattle.rows.proofs.clearance_of.Tie as tie
+use Rattle.points.proofs.Fits.{plus-one, apart-fits, more-fits, difference-back, clearance-kept, clearance-lost}
+use Rattle.points.proofs.clearance_of.Statement.{statement}
+use Rattle.points.proofs.clearance_of.Tie as tie
 
 apart : (c : tie.After-difference) → back (c .difference .result) ≡ c .before .args .b -ℤ c .before .args .a
 apart c = back-ok (c .difference .result) (c .difference .ok) ∙ difference-back _ _ (c .before .pre .0) (c .before .pre .1) (c .difference .ensures)

@@ -2,8 +2,8 @@
 -- Assumes nothing.
 use mathlib.Core.Path.{refl}
 use borrow.Author.Needs.{needs}
-use Rattle.rows.proofs.over_nothing.Statement.{statement}
-use Rattle.rows.proofs.over_nothing.Tie as tie
+use Rattle.points.proofs.over_nothing.Statement.{statement}
+use Rattle.points.proofs.over_nothing.Tie as tie
 
 enum-told : tie.Need-enum-told
 enum-told c = search needs

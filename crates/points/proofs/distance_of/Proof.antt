@@ -7,9 +7,9 @@ use Rattle.numbers.proofs.Bits.{back-ok}
 use Rattle.recordings.specs.declared.Range.{Range}
 use Rattle.recordings.specs.Distance.{TOP, distance}
 use Rattle.recordings.specs.Accepted.{Ends}
-use Rattle.rows.proofs.Fits.{in-back, clearance-back}
-use Rattle.rows.proofs.distance_of.Statement.{statement}
-use Rattle.rows.proofs.distance_of.Tie as tie
+use Rattle.points.proofs.Fits.{in-back, clearance-back}
+use Rattle.points.proofs.distance_of.Statement.{statement}
+use Rattle.points.proofs.distance_of.Tie as tie
 
 enum-told : tie.Need-enum-told
 enum-told c = search needs
