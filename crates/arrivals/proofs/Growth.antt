@@ -23,9 +23,9 @@ use Rattle.recordings.specs.declared.Range.the-variants.{Unset}
 use Rattle.recordings.specs.Card.{Card, rows, time, scale, value, predicate, samples}
 use Rattle.recordings.specs.Distance.{TOP, scaled-distance}
 use Rattle.recordings.specs.Margin.{distance-at, robustness, margin}
-use Rattle.recordings.specs.Accepted.{Channels}
 use Rattle.nesting.specs.Nesting.{momentary}
 use Rattle.arrivals.specs.Arrivals.{Row, with-row}
+use Rattle.arrivals.specs.Fits.{Fits, carried}
 
 -- ---- a requirement without temporal operators is read at one place
 module _ {X P : Type 0} (A : Algebra X) (F G : Places) (at at′ : P → ℕ → X) (i j : ℕ) (atoms : (p : P) → at p i ≡ at′ p j) where
@@ -37,16 +37,11 @@ module _ {X P : Type 0} (A : Algebra X) (F G : Places) (at at′ : P → ℕ →
   read-momentary (temporal d e w l r) h = absurd h
 
 -- ---- the samples of the longer recording
--- what a recording has however long it is: a row's values behind those of the row before
-pub record Lined (c : Card) : Type 0 where
-  pub lined : length (c .values) ≡ rows c * c .setup .channels
-  pub channels : Channels c
-
-getD-behind : {X : Type 0} (xs ys : List X) (n : ℕ) (d : X) → getD (xs ++ ys) (length xs + n) d ≡ getD ys n d
+pub getD-behind : {X : Type 0} (xs ys : List X) (n : ℕ) (d : X) → getD (xs ++ ys) (length xs + n) d ≡ getD ys n d
 getD-behind [] ys n d = let e : 0 + n ≡ n = omega arith in rw e
 getD-behind (x ∷ xs) ys n d = let e : suc (length xs) + n ≡ suc (length xs + n) = omega arith in rw e (getD-behind xs ys n d)
 
--- a temporal operator at sample 0, as far as sample n; and left's extremum over all samples, with which the next one is joined
+-- a temporal operator at sample 0, as far as sample n
 along-to : Card → Extremum → Window → Formula ℕ → Formula ℕ → ℕ → ℤ
 along-to c e w φ ψ n = along (margins TOP) e w (λ m. time c m - time c 0) (margin c φ) (margin c ψ) n
 
@@ -54,15 +49,17 @@ one-more : (c : Card) (e : Extremum) (w : Window) (φ ψ : Formula ℕ) (n : ℕ
 unfolding along-to
 one-more c e w φ ψ n = refl
 
-abbrev pub carried : Card → Extremum → Formula ℕ → ℤ
-carried c e φ = extremum (margins TOP) (dual e) (margin c φ) (rows c)
-
 at-first : (c : Card) (e : Extremum) (w : Window) (φ ψ : Formula ℕ) → margin c (temporal future e w φ ψ) 0 ≡ along-to c e w φ ψ (rows c)
 unfolding robustness along-to
 at-first c e w φ ψ =
     let n : rows c - 0 ≡ rows c = omega arith in
     let z : (m : ℕ) → 0 + m ≡ m = λ m. omega arith in
     rw n (along-cong (margins TOP) e w w (offset future (samples c) 0) (λ m. time c m - time c 0) (λ m. margin c φ (0 + m)) (margin c φ) (λ m. margin c ψ (0 + m)) (margin c ψ) (rows c) (λ m h. ap (λ (x : ℕ). inside w (time c x - time c 0)) (z m)) (λ m h. ap (margin c φ) (z m)) (λ m h. ap (margin c ψ) (z m)))
+
+-- over no sample it is an extremum over nothing
+pub none-yet : (c : Card) (e : Extremum) (w : Window) (φ ψ : Formula ℕ) → rows c ≡ 0 → margin c (temporal future e w φ ψ) 0 ≡ margin-nothing TOP e
+unfolding along-to
+none-yet c e w φ ψ h = at-first c e w φ ψ ∙ rw h
 
 module _ (c : Card) (r : Row) where
   pub rows-next : rows (with-row c r) ≡ suc (rows c)
@@ -74,18 +71,18 @@ module _ (c : Card) (r : Row) where
   pub time-newest : time (with-row c r) (rows c) ≡ r .time
   time-newest = getD-at (c .times) (r .time) [] 0 (rows c) refl
 
-  module _ (ok : Lined c) where
+  module _ (ok : Fits c) where
     value-before : (ch i : ℕ) → ch < c .setup .channels → i < rows c → value (with-row c r) ch i ≡ value c ch i
     value-before ch i h k =
         let m : suc i * c .setup .channels ≤ rows c * c .setup .channels = mul-le-mul-right (c .setup .channels) k in
-        List·getD-append (c .values) (r .values) (pos 0) (i * c .setup .channels + ch) (omega (arith, ok .lined, m))
+        List·getD-append (c .values) (r .values) (pos 0) (i * c .setup .channels + ch) (omega (arith, ok .all-values, m))
 
-    value-newest : (ch : ℕ) → value (with-row c r) ch (rows c) ≡ getD (r .values) ch (pos 0)
-    value-newest ch = rw (sym (ok .lined)) (getD-behind (c .values) (r .values) ch (pos 0))
+    pub value-newest : (ch : ℕ) → value (with-row c r) ch (rows c) ≡ getD (r .values) ch (pos 0)
+    value-newest ch = rw (sym (ok .all-values)) (getD-behind (c .values) (r .values) ch (pos 0))
 
     -- an unset predicate reads as free, whatever the value
     distance-before : (p i : ℕ) → i < rows c → distance-at TOP (with-row c r) p i ≡ distance-at TOP c p i
-    distance-before p i h = elim (ok .channels .proper p .known) [
+    distance-before p i h = elim (ok .measured .channels .proper p .known) [
       | inl u ↦ rw u
       | inr k ↦ ap (scaled-distance TOP (scale c (predicate c p .channel)) (predicate c p .range)) (value-before _ i k h)
     ]

@@ -1,0 +1,297 @@
+-- One node more has taken the row. Its own cells hold its values for the longer recording; no other node's cells, and nothing of the table and the setup, has moved.
+-- Assumes nothing.
+use mathlib.Core.Path.{_≡_, refl, sym, ap, ap₂, _∙_, subst}
+use mathlib.Core.Bool.{Bool, true, false, cond}
+use mathlib.Core.Logic.{_⊎_, inl, inr}
+use mathlib.Core.List.{List}
+use Prim.Native.Nat.{ℕ, zero, suc, _+_, _-_, _*_, _≤_, _<_}
+use native.Mathlib.Omega.{arith}
+use native.Mathlib.Decide.{ℕ-discrete, decLt}
+use lib.Dec.{T, eqb, eqb→eq}
+use lib.ListN.{length, getD, set, length-set}
+use lib.Seq.{getD-set-same, getD-set-other}
+use lib.IntN.{ℤ, pos}
+use borrow.Author.Tests.{eq-eqb, ne-eqb}
+use Rattle.numbers.specs.Order.{Within}
+use Rattle.logic.specs.declared.Window.{Window}
+use Rattle.logic.specs.Window.{inside}
+use Rattle.logic.specs.declared.Extremum.{Extremum}
+use Rattle.logic.specs.Formula.{dual, future, Formula, temporal}
+use Rattle.logic.specs.Reading.{margin-extreme, margin-nothing}
+use Rattle.recordings.specs.declared.Range.{Range}
+use Rattle.recordings.specs.declared.Range.the-variants.{Unset}
+use Rattle.recordings.specs.declared.Predicate.{Predicate}
+use Rattle.recordings.specs.declared.Setup.{Setup}
+use Rattle.recordings.specs.Card.{Card, rows, time, scale, predicate}
+use Rattle.recordings.specs.Distance.{TOP, scaled-distance}
+use Rattle.recordings.specs.Margin.{distance-at, margin}
+use Rattle.recordings.specs.Accepted.{InRange}
+use Rattle.recordings.proofs.Margins.{in-range-at, channel-scaled, margin-bounded}
+use Rattle.tables.specs.declared.Node.{Node}
+use Rattle.tables.specs.declared.Table.{Table}
+use Rattle.tables.specs.Kind.{Operator, operator, operator-extremum, predicate-kind}
+use Rattle.tables.specs.Tree.{NODES, node-at, window, formula, tree}
+use Rattle.tables.specs.Rules.{Use, child, number, unused, is-child, Used, left-use, right-use, timed, NodeRules}
+use Rattle.tables.proofs.Trees.{tree-node}
+use Rattle.flat.specs.Predicates.{range-from}
+use Rattle.nesting.specs.Nesting.{momentary, unnested}
+use Rattle.nesting.proofs.Nesting.{inside-momentary}
+use Rattle.arrivals.specs.Arrivals.{Row, with-row}
+use Rattle.arrivals.specs.Fits.{carried}
+use Rattle.arrivals.proofs.Growth.{before, value-newest, newest-distance}
+use Rattle.watch_cells.specs.State.{SCALES-AT, HELD-AT, node-in, predicate-in, held-in, Planned, Held}
+use Rattle.watch_cells.specs.Taking.{point-of, Operand, PointAsks, LeafAsks, so-far, margin-after, Arriving, Done, Taking}
+use Rattle.watch_cells.proofs.Points.{leaf-point}
+use Rattle.watch_cells.proofs.Steps.{leaf-at, point-margin, own-idle, own-untimed, own-momentary, operands-momentary, left-of, right-of, timed-form, timed-left, unary-left-margin, carried-by, never-temporal, margin-taken, carried-taken, margin-before, carried-before}
+
+-- ---- two of a node's three cells are written
+module _ (cells : List ℤ) (k p q : ℕ) (x y : ℤ) where
+  abbrev pub stored : List ℤ
+  stored = set (set cells (HELD-AT + 3 * k + p) x) (HELD-AT + 3 * k + q) y
+
+  length-stored : length stored ≡ length cells
+  length-stored = rw (length-set, length-set)
+
+  elsewhere : (i : ℕ) → (i ≡ HELD-AT + 3 * k + p → ⊥) → (i ≡ HELD-AT + 3 * k + q → ⊥) → getD stored i (pos 0) ≡ getD cells i (pos 0)
+  elsewhere i a b = getD-set-other (set cells (HELD-AT + 3 * k + p) x) (HELD-AT + 3 * k + q) i y (pos 0) b ∙ getD-set-other cells (HELD-AT + 3 * k + p) i x (pos 0) a
+
+  pub first-stored : (p ≡ q → ⊥) → HELD-AT + 3 * k + p < length cells → held-in stored k p ≡ x
+  first-stored h l =
+      getD-set-other (set cells (HELD-AT + 3 * k + p) x) (HELD-AT + 3 * k + q) (HELD-AT + 3 * k + p) y (pos 0) (λ (e : HELD-AT + 3 * k + p ≡ HELD-AT + 3 * k + q). h (omega arith))
+      ∙ getD-set-same cells (HELD-AT + 3 * k + p) x (pos 0) l
+
+  pub second-stored : HELD-AT + 3 * k + q < length cells → held-in stored k q ≡ y
+  second-stored l = getD-set-same (set cells (HELD-AT + 3 * k + p) x) (HELD-AT + 3 * k + q) y (pos 0) (rw length-set l)
+
+  module _ (hp : p < 3) (hq : q < 3) where
+    other-node : (j part : ℕ) → part < 3 → (j ≡ k → ⊥) → held-in stored j part ≡ held-in cells j part
+    other-node j part h a =
+        elsewhere (HELD-AT + 3 * j + part) (λ (e : HELD-AT + 3 * j + part ≡ HELD-AT + 3 * k + p). a (omega arith)) (λ (e : HELD-AT + 3 * j + part ≡ HELD-AT + 3 * k + q). a (omega arith))
+
+    end-kept : (i : ℕ) → i < 32 → getD stored i (pos 0) ≡ getD cells i (pos 0)
+    end-kept i h = elsewhere i (λ (e : i ≡ HELD-AT + 3 * k + p). omega arith) (λ (e : i ≡ HELD-AT + 3 * k + q). omega arith)
+
+    held-kept : {t : Table} {d : Card} (j : ℕ) → (j ≡ k → ⊥) → Held cells t d j → Held stored t d j
+    held-kept j a h = record { margin-is = other-node j 1 (omega arith) a ∙ h .margin-is; carried-is = λ e w φ ψ z. other-node j 2 (omega arith) a ∙ h .carried-is e w φ ψ z }
+
+    planned-kept : {numbers : List ℕ} {t : Table} {s : Setup} → Planned numbers cells t s → Planned numbers stored t s
+    planned-kept {numbers} P = record {
+      long = P .long;
+      wide = rw length-stored (P .wide);
+      count = P .count;
+      channels = P .channels;
+      scales = P .scales;
+      predicates = λ i h. ap (λ (g : Range). record { channel = predicate-in numbers cells i .channel; range = g }) (ap₂ (range-from (getD numbers (14 + 2 * i) 0)) (end-kept (2 * i) (omega arith)) (end-kept (2 * i + 1) (omega arith))) ∙ P .predicates i h;
+      nodes = P .nodes;
+    }
+
+    -- so the node's own values are all that is left to show
+    pub next : {numbers : List ℕ} {t : Table} {c : Card} {r : Row} → Taking numbers cells t c r k → Done stored t c r k → Taking numbers stored t c r (suc k)
+    next {t = t} {c = c} {r = r} K D = record {
+      planned = planned-kept (K .planned);
+      done = λ j h. elim (ℕ-discrete j k) [
+        | yes e ↦ subst (Done stored t c r) (sym e) D
+        | no e ↦ let b = K .done j (omega arith) in record { held = held-kept j e (b .held); newest = λ m. other-node j 0 (omega arith) e ∙ b .newest m }
+      ];
+      waiting = λ j a b some. held-kept j (λ (e : j ≡ k). omega arith) (K .waiting j (omega arith) b some);
+    }
+
+-- ---- the row and the node
+earlier : (u : Use) (k x : ℕ) → is-child u ≡ true → Used u k x → x < k
+earlier child k x e h = h
+earlier number k x e h = absurd (subst T (sym e) tt)
+earlier unused k x e h = absurd (subst T (sym e) tt)
+
+opened : (n : ℕ) {b : Bool} → b ≡ eqb n 0 → b ≡ true → n ≡ 0
+opened n e f = eqb→eq n 0 (subst T (sym f ∙ e) tt)
+
+running : (n : ℕ) {b : Bool} → b ≡ eqb n 0 → b ≡ false → 1 ≤ n
+running zero e f = absurd (subst T (sym e ∙ f) tt)
+running (suc n) e f = omega arith
+
+module _ {numbers : List ℕ} {cells values : List ℤ} {opening : Bool} {since : ℕ} {t : Table} {c : Card} {r : Row} {k : ℕ} {n : Node} (A : Arriving values opening since t c r) (small : k < t .count) (n-is : n ≡ node-at (t .nodes) k) (K : Taking numbers cells t c r k) where
+  abbrev φ : ℕ → Formula ℕ
+  φ = tree (t .nodes)
+
+  abbrev longer : Card
+  longer = with-row c r
+
+  rules : NodeRules n k
+  rules = subst (λ (m : Node). NodeRules m k) (sym n-is) (A .ruled .each k small)
+
+  tree-is : tree (t .nodes) k ≡ formula (operator (n .kind)) n φ
+  tree-is = tree-node (t .nodes) k (A .ruled .each k small) ∙ ap (λ (m : Node). formula (operator (m .kind)) m φ) (sym n-is)
+
+  room : (part : ℕ) → part < 3 → HELD-AT + 3 * k + part < length cells
+  room part h = omega (arith, K .planned .wide, A .ruled .few-nodes, small)
+
+  -- what the node holds: `none` before the first row
+  held-before : (none x : ℤ) (part : ℕ) → (rows c ≡ 0 → none ≡ x) → (1 ≤ rows c → held-in cells k part ≡ x) → so-far cells opening none k part ≡ x
+  held-before none x part a b = go opening (A .opening-is)
+    where
+      go : (o : Bool) → o ≡ eqb (rows c) 0 → so-far cells o none k part ≡ x
+      go true e = a (opened (rows c) e refl)
+      go false e = b (running (rows c) e refl)
+
+  -- ---- without window
+  -- what leaf_value promises: a predicate's distance, the top otherwise
+  abbrev pub Leaf : ℤ → Type 0
+  Leaf leaf = ((n .kind ≡ predicate-kind → ⊥) → leaf ≡ pos TOP) × (n .kind ≡ predicate-kind → (p : Predicate) (s : ℕ) → LeafAsks numbers cells values n p s → leaf ≡ scaled-distance TOP s (p .range) (getD values (p .channel) (pos 0)))
+
+  -- what a predicate's node reads is there: it names one that is set, so its channel is one of the row's
+  named-set : n .kind ≡ predicate-kind → predicate c (n .left) .range ≡ Unset → ⊥
+  named-set = subst (λ (m : Node). m .kind ≡ predicate-kind → predicate c (m .left) .range ≡ Unset → ⊥) (sym n-is) (A .named .set k small)
+
+  module _ (e : n .kind ≡ predicate-kind) where
+    named-channel : predicate c (n .left) .channel < c .setup .channels
+    named-channel = elim (A .fits .measured .channels .proper (n .left) .known) [ inl u ↦ absurd (named-set e u) | inr h ↦ h ]
+
+    value-in-range : InRange (getD (r .values) (predicate c (n .left) .channel) (pos 0))
+    value-in-range = rw (sym (value-newest c r (A .fits) (predicate c (n .left) .channel))) (in-range-at (A .fits-next .measured) _)
+
+    leaf-asks : LeafAsks numbers cells values n (predicate c (n .left)) (scale c (predicate c (n .left) .channel))
+    leaf-asks =
+        let few = A .fits .measured .channels .few-channels in
+        let at : predicate c (n .left) .channel < 8 = omega (arith, named-channel, few) in
+        let named : n .left ≤ 15 = subst (λ (x : ℕ). Used (left-use (operator x)) k (n .left)) e (rules .left) in
+        record {
+          numbered = named;
+          predicate-is = K .planned .predicates (n .left) (omega arith);
+          proper = record { known = inr at; ends = A .fits .measured .channels .proper (n .left) .ends };
+          known = at;
+          here = rw (A .values-are) (omega (arith, A .fitting, named-channel));
+          scale-is = K .planned .scales _ at;
+          scaled = channel-scaled (A .fits .measured) _ named-channel;
+          in-range = rw (A .values-are) value-in-range;
+        }
+
+  leaf-newest : (leaf : ℤ) → Leaf leaf → leaf ≡ leaf-at longer n (rows c)
+  leaf-newest leaf L = elim (ℕ-discrete (n .kind) predicate-kind) [
+    | yes e ↦ rw (eq-eqb (n .kind) predicate-kind e) (L .1 e _ _ (leaf-asks e) ∙ rw (A .values-are) (sym (newest-distance c r (A .fits) (n .left))))
+    | no e ↦ rw (ne-eqb (n .kind) predicate-kind e) (L .0 e)
+  ]
+
+  -- operands, from a part of their cells that holds their margins at a sample of the longer recording
+  module _ (part i : ℕ) (values-held : (q : ℕ) → q < k → T (momentary (φ q)) ⊎ (part ≡ 1) → held-in cells q part ≡ margin longer (φ q) i) (u : timed (operator (n .kind)) ≡ false) (inner : T (momentary (φ k)) ⊎ (part ≡ 1)) where
+    operand-of : (u : Use) (x : ℕ) → is-child u ≡ true → Used u k x → T (momentary (φ x)) ⊎ (part ≡ 1) → Operand cells k part x (margin longer (φ x) i)
+    operand-of u x e h m = let b = earlier u k x e h in record { earlier = b; value = values-held x b m }
+
+    within : T (momentary (φ k)) ⊎ (part ≡ 1) → (is-child (left-use (operator (n .kind))) ≡ true → T (momentary (φ (n .left))) ⊎ (part ≡ 1)) × (is-child (right-use (operator (n .kind))) ≡ true → T (momentary (φ (n .right))) ⊎ (part ≡ 1))
+    within (inl m) = let b = operands-momentary (operator (n .kind)) n φ (subst (λ (ψ : Formula ℕ). T (momentary ψ)) tree-is m) in (λ e. inl (b .0 e), λ e. inl (b .1 e))
+    within (inr m) = (λ e. inr m, λ e. inr m)
+
+    point-asks : PointAsks cells n k part (margin longer (φ (n .left)) i) (margin longer (φ (n .right)) i)
+    point-asks = record {
+      known = rules .known;
+      untimed = u;
+      left = λ e. operand-of (left-use (operator (n .kind))) (n .left) e (rules .left) (within inner .0 e);
+      right = λ e. operand-of (right-use (operator (n .kind))) (n .right) e (rules .right) (within inner .1 e);
+      bounded = λ e. margin-bounded (A .fits-next .measured) (φ (n .left)) i;
+    }
+
+  -- the node's margin from its operands'
+  pointed : timed (operator (n .kind)) ≡ false → (i : ℕ) → point-of (operator (n .kind)) (leaf-at longer n i) (margin longer (φ (n .left)) i) (margin longer (φ (n .right)) i) ≡ margin longer (φ k) i
+  pointed u i = sym (point-margin longer n φ i (rules .known) u) ∙ ap (λ (ψ : Formula ℕ). margin longer ψ i) (sym tree-is)
+
+  newest-held : (q : ℕ) → q < k → T (momentary (φ q)) ⊎ (_≡_ {A = ℕ} 0 1) → held-in cells q 0 ≡ margin longer (φ q) (rows c)
+  newest-held q b (inl m) = K .done q b .newest m
+  newest-held q b (inr z) = absurd (omega arith)
+
+  margin-held : (q : ℕ) → q < k → T (momentary (φ q)) ⊎ (_≡_ {A = ℕ} 1 1) → held-in cells q 1 ≡ margin longer (φ q) 0
+  margin-held q b m = K .done q b .held .margin-is
+
+  -- at sample 0 a node without operands keeps what it had at the first row
+  own-first : (leaf : ℤ) → Leaf leaf → n .kind ≤ 1 → so-far cells opening leaf k 1 ≡ margin longer (φ k) 0
+  own-first leaf L h =
+      let m : T (momentary (φ k)) = subst (λ (ψ : Formula ℕ). T (momentary ψ)) (sym tree-is) (own-momentary (n .kind) n φ h) in
+      let a : leaf ≡ margin longer (φ k) (rows c) = leaf-newest leaf L ∙ leaf-point _ (point-asks 0 (rows c) newest-held (own-untimed (n .kind) h) (inl m)) h ∙ pointed (own-untimed (n .kind) h) (rows c) in
+      held-before leaf (margin longer (φ k) 0) 1 (λ z. rw z at a) (λ some. K .waiting k (omega arith) small some .margin-is ∙ sym (before c r (A .fits) (φ k) m 0 some))
+
+  module _ (leaf first x y : ℤ) (L : Leaf leaf) (f : first ≡ so-far cells opening leaf k 1) (u : timed (operator (n .kind)) ≡ false) (hx : (a b : ℤ) → PointAsks cells n k 0 a b → x ≡ point-of (operator (n .kind)) leaf a b) (hy : (a b : ℤ) → PointAsks cells n k 1 a b → y ≡ point-of (operator (n .kind)) first a b) where
+    newest-is : T (momentary (φ k)) → x ≡ margin longer (φ k) (rows c)
+    newest-is m =
+        hx _ _ (point-asks 0 (rows c) newest-held u (inl m))
+        ∙ ap (λ (z : ℤ). point-of (operator (n .kind)) z (margin longer (φ (n .left)) (rows c)) (margin longer (φ (n .right)) (rows c))) (leaf-newest leaf L)
+        ∙ pointed u (rows c)
+
+    margin-is : y ≡ margin longer (φ k) 0
+    margin-is =
+        let a = point-asks 1 0 margin-held u (inr refl) in
+        elim (decLt 1 (n .kind)) [
+          | yes h ↦ hy _ _ a ∙ own-idle (n .kind) (rules .known) u h first (leaf-at longer n 0) _ _ ∙ pointed u 0
+          | no h ↦ let own : n .kind ≤ 1 = omega arith in hy _ _ a ∙ sym (leaf-point first a own) ∙ f ∙ own-first leaf L own
+        ]
+
+    pub plain-taken : Taking numbers (stored cells k 0 1 x y) t c r (suc k)
+    plain-taken =
+        next cells k 0 1 x y (omega arith) (omega arith) K
+        (record {
+          held = record {
+            margin-is = second-stored cells k 0 1 x y (room 1 (omega arith)) ∙ margin-is;
+            carried-is = λ e w a b z. absurd (never-temporal (operator (n .kind)) n φ u e w a b (sym tree-is ∙ z));
+          };
+          newest = λ m. first-stored cells k 0 1 x y (λ (e : _≡_ {A = ℕ} 0 1). omega arith) (room 0 (omega arith)) ∙ newest-is m;
+        })
+
+  -- ---- with a window
+  module _ (u : timed (operator (n .kind)) ≡ true) where
+    abbrev e : Extremum
+    e = operator-extremum (operator (n .kind))
+
+    abbrev two : Bool
+    two = is-child (right-use (operator (n .kind)))
+
+    abbrev left : Formula ℕ
+    left = left-of two e n φ
+
+    abbrev right : Formula ℕ
+    right = right-of two n φ
+
+    temporal-is : φ k ≡ temporal future e (window n) left right
+    temporal-is = tree-is ∙ timed-form (operator (n .kind)) n φ u
+
+    pub both-momentary : T (momentary left) × T (momentary right)
+    both-momentary = inside-momentary future e (window n) left right (subst (λ (ψ : Formula ℕ). T (unnested ψ)) temporal-is (A .unnested .each k small))
+
+    left-earlier : n .left < k
+    left-earlier = earlier (left-use (operator (n .kind))) k (n .left) (timed-left (operator (n .kind)) u) (rules .left)
+
+    right-earlier : two ≡ true → n .right < k
+    right-earlier z = earlier (right-use (operator (n .kind))) k (n .right) z (rules .right)
+
+    -- the operands at the new sample
+    pub left-value : (v : ℤ) (b : Bool) → two ≡ b → T (momentary (left-of b e n φ)) → (two ≡ true → n .left < k → v ≡ held-in cells (n .left) 0) → (two ≡ false → v ≡ margin-nothing TOP (dual e)) → v ≡ margin longer (left-of b e n φ) (rows c)
+    left-value v true z m f g = f z left-earlier ∙ newest-held (n .left) left-earlier (inl m)
+    left-value v false z m f g = g z ∙ unary-left-margin e longer (rows c)
+
+    pub right-value : (v : ℤ) (b : Bool) → two ≡ b → T (momentary (right-of b n φ)) → (two ≡ true → n .right < k → v ≡ held-in cells (n .right) 0) → (two ≡ false → n .left < k → v ≡ held-in cells (n .left) 0) → v ≡ margin longer (right-of b n φ) (rows c)
+    right-value v true z m f g = f z (right-earlier z) ∙ newest-held (n .right) (right-earlier z) (inl m)
+    right-value v false z m f g = g z left-earlier ∙ newest-held (n .left) left-earlier (inl m)
+
+    module _ (m x lv rv : ℤ) (here : Bool) (hm : m ≡ so-far cells opening (margin-nothing TOP e) k 1) (hx : x ≡ so-far cells opening (margin-nothing TOP (dual e)) k 2) (hl : lv ≡ margin longer left (rows c)) (hr : rv ≡ margin longer right (rows c)) (hh : here ≡ inside (window n) since) where
+      margin-was : m ≡ margin c (temporal future e (window n) left right) 0
+      margin-was = hm ∙ held-before (margin-nothing TOP e) _ 1 (margin-before c e (window n) left right) (λ some. K .waiting k (omega arith) small some .margin-is ∙ ap (λ (ψ : Formula ℕ). margin c ψ 0) temporal-is)
+
+      carried-was : x ≡ carried c e left
+      carried-was = hx ∙ held-before (margin-nothing TOP (dual e)) _ 2 (carried-before c e left) (λ some. K .waiting k (omega arith) small some .carried-is e (window n) left right temporal-is)
+
+      margin-now : margin-after e m x rv here ≡ margin longer (φ k) 0
+      margin-now =
+          margin-taken c r (A .fits) e (window n) left right (both-momentary .0) (both-momentary .1) margin-was carried-was hr (hh ∙ ap (inside (window n)) (A .since-is))
+          ∙ ap (λ (ψ : Formula ℕ). margin longer ψ 0) (sym temporal-is)
+
+      carried-now : (f : Extremum) (w : Window) (a b : Formula ℕ) → φ k ≡ temporal future f w a b → margin-extreme (dual e) x lv ≡ carried longer f a
+      carried-now f w a b z =
+          carried-taken c r (A .fits) e (window n) left right (both-momentary .0) (both-momentary .1) carried-was hl
+          ∙ ap (carried-by longer) (sym temporal-is ∙ z)
+
+      pub timed-taken : Taking numbers (stored cells k 1 2 (margin-after e m x rv here) (margin-extreme (dual e) x lv)) t c r (suc k)
+      timed-taken =
+          next cells k 1 2 _ _ (omega arith) (omega arith) K
+          (record {
+            held = record {
+              margin-is = first-stored cells k 1 2 _ _ (λ (z : _≡_ {A = ℕ} 1 2). omega arith) (room 1 (omega arith)) ∙ margin-now;
+              carried-is = λ f w a b z. second-stored cells k 1 2 (margin-after e m x rv here) _ (room 2 (omega arith)) ∙ carried-now f w a b z;
+            };
+            newest = λ z. absurd (subst (λ (ψ : Formula ℕ). T (momentary ψ)) temporal-is z);
+          })

@@ -1,0 +1,89 @@
+-- How a watch lies in two slices. Numbers: its refusal, the count of nodes, whether a row was taken, the first and the last time, the count of channels; then eight
+-- scales, two numbers for each of sixteen predicates, five for each of 64 nodes. Cells: each predicate's two ends, then three cells for each node.
+-- Assumes nothing.
+use mathlib.Core.Path.{_≡_}
+use mathlib.Core.Bool.{Bool, cond}
+use mathlib.Core.List.{List}
+use Prim.Native.Nat.{ℕ, _+_, _*_, _≤_, _<_}
+use lib.Dec.{eqb}
+use lib.ListN.{length, getD}
+use lib.IntN.{ℤ, pos, negℤ}
+use Rattle.logic.specs.declared.Extremum.{Extremum}
+use Rattle.logic.specs.Formula.{dual, future, Formula, temporal}
+use Rattle.logic.specs.declared.Window.{Window}
+use Rattle.logic.specs.Reading.{margin-extreme, margin-nothing}
+use Rattle.recordings.specs.declared.Predicate.{Predicate}
+use Rattle.recordings.specs.declared.Setup.{Setup}
+use Rattle.recordings.specs.Card.{Card, rows, first-time, last-time, predicate-at}
+use Rattle.recordings.specs.Distance.{TOP}
+use Rattle.recordings.specs.Margin.{margin}
+use Rattle.recordings.specs.Accepted.{MOST-CHANNELS}
+use Rattle.tables.specs.declared.Node.{Node}
+use Rattle.tables.specs.declared.Table.{Table}
+use Rattle.tables.specs.Tree.{NODES, node-at, tree}
+use Rattle.flat.specs.Predicates.{range-from}
+use Rattle.arrivals.specs.Fits.{carried}
+
+-- the slices' lengths
+abbrev pub NUMBERS : ℕ
+NUMBERS = 366
+
+abbrev pub CELLS : ℕ
+CELLS = 224
+
+-- where the scales, the predicates' numbers and the nodes begin, and the nodes' cells
+abbrev pub SCALES-AT : ℕ
+SCALES-AT = 6
+
+abbrev pub RANGES-AT : ℕ
+RANGES-AT = 14
+
+abbrev pub NODES-AT : ℕ
+NODES-AT = 46
+
+abbrev pub HELD-AT : ℕ
+HELD-AT = 32
+
+-- node k
+abbrev pub node-in : List ℕ → ℕ → Node
+node-in numbers k =
+    record {
+      kind = getD numbers (NODES-AT + 5 * k) 0;
+      left = getD numbers (NODES-AT + 5 * k + 1) 0;
+      right = getD numbers (NODES-AT + 5 * k + 2) 0;
+      lo = getD numbers (NODES-AT + 5 * k + 3) 0;
+      hi = getD numbers (NODES-AT + 5 * k + 4) 0;
+    }
+
+-- predicate p
+abbrev pub predicate-in : List ℕ → List ℤ → ℕ → Predicate
+predicate-in numbers cells p =
+    record {
+      channel = getD numbers (RANGES-AT + 2 * p + 1) 0;
+      range = range-from (getD numbers (RANGES-AT + 2 * p) 0) (getD cells (2 * p) (pos 0)) (getD cells (2 * p + 1) (pos 0));
+    }
+
+-- of node q, the value at the newest row (part 0), the margin at sample 0 so far (part 1), and what it carries (part 2)
+abbrev pub held-in : List ℤ → ℕ → ℕ → ℤ
+held-in cells q part = getD cells (HELD-AT + 3 * q + part) (pos 0)
+
+-- ---- the slices hold a table and a setup
+pub record Planned (numbers : List ℕ) (cells : List ℤ) (t : Table) (s : Setup) : Type 0 where
+  pub long : NUMBERS ≤ length numbers
+  pub wide : CELLS ≤ length cells
+  pub count : getD numbers 1 0 ≡ t .count
+  pub channels : getD numbers 5 0 ≡ s .channels
+  pub scales : (ch : ℕ) → ch < MOST-CHANNELS → getD numbers (SCALES-AT + ch) 0 ≡ getD (s .scales .each) ch 0
+  pub predicates : (p : ℕ) → p < 16 → predicate-in numbers cells p ≡ predicate-at (s .predicates) p
+  pub nodes : (k : ℕ) → k < NODES → node-in numbers k ≡ node-at (t .nodes) k
+
+-- ---- the times of the rows so far
+pub record Clock (numbers : List ℕ) (c : Card) : Type 0 where
+  pub taken : eqb (getD numbers 2 0) 0 ≡ eqb (rows c) 0
+  pub start : getD numbers 3 0 ≡ first-time c
+  pub last : getD numbers 4 0 ≡ last-time c
+
+-- ---- of node q the cells hold its margin at sample 0 and, where it is a temporal operator, what it carries
+pub record Held (cells : List ℤ) (t : Table) (c : Card) (q : ℕ) : Type 0 where
+  pub margin-is : held-in cells q 1 ≡ margin c (tree (t .nodes) q) 0
+  pub carried-is : (e : Extremum) (w : Window) (φ ψ : Formula ℕ) → tree (t .nodes) q ≡ temporal future e w φ ψ → held-in cells q 2 ≡ carried c e φ
