@@ -40,7 +40,7 @@ use Rattle.arrivals.specs.Arrivals.{Row, with-row}
 use Rattle.arrivals.specs.Fits.{carried}
 use Rattle.arrivals.proofs.Growth.{before, value-newest, newest-distance}
 use Rattle.watch_cells.specs.State.{SCALES-AT, HELD-AT, node-in, predicate-in, held-in, Planned, Held}
-use Rattle.watch_cells.specs.Taking.{point-of, Operand, PointAsks, LeafAsks, so-far, margin-after, Arriving, Done, Taking}
+use Rattle.watch_cells.specs.Taking.{point-of, Operand, PointAsks, LeafAsks, so-far, margin-after, SameBeyond, Arriving, Done, Taking}
 use Rattle.watch_cells.proofs.Points.{leaf-point}
 use Rattle.watch_cells.proofs.Steps.{leaf-at, point-margin, own-idle, own-untimed, own-momentary, operands-momentary, left-of, right-of, timed-form, timed-left, unary-left-margin, carried-by, never-temporal, margin-taken, carried-taken, margin-before, carried-before}
 
@@ -70,6 +70,9 @@ module _ (cells : List ℤ) (k p q : ℕ) (x y : ℤ) where
 
     end-kept : (i : ℕ) → i < 32 → getD stored i (pos 0) ≡ getD cells i (pos 0)
     end-kept i h = elsewhere i (λ (e : i ≡ HELD-AT + 3 * k + p). omega arith) (λ (e : i ≡ HELD-AT + 3 * k + q). omega arith)
+
+    pub beyond-kept : k < NODES → SameBeyond cells stored
+    beyond-kept h = record { same = λ i l. elsewhere i (λ (e : i ≡ HELD-AT + 3 * k + p). omega arith) (λ (e : i ≡ HELD-AT + 3 * k + q). omega arith) }
 
     held-kept : {t : Table} {d : Card} (j : ℕ) → (j ≡ k → ⊥) → Held cells t d j → Held stored t d j
     held-kept j a h = record { margin-is = other-node j 1 (omega arith) a ∙ h .margin-is; carried-is = λ e w φ ψ z. other-node j 2 (omega arith) a ∙ h .carried-is e w φ ψ z }

@@ -25,7 +25,7 @@ use Rattle.predicates.specs.Predicates.{Named}
 use Rattle.nesting.specs.Nesting.{momentary, Unnested}
 use Rattle.arrivals.specs.Arrivals.{Row, with-row}
 use Rattle.arrivals.specs.Fits.{Fits}
-use Rattle.watch_cells.specs.State.{SCALES-AT, predicate-in, held-in, Planned, Held}
+use Rattle.watch_cells.specs.State.{CELLS, SCALES-AT, predicate-in, held-in, Planned, Held}
 
 -- a node without window at one place, from its operands' values there; `leaf` is its own where it has none
 abbrev pub point-of : Operator → ℤ → ℤ → ℤ → ℤ
@@ -68,6 +68,10 @@ so-far cells opening none k part = cond opening none (held-in cells k part)
 -- a temporal operator's margin with one sample more, where that is in the window: right there joined with what left was before it
 abbrev pub margin-after : Extremum → ℤ → ℤ → ℤ → Bool → ℤ
 margin-after e margin carried r here = cond here (margin-extreme e margin (margin-extreme (dual e) r carried)) margin
+
+-- places behind the nodes' cells keep their contents, whatever the slices hold
+pub record SameBeyond (before after : List ℤ) : Type 0 where
+  pub same : (i : ℕ) → CELLS ≤ i → getD after i (pos 0) ≡ getD before i (pos 0)
 
 -- ---- a row that was accepted arrives
 pub record Arriving (values : List ℤ) (opening : Bool) (since : ℕ) (t : Table) (c : Card) (r : Row) : Type 0 where

@@ -18,7 +18,7 @@ ghost use Rattle.tables.specs.Tree.{NODES, window};
 ghost use Rattle.tables.specs.Rules.{is-child, right-use, timed};
 ghost use Rattle.arrivals.specs.Arrivals.{Row};
 ghost use Rattle.watch_cells.specs.State.{NUMBERS, CELLS, node-in, predicate-in, held-in};
-ghost use Rattle.watch_cells.specs.Taking.{point-of, PointAsks, LeafAsks, so-far, margin-after, Arriving, Taking};
+ghost use Rattle.watch_cells.specs.Taking.{point-of, PointAsks, LeafAsks, so-far, margin-after, SameBeyond, Arriving, Taking};
 use logic::Extremum;
 use recordings::Predicate;
 use recordings::TOP;
@@ -207,7 +207,8 @@ fn take_plain(
     k: usize,
 )
     requires { ⌜ (NUMBERS ≤ length (now numbers)) × (CELLS ≤ length (now cells)) × (k < NODES) ⌝ }
-    ensures { λ _. ⌜ ((since : _) (t : Table) (c : Card) (r : Row) → Arriving (now (values .entry)) opening since t c r → k < t .count → node ≡ node-in (now (numbers .entry)) k → timed (operator (node .kind)) ≡ false → Taking (now (numbers .entry)) (now (cells .entry)) t c r k → Taking (now (numbers .entry)) (now (cells .exit)) t c r (suc k)) ⌝ }
+    ensures taken { λ _. ⌜ ((since : _) (t : Table) (c : Card) (r : Row) → Arriving (now (values .entry)) opening since t c r → k < t .count → node ≡ node-in (now (numbers .entry)) k → timed (operator (node .kind)) ≡ false → Taking (now (numbers .entry)) (now (cells .entry)) t c r k → Taking (now (numbers .entry)) (now (cells .exit)) t c r (suc k)) ⌝ }
+    ensures beyond { λ _. ⌜ SameBeyond (now (cells .entry)) (now (cells .exit)) ⌝ }
 {
     let leaf = leaf_value(numbers, cells, values, node);
     let first = so_far(cells, opening, leaf, k, MARGIN);
@@ -221,7 +222,8 @@ fn take_plain(
 // A temporal operator takes the row.
 fn take_timed(cells: &mut [i64], node: Node, opening: bool, since: u64, k: usize)
     requires { ⌜ (CELLS ≤ length (now cells)) × (k < NODES) ⌝ }
-    ensures { λ _. ⌜ ((numbers values : _) (t : Table) (c : Card) (r : Row) → Arriving values opening since t c r → k < t .count → node ≡ node-in numbers k → timed (operator (node .kind)) ≡ true → Taking numbers (now (cells .entry)) t c r k → Taking numbers (now (cells .exit)) t c r (suc k)) ⌝ }
+    ensures taken { λ _. ⌜ ((numbers values : _) (t : Table) (c : Card) (r : Row) → Arriving values opening since t c r → k < t .count → node ≡ node-in numbers k → timed (operator (node .kind)) ≡ true → Taking numbers (now (cells .entry)) t c r k → Taking numbers (now (cells .exit)) t c r (suc k)) ⌝ }
+    ensures beyond { λ _. ⌜ SameBeyond (now (cells .entry)) (now (cells .exit)) ⌝ }
 {
     let e = tables::extremum_of(node.kind);
     let other = logic::dual(e);
@@ -245,7 +247,8 @@ fn take_node(
     k: usize,
 )
     requires { ⌜ (NUMBERS ≤ length (now numbers)) × (CELLS ≤ length (now cells)) × (k < NODES) ⌝ }
-    ensures { λ _. ⌜ ((t : Table) (c : Card) (r : Row) → Arriving (now (values .entry)) opening since t c r → k < t .count → Taking (now (numbers .entry)) (now (cells .entry)) t c r k → Taking (now (numbers .entry)) (now (cells .exit)) t c r (suc k)) ⌝ }
+    ensures taken { λ _. ⌜ ((t : Table) (c : Card) (r : Row) → Arriving (now (values .entry)) opening since t c r → k < t .count → Taking (now (numbers .entry)) (now (cells .entry)) t c r k → Taking (now (numbers .entry)) (now (cells .exit)) t c r (suc k)) ⌝ }
+    ensures beyond { λ _. ⌜ SameBeyond (now (cells .entry)) (now (cells .exit)) ⌝ }
 {
     let node = node_of(numbers, k);
     if tables::is_timed(node.kind) {
@@ -265,7 +268,8 @@ pub fn take_nodes(
     count: usize,
 )
     requires { ⌜ (NUMBERS ≤ length (now numbers)) × (CELLS ≤ length (now cells)) × (count ≤ NODES) ⌝ }
-    ensures { λ _. ⌜ ((t : Table) (c : Card) (r : Row) → Arriving (now (values .entry)) opening since t c r → count ≡ t .count → Taking (now (numbers .entry)) (now (cells .entry)) t c r 0 → Taking (now (numbers .entry)) (now (cells .exit)) t c r count) ⌝ }
+    ensures taken { λ _. ⌜ ((t : Table) (c : Card) (r : Row) → Arriving (now (values .entry)) opening since t c r → count ≡ t .count → Taking (now (numbers .entry)) (now (cells .entry)) t c r 0 → Taking (now (numbers .entry)) (now (cells .exit)) t c r count) ⌝ }
+    ensures beyond { λ _. ⌜ SameBeyond (now (cells .entry)) (now (cells .exit)) ⌝ }
 {
     let mut k = 0;
     while k < count {

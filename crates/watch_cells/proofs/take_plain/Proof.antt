@@ -4,7 +4,7 @@ use lib.ListN.{length-set}
 use mathlib.Core.Path.{_≡_, refl, sym, ap, ap₂, _∙_}
 use native.Mathlib.Omega.{arith}
 use Rattle.numbers.proofs.Bits.{back-ok, back-is}
-use Rattle.watch_cells.proofs.Taken.{plain-taken}
+use Rattle.watch_cells.proofs.Taken.{beyond-kept, plain-taken}
 use borrow.Author.Needs.{needs}
 use Rattle.watch_cells.proofs.take_plain.Statement.{statement}
 use Rattle.watch_cells.proofs.take_plain.Tie as tie
@@ -52,7 +52,7 @@ same-length : tie.Need-same-length
 same-length c = search needs
 
 returns : tie.Need-returns
-returns c = 
+returns c = (
     λ since t k r A small n-is u K.
     let s = c .before .before .before .before .before .before .before .before .before in
     let lf = c .before .before .before .before .before .before .leaf-value in
@@ -62,7 +62,9 @@ returns c =
     let hl = back-ok (lf .result) (lf .ok) in
     let hs = back-ok (so .result) (so .ok) in
     rw (back-ok (x .result) (x .ok), back-ok (y .result) (y .ok))
-    (plain-taken A small (n-is ∙ K .planned .nodes (s .args .k) (s .pre .2)) K (lf .result) (so .result) (x .result) (y .result) (lf .ensures .0, lf .ensures .1) (so .ensures ∙ rw hl) u (λ a b h. x .ensures a b h ∙ rw hl) (λ a b h. y .ensures a b h ∙ rw hs))
+    (plain-taken A small (n-is ∙ K .planned .nodes (s .args .k) (s .pre .2)) K (lf .result) (so .result) (x .result) (y .result) (lf .ensures .0, lf .ensures .1) (so .ensures ∙ rw hl) u (λ a b h. x .ensures a b h ∙ rw hl) (λ a b h. y .ensures a b h ∙ rw hs)),
+    beyond-kept (c .before .before .before .before .before .before .before .before .before .args .cells .now) (c .before .before .before .before .before .before .before .before .before .args .k) 0 1 _ _ (omega arith) (omega arith) (c .before .before .before .before .before .before .before .before .before .pre .2),
+    )
 
 pub take-plain-spec : {M : Type 1} → statement M
 take-plain-spec =

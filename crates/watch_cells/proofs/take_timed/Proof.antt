@@ -6,7 +6,7 @@ use Rattle.logic.specs.Formula.{dual}
 use Rattle.logic.specs.Reading.{margin-extreme}
 use Rattle.watch_cells.specs.Taking.{margin-after}
 use Rattle.tables.specs.Kind.{operator, operator-extremum}
-use Rattle.watch_cells.proofs.Taken.{timed-taken, left-value, right-value, both-momentary}
+use Rattle.watch_cells.proofs.Taken.{beyond-kept, timed-taken, left-value, right-value, both-momentary}
 use mathlib.Core.Path.{_≡_, refl, sym, ap, ap₂, _∙_}
 use native.Mathlib.Omega.{arith}
 use Rattle.numbers.proofs.Bits.{back, back-ok}
@@ -78,7 +78,7 @@ same-length : tie.Need-same-length
 same-length c = search needs
 
 returns : tie.Need-returns
-returns c = 
+returns c = (
     λ numbers values t k r A small n-is u K.
     let s = c .before .before .before .before .before .before .before .before .before .before .before .before .before .before .before in
     let ex = c .before .before .before .before .before .before .before .before .before .before .before .before .before .before .extremum-of .ensures in
@@ -104,7 +104,9 @@ returns c =
     (timed-taken A small node-is K u (m .result) (x .result) (l .result) (q .result) (w .result) (m .ensures ∙ rw (back-ok (o .result) (o .ok), o .ensures, ex)) (x .ensures ∙ rw (back-ok (p .result) (p .ok), p .ensures, other))
     (left-value A small node-is K u (l .result) _ refl (both .0) (l .ensures .0) (λ h. l .ensures .1 h ∙ rw other))
     (right-value A small node-is K u (q .result) _ refl (both .1) (q .ensures .0) (q .ensures .1))
-    (w .ensures))
+    (w .ensures)),
+    beyond-kept (c .before .before .before .before .before .before .before .before .before .before .before .before .before .before .before .args .cells .now) (c .before .before .before .before .before .before .before .before .before .before .before .before .before .before .before .args .k) 1 2 _ _ (omega arith) (omega arith) (c .before .before .before .before .before .before .before .before .before .before .before .before .before .before .before .pre .1),
+    )
 
 pub take-timed-spec : {M : Type 1} → statement M
 take-timed-spec =
