@@ -36,7 +36,7 @@ front-at new old d r j h = rw (take-all (length old) new r) (List·getD-append n
 -- ---- predicates
 
 module _ {A X : Type 0} (f g : A → X) where
-  length-pairs : (xs : List A) → length (pairs f g xs) ≡ 2 * length xs
+  pub length-pairs : (xs : List A) → length (pairs f g xs) ≡ 2 * length xs
   unfolding pairs
   length-pairs [] = refl
   length-pairs (x ∷ xs) = let h : length (pairs f g xs) ≡ 2 * length xs = length-pairs xs in omega arith
@@ -59,7 +59,7 @@ range-back (AtMost hi) = refl
 range-back (Between lo hi) = refl
 
 module _ (ps : List Predicate) (sixteen : length ps ≡ 16) (ranges : List ℕ) (ends : List ℤ) (wide : 32 ≤ length ranges) (long : 32 ≤ length ends) where
-  predicate-back : (k : ℕ) → k < 16 → predicate-from (written (ranges-of ps) ranges) (written (ends-of ps) ends) k ≡ getD ps k none
+  pub predicate-back : (k : ℕ) → k < 16 → predicate-from (written (ranges-of ps) ranges) (written (ends-of ps) ends) k ≡ getD ps k none
   predicate-back k h =
       let x : Predicate = getD ps k none in
       let m = length-pairs (λ (p : Predicate). range-number (p .range)) (λ p. p .channel) ps in

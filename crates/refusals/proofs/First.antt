@@ -17,7 +17,7 @@ either : (b : Bool) → (b ≡ true) ⊎ (b ≡ false)
 either true = inl refl
 either false = inr refl
 
-answers : {b : Bool} → T b → b ≡ true
+pub answers : {b : Bool} → T b → b ≡ true
 answers {b = true} t = refl
 answers {b = false} t = absurd t
 
