@@ -126,7 +126,7 @@ fn each_obeys(scales: &[u64]) -> bool
 }
 
 // The first eight scales of a slice; one of all that is out of range makes them 0, so that it is judged.
-fn scales_from(scales: &[u64]) -> Scales
+pub fn scales_from(scales: &[u64]) -> Scales
     ensures { λ r. ⌜ r ≡ scales-from (now (scales .entry)) ⌝ }
 {
     let mut each = [0u64; MOST_CHANNELS];

@@ -7,19 +7,25 @@ use Rattle.recordings.specs.declared.Verdict.{Verdict}
 use Rattle.recordings.specs.declared.Verdict.the-variants.{Holds, Fails, NotShown}
 use Rattle.recordings.specs.Card.{Card, card}
 use Rattle.recordings.specs.declared.Predicate.{Predicate}
+use Rattle.recordings.specs.declared.Setup.{Setup}
 use Rattle.refusals.specs.First.{unless-refused}
 use Rattle.distances.specs.Answers.{DistanceOutcome}
 use Rattle.margins.specs.Answers.{MarginOutcome as Margin}
 use Rattle.verdicts.specs.Answer.{VerdictOutcome as Judgement}
 use Rattle.sheets.specs.declared.Sheet.{Sheet}
 use Rattle.sheet_rows.specs.declared.Answer.{Answer as Rows}
-use Rattle.flat.specs.Predicates.{range-from}
-use Rattle.flat.specs.Scales.{setup-from}
+use Rattle.flat.specs.Predicates.{range-from, predicates-from}
+use Rattle.flat.specs.Scales.{scales-from, setup-from}
+use Rattle.arrivals.specs.Arrivals.{watch-setup}
 use Rattle.lists.specs.Front.{written}
 
 -- what a requirement is read against: a setup in flat numbers, and a recording
 unfoldable pub card-from : List ℕ → List ℤ → ℕ → List ℕ → List ℕ → List ℤ → Card
 card-from ranges ends channels scales times values = card (setup-from ranges ends channels scales) times values
+
+-- what a watch is made with: the count of scales is its channel count
+abbrev pub watch-setup-from : List ℕ → List ℤ → List ℕ → Setup
+watch-setup-from ranges ends scales = watch-setup (predicates-from ranges ends) (scales-from scales)
 
 -- one predicate in four numbers
 abbrev pub predicate-of : ℕ → ℕ → ℤ → ℤ → Predicate

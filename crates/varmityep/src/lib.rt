@@ -7,6 +7,7 @@ ghost use mathlib.Core.Path.{_≡_};
 ghost use mathlib.Core.List.{[], _∷_};
 ghost use Prim.Native.Nat.{_≤_};
 ghost use lib.ListN.{length};
+ghost use lib.IntN.{pos};
 ghost use Rattle.building.specs.Storing.{cells-of};
 ghost use Rattle.flat.specs.Tables.{table-from};
 ghost use Rattle.flat.specs.Predicates.{ranges-of, ends-of};
@@ -23,7 +24,14 @@ ghost use Rattle.margins.specs.Answers.{margin-outcome, margin-judged, margin-c
 ghost use Rattle.verdicts.specs.Answer.{verdict-outcome, verdict-judged, verdict-cells};
 ghost use Rattle.answers.specs.Answers.{answers-of};
 ghost use Rattle.outcome_lines.specs.Printed.{LINES, lines-of};
-ghost use Rattle.varmityep.specs.Places.{sheet-numbers, row-places, card-from, predicate-of, handed, distance-handed, margin-handed, verdict-number, verdict-handed};
+ghost use Rattle.recordings.specs.Card.{Card};
+ghost use Rattle.tables.specs.declared.Table.{Table};
+ghost use Rattle.refusals.specs.First.{first};
+ghost use Rattle.arrivals.specs.Arrivals.{no-rows, margin-so-far};
+ghost use Rattle.watch_cells.specs.State.{NUMBERS, CELLS};
+ghost use Rattle.watches.specs.Watches.{Roomy, lent-checks, SameBehind};
+ghost use Rattle.watches.specs.Run.{lent, Watching, Took};
+ghost use Rattle.varmityep.specs.Places.{watch-setup-from, sheet-numbers, row-places, card-from, predicate-of, handed, distance-handed, margin-handed, verdict-number, verdict-handed};
 
 // The printed lines of the answers to a whole text, and their length.
 #[no_mangle]
@@ -271,4 +279,54 @@ pub extern "C" fn varmityep_verdict(
     let setup = flat::setup_from(ranges, ends, channels, scales);
     let answer = verdicts::verdict(table, setup, times, values, step, drift, work);
     hand_verdict(answer, result)
+}
+
+// A fresh watch in two slices of VARMITYEP_WATCH_NUMBERS numbers and VARMITYEP_WATCH_CELLS cells; the count of scales is its channel count. A refused making leaves a watch that gives
+// its number to every later call; slices too short for a watch are left as they are.
+#[no_mangle]
+pub extern "C" fn varmityep_watch_fresh(
+    nodes: &[u64],
+    count: u64,
+    ranges: &[u64],
+    ends: &[i64],
+    scales: &[u64],
+    numbers: &mut [u64],
+    cells: &mut [i64],
+) -> u64
+    ensures number { λ r. ⌜ r ≡ first (lent-checks (watch-setup-from (now (ranges .entry)) (now (ends .entry)) (now (scales .entry))) (table-from (now (nodes .entry)) count) (length (now (numbers .entry))) (length (now (cells .entry)))) ⌝ }
+    ensures watch { λ _. ⌜ (Roomy (length (now (numbers .entry))) (length (now (cells .entry))) → Watching (lent (numbers .exit) (cells .exit)) (table-from (now (nodes .entry)) count) (no-rows (watch-setup-from (now (ranges .entry)) (now (ends .entry)) (now (scales .entry))))) ⌝ }
+    ensures short { λ _. ⌜ ((Roomy (length (now (numbers .entry))) (length (now (cells .entry))) → ⊥) → (now (numbers .exit) ≡ now (numbers .entry)) × (now (cells .exit) ≡ now (cells .entry))) ⌝ }
+    ensures behind { λ _. ⌜ SameBehind NUMBERS 0 (now (numbers .entry)) (now (numbers .exit)) × SameBehind CELLS (pos 0) (now (cells .entry)) (now (cells .exit)) ⌝ }
+{
+    let table = flat::table_from(nodes, count);
+    let predicates = flat::predicates_from(ranges, ends);
+    let units = flat::scales_from(scales);
+    watches::make(table, predicates, units, numbers, cells)
+}
+
+// One row more for a watch. A refused one leaves it as it is.
+#[no_mangle]
+pub extern "C" fn varmityep_watch_row(
+    numbers: &mut [u64],
+    cells: &mut [i64],
+    time: u64,
+    values: &[i64],
+) -> u64
+    ensures row { λ r. ⌜ Took (lent (numbers .entry) (cells .entry)) (record { time = time; values = now (values .entry) }) (record { number = r; watch = lent (numbers .exit) (cells .exit) }) ⌝ }
+    ensures short { λ r. ⌜ ((Roomy (length (now (numbers .entry))) (length (now (cells .entry))) → ⊥) → r ≡ 8) ⌝ }
+    ensures behind { λ _. ⌜ SameBehind NUMBERS 0 (now (numbers .entry)) (now (numbers .exit)) × SameBehind CELLS (pos 0) (now (cells .entry)) (now (cells .exit)) ⌝ }
+{
+    watches::take(numbers, cells, time, values)
+}
+
+// The margin of the rows that a watch has accepted.
+#[no_mangle]
+pub extern "C" fn varmityep_watch_margin(numbers: &[u64], cells: &[i64], result: &mut [i64]) -> u64
+    ensures number { λ r. ⌜ ((t : Table) (c : Card) → Watching (lent (numbers .entry) (cells .entry)) t c → r ≡ margin-so-far c t .number) ⌝ }
+    ensures result { λ _. ⌜ ((t : Table) (c : Card) → Watching (lent (numbers .entry) (cells .entry)) t c → now (result .exit) ≡ margin-handed (margin-so-far c t) (now (result .entry))) ⌝ }
+    ensures refused { λ r. ⌜ ((r ≡ 0 → ⊥) → now (result .exit) ≡ now (result .entry)) ⌝ }
+    ensures short { λ r. ⌜ ((Roomy (length (now (numbers .entry))) (length (now (cells .entry))) → ⊥) → r ≡ 8) ⌝ }
+{
+    let answer = watches::tell(numbers, cells);
+    hand_margin(answer, result)
 }

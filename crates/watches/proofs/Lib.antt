@@ -1,3 +1,6 @@
+-- A fresh watch is that of no rows (`Fresh`); what a watch holds gives its answers (`Answers`), and after an accepted row it is that of the longer recording (`Longer`); so its
+-- margin is, after every list of rows, the definition's (`Promises`).
 pub mod Fresh
 pub mod Answers
 pub mod Longer
+pub mod Promises

@@ -3,6 +3,8 @@
 use mathlib.Core.Path.{_≡_}
 use mathlib.Core.List.{List, [], _∷_}
 use Prim.Native.Nat.{ℕ}
+use lib.IntN.{ℤ}
+use denote.Ref.{RefT, now}
 use Rattle.recordings.specs.Card.{Card}
 use Rattle.tables.specs.declared.Table.{Table}
 use Rattle.margins.specs.declared.Answer.{Answer}
@@ -11,6 +13,10 @@ use Rattle.arrivals.specs.Arrivals.{Row, offer-refusal, accepted, margin-so-far
 use Rattle.watches.specs.declared.Watch.{Watch}
 use Rattle.watches.specs.declared.Taken.{Taken}
 use Rattle.watches.specs.Watches.{Watches}
+
+-- a watch that is lent as two slices, as they are at a call's entry or exit
+abbrev pub lent : RefT (List ℕ) → RefT (List ℤ) → Watch
+lent numbers cells = record { numbers = now numbers; cells = now cells }
 
 -- w has taken the rows of c
 abbrev pub Watching : Watch → Table → Card → Type 0

@@ -19,7 +19,7 @@ ghost use Rattle.margins.specs.Answers.{margin-outcome};
 ghost use Rattle.arrivals.specs.Arrivals.{watch-setup, no-rows, with-row, offer-refusal, accepted, margin-so-far};
 ghost use Rattle.watch_cells.specs.State.{NUMBERS, CELLS, HELD-AT};
 ghost use Rattle.watches.specs.Watches.{Kept, Watches, Roomy, room-check, lent-checks, SameBehind, setup-numbers, fresh-numbers};
-ghost use Rattle.watches.specs.Run.{Watching, Took, Told};
+ghost use Rattle.watches.specs.Run.{lent, Watching, Took, Told};
 use margins::Answer;
 use recordings::Predicate;
 use recordings::Scales;
@@ -57,6 +57,7 @@ pub struct Taken {
 impl Watch {
     // A watch is so many numbers and cells long, whatever it has seen.
     pub const NUMBERS: usize = 366;
+
     pub const CELLS: usize = 224;
 
     // A fresh watch has seen no row. A refused making hands back a watch too, which gives its number to every later call.
@@ -118,12 +119,7 @@ fn is_roomy(numbers: usize, cells: usize) -> bool
 }
 
 // The predicates and the scales of a watch.
-fn write_setup(
-    predicates: [Predicate; 16],
-    scales: Scales,
-    numbers: &mut [u64],
-    cells: &mut [i64],
-)
+fn write_setup(predicates: [Predicate; 16], scales: Scales, numbers: &mut [u64], cells: &mut [i64])
     requires { ⌜ NUMBERS ≤ length (now numbers) ⌝ }
     ensures numbers { λ _. ⌜ now (numbers .exit) ≡ setup-numbers predicates scales (now (numbers .entry)) ⌝ }
     ensures cells { λ _. ⌜ now (cells .exit) ≡ written (ends-of predicates) (now (cells .entry)) ⌝ }
@@ -167,7 +163,7 @@ pub fn make(
     cells: &mut [i64],
 ) -> u64
     ensures number { λ r. ⌜ r ≡ first (lent-checks (watch-setup predicates scales) table (length (now (numbers .entry))) (length (now (cells .entry)))) ⌝ }
-    ensures watch { λ _. ⌜ (Roomy (length (now (numbers .entry))) (length (now (cells .entry))) → Watches (now (numbers .exit)) (now (cells .exit)) table (no-rows (watch-setup predicates scales))) ⌝ }
+    ensures watch { λ _. ⌜ (Roomy (length (now (numbers .entry))) (length (now (cells .entry))) → Watching (lent (numbers .exit) (cells .exit)) table (no-rows (watch-setup predicates scales))) ⌝ }
     ensures short { λ _. ⌜ ((Roomy (length (now (numbers .entry))) (length (now (cells .entry))) → ⊥) → (now (numbers .exit) ≡ now (numbers .entry)) × (now (cells .exit) ≡ now (cells .entry))) ⌝ }
     ensures behind { λ _. ⌜ SameBehind NUMBERS 0 (now (numbers .entry)) (now (numbers .exit)) × SameBehind CELLS (pos 0) (now (cells .entry)) (now (cells .exit)) ⌝ }
 {
@@ -196,7 +192,13 @@ fn offer_refusal(numbers: &[u64], time: u64, values: &[i64]) -> u64
     if refusal != 0 {
         return refusal;
     }
-    arrivals::row_refusal(numbers[CHANNELS], numbers[TAKEN], numbers[LAST], time, values)
+    arrivals::row_refusal(
+        numbers[CHANNELS],
+        numbers[TAKEN],
+        numbers[LAST],
+        time,
+        values,
+    )
 }
 
 // The first time, if this row is the first or another was.
@@ -216,7 +218,11 @@ fn seconds(start: u64, time: u64) -> u64
 fn node_count(count: u64) -> usize
     ensures { λ r. ⌜ r ≡ min count NODES ⌝ }
 {
-    if count < 64 { count as usize } else { tables::NODES }
+    if count < 64 {
+        count as usize
+    } else {
+        tables::NODES
+    }
 }
 
 // A row that was accepted.
@@ -236,9 +242,7 @@ fn take_row(numbers: &mut [u64], cells: &mut [i64], time: u64, values: &[i64])
 
 // One row more, in a watch that is lent. A refused one leaves it as it is.
 pub fn take(numbers: &mut [u64], cells: &mut [i64], time: u64, values: &[i64]) -> u64
-    ensures number { λ r. ⌜ ((t : Table) (c : Card) → Watches (now (numbers .entry)) (now (cells .entry)) t c → r ≡ offer-refusal c t (record { time = time; values = now (values .entry) })) ⌝ }
-    ensures watch { λ _. ⌜ ((t : Table) (c : Card) → Watches (now (numbers .entry)) (now (cells .entry)) t c → Watches (now (numbers .exit)) (now (cells .exit)) t (accepted t c (record { time = time; values = now (values .entry) }))) ⌝ }
-    ensures equal { λ r. ⌜ ((r ≡ 0 → ⊥) → (now (numbers .exit) ≡ now (numbers .entry)) × (now (cells .exit) ≡ now (cells .entry))) ⌝ }
+    ensures row { λ r. ⌜ Took (lent (numbers .entry) (cells .entry)) (record { time = time; values = now (values .entry) }) (record { number = r; watch = lent (numbers .exit) (cells .exit) }) ⌝ }
     ensures short { λ r. ⌜ ((Roomy (length (now (numbers .entry))) (length (now (cells .entry))) → ⊥) → r ≡ 8) ⌝ }
     ensures behind { λ _. ⌜ SameBehind NUMBERS 0 (now (numbers .entry)) (now (numbers .exit)) × SameBehind CELLS (pos 0) (now (cells .entry)) (now (cells .exit)) ⌝ }
 {
@@ -275,7 +279,7 @@ fn root_margin(numbers: &[u64], cells: &[i64]) -> i64
 
 // The margin of the rows accepted so far, of a watch that is lent.
 pub fn tell(numbers: &[u64], cells: &[i64]) -> Answer
-    ensures margin { λ r. ⌜ ((t : Table) (c : Card) → Watches (now (numbers .entry)) (now (cells .entry)) t c → margin-outcome r ≡ margin-so-far c t) ⌝ }
+    ensures margin { λ r. ⌜ Told (lent (numbers .entry) (cells .entry)) r ⌝ }
     ensures short { λ r. ⌜ ((Roomy (length (now (numbers .entry))) (length (now (cells .entry))) → ⊥) → margin-outcome r .number ≡ 8) ⌝ }
 {
     if !is_roomy(numbers.len(), cells.len()) {

@@ -63,7 +63,7 @@ enum-told : tie.Need-enum-told
 enum-told c = search needs
 
 returns-4 : tie.Need-returns-4
-returns-4 c = 
+returns-4 c =
     λ p k a.
     let z : toZ w64 (ofZ w64 (c .before .far .given .0 .0)) ≡ c .before .far .given .0 .0 = search needs in
     let r = c .before .before .before .before .before .before .before .before in
@@ -71,7 +71,7 @@ returns-4 c =
     z ∙ distance-found (read r a) (ap (λ (n : ℕ). getD (s .args .numbers .now) (6 + n) 0) (channel r a) ∙ a .scale-is) (rw (channel r a) (back-is (fit (a .in-range)))) (a .proper) (a .scaled) (a .in-range) (c .before .before .before .distance .result) (c .before .before .before .distance .ensures) (c .before .far .given .1)
 
 returns-5 : tie.Need-returns-5
-returns-5 c = 
+returns-5 c =
     λ p k a.
     let r = c .before .before .before .before .before .before .before in
     let s = r .before .before .before in

@@ -22,7 +22,7 @@ extreme-requires-2 : tie.Need-extreme-requires-2
 extreme-requires-2 c κs = search needs
 
 returns : tie.Need-returns
-returns c = 
+returns c =
     let s = c .before .before .before .before in
     rw (c .before .before .before .if1 .taken) (back-ok (c .extreme2 .result) (c .extreme2 .ok) ∙ c .extreme2 .ensures ∙ rw (back-is (s .fits .margin), back-ok (c .before .extreme .result) (c .before .extreme .ok), c .before .extreme .ensures, back-is (s .fits .right), back-is (s .fits .carried), c .before .before .dual .ensures))
 

@@ -25,7 +25,7 @@ opposite-requires : tie.Need-opposite-requires
 opposite-requires c κs = search needs
 
 returns-2 : tie.Need-returns-2
-returns-2 c = 
+returns-2 c =
     λ a b h.
     let s = c .before .before .before .before in
     let o = c .before .before .operand in
@@ -44,7 +44,7 @@ extreme-requires : tie.Need-extreme-requires
 extreme-requires c κs = search needs
 
 returns-3 : tie.Need-returns-3
-returns-3 c = 
+returns-3 c =
     λ a b h.
     let s = c .before .before .before .before .before .before in
     let m = c .before .before .before .before .before .if1 .left in

@@ -64,7 +64,7 @@ range-from-requires : tie.Need-range-from-requires
 range-from-requires c κs = search needs
 
 returns : tie.Need-returns
-returns c = 
+returns c =
     let s = c .before .before .before .before .before .before in
     ap (λ (x : Range). record { channel = getD (s .args .numbers .now) (14 + 2 * s .args .p + 1) 0; range = x }) (c .range-from .ensures ∙ ap₂ (range-from (getD (s .args .numbers .now) (14 + 2 * s .args .p) 0)) (back-ok _ (c .before .before .range-from-arg .given)) (back-ok _ (c .before .range-from-arg2 .given)))
 

@@ -53,12 +53,12 @@ same-length c = c .before .loop .inv .2
 
 returns : tie.Need-returns Inv-loop μ-loop
 returns c = (
-    λ t k r A e K.
-    let s = c .before .before .before in
-    let n : c .before .loop .k ≡ s .args .count = omega arith in
-    rw n at (c .before .loop .inv .3 t k r A e K),
-    c .before .loop .inv .1,
-    )
+  λ t k r A e K.
+      let s = c .before .before .before in
+      let n : c .before .loop .k ≡ s .args .count = omega arith in
+      rw n at (c .before .loop .inv .3 t k r A e K),
+  c .before .loop .inv .1,
+)
 
 pub take-nodes-spec : {M : Type 1} → statement M
 take-nodes-spec =

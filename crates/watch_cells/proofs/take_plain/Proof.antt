@@ -53,18 +53,18 @@ same-length c = search needs
 
 returns : tie.Need-returns
 returns c = (
-    λ since t k r A small n-is u K.
-    let s = c .before .before .before .before .before .before .before .before .before in
-    let lf = c .before .before .before .before .before .before .leaf-value in
-    let so = c .before .before .before .before .so-far in
-    let x = c .before .before .point in
-    let y = c .point2 in
-    let hl = back-ok (lf .result) (lf .ok) in
-    let hs = back-ok (so .result) (so .ok) in
-    rw (back-ok (x .result) (x .ok), back-ok (y .result) (y .ok))
-    (plain-taken A small (n-is ∙ K .planned .nodes (s .args .k) (s .pre .2)) K (lf .result) (so .result) (x .result) (y .result) (lf .ensures .0, lf .ensures .1) (so .ensures ∙ rw hl) u (λ a b h. x .ensures a b h ∙ rw hl) (λ a b h. y .ensures a b h ∙ rw hs)),
-    beyond-kept (c .before .before .before .before .before .before .before .before .before .args .cells .now) (c .before .before .before .before .before .before .before .before .before .args .k) 0 1 _ _ (omega arith) (omega arith) (c .before .before .before .before .before .before .before .before .before .pre .2),
-    )
+  λ since t k r A small n-is u K.
+      let s = c .before .before .before .before .before .before .before .before .before in
+      let lf = c .before .before .before .before .before .before .leaf-value in
+      let so = c .before .before .before .before .so-far in
+      let x = c .before .before .point in
+      let y = c .point2 in
+      let hl = back-ok (lf .result) (lf .ok) in
+      let hs = back-ok (so .result) (so .ok) in
+      rw (back-ok (x .result) (x .ok), back-ok (y .result) (y .ok))
+      (plain-taken A small (n-is ∙ K .planned .nodes (s .args .k) (s .pre .2)) K (lf .result) (so .result) (x .result) (y .result) (lf .ensures .0, lf .ensures .1) (so .ensures ∙ rw hl) u (λ a b h. x .ensures a b h ∙ rw hl) (λ a b h. y .ensures a b h ∙ rw hs)),
+  beyond-kept (c .before .before .before .before .before .before .before .before .before .args .cells .now) (c .before .before .before .before .before .before .before .before .before .args .k) 0 1 _ _ (omega arith) (omega arith) (c .before .before .before .before .before .before .before .before .before .pre .2),
+)
 
 pub take-plain-spec : {M : Type 1} → statement M
 take-plain-spec =

@@ -79,34 +79,34 @@ same-length c = search needs
 
 returns : tie.Need-returns
 returns c = (
-    λ numbers values t k r A small n-is u K.
-    let s = c .before .before .before .before .before .before .before .before .before .before .before .before .before .before .before in
-    let ex = c .before .before .before .before .before .before .before .before .before .before .before .before .before .before .extremum-of .ensures in
-    let du = c .before .before .before .before .before .before .before .before .before .before .before .before .before .dual .ensures in
-    let o = c .before .before .before .before .before .before .before .before .before .before .before .over-nothing in
-    let m = c .before .before .before .before .before .before .before .before .before .before .so-far in
-    let p = c .before .before .before .before .before .before .before .before .over-nothing2 in
-    let x = c .before .before .before .before .before .before .before .so-far2 in
-    let l = c .before .before .before .before .before .left-operand in
-    let q = c .before .before .before .right-operand in
-    let w = c .before .before .in-window in
-    let y = c .before .margin-after in
-    let z = c .extreme in
-    let node-is = n-is ∙ K .planned .nodes (s .args .k) (s .pre .1) in
-    let e = operator-extremum (operator (s .args .node .kind)) in
-    let other : c .before .before .before .before .before .before .before .before .before .before .before .before .before .dual .result ≡ dual e = du ∙ ap dual ex in
-    let bx = back-ok (x .result) (x .ok) in
-    let bl = back-ok (l .result) (l .ok) in
-    let both = both-momentary A small node-is K u in
-    let hy : back (y .result) ≡ margin-after e (m .result) (x .result) (q .result) (w .result) = back-ok (y .result) (y .ok) ∙ y .ensures ∙ rw (back-ok (m .result) (m .ok), bx, back-ok (q .result) (q .ok), ex) in
-    let hz : back (z .result) ≡ margin-extreme (dual e) (x .result) (l .result) = back-ok (z .result) (z .ok) ∙ z .ensures ∙ rw (bx, bl, other) in
-    rw (hy, hz)
-    (timed-taken A small node-is K u (m .result) (x .result) (l .result) (q .result) (w .result) (m .ensures ∙ rw (back-ok (o .result) (o .ok), o .ensures, ex)) (x .ensures ∙ rw (back-ok (p .result) (p .ok), p .ensures, other))
-    (left-value A small node-is K u (l .result) _ refl (both .0) (l .ensures .0) (λ h. l .ensures .1 h ∙ rw other))
-    (right-value A small node-is K u (q .result) _ refl (both .1) (q .ensures .0) (q .ensures .1))
-    (w .ensures)),
-    beyond-kept (c .before .before .before .before .before .before .before .before .before .before .before .before .before .before .before .args .cells .now) (c .before .before .before .before .before .before .before .before .before .before .before .before .before .before .before .args .k) 1 2 _ _ (omega arith) (omega arith) (c .before .before .before .before .before .before .before .before .before .before .before .before .before .before .before .pre .1),
-    )
+  λ numbers values t k r A small n-is u K.
+      let s = c .before .before .before .before .before .before .before .before .before .before .before .before .before .before .before in
+      let ex = c .before .before .before .before .before .before .before .before .before .before .before .before .before .before .extremum-of .ensures in
+      let du = c .before .before .before .before .before .before .before .before .before .before .before .before .before .dual .ensures in
+      let o = c .before .before .before .before .before .before .before .before .before .before .before .over-nothing in
+      let m = c .before .before .before .before .before .before .before .before .before .before .so-far in
+      let p = c .before .before .before .before .before .before .before .before .over-nothing2 in
+      let x = c .before .before .before .before .before .before .before .so-far2 in
+      let l = c .before .before .before .before .before .left-operand in
+      let q = c .before .before .before .right-operand in
+      let w = c .before .before .in-window in
+      let y = c .before .margin-after in
+      let z = c .extreme in
+      let node-is = n-is ∙ K .planned .nodes (s .args .k) (s .pre .1) in
+      let e = operator-extremum (operator (s .args .node .kind)) in
+      let other : c .before .before .before .before .before .before .before .before .before .before .before .before .before .dual .result ≡ dual e = du ∙ ap dual ex in
+      let bx = back-ok (x .result) (x .ok) in
+      let bl = back-ok (l .result) (l .ok) in
+      let both = both-momentary A small node-is K u in
+      let hy : back (y .result) ≡ margin-after e (m .result) (x .result) (q .result) (w .result) = back-ok (y .result) (y .ok) ∙ y .ensures ∙ rw (back-ok (m .result) (m .ok), bx, back-ok (q .result) (q .ok), ex) in
+      let hz : back (z .result) ≡ margin-extreme (dual e) (x .result) (l .result) = back-ok (z .result) (z .ok) ∙ z .ensures ∙ rw (bx, bl, other) in
+      rw (hy, hz)
+      (timed-taken A small node-is K u (m .result) (x .result) (l .result) (q .result) (w .result) (m .ensures ∙ rw (back-ok (o .result) (o .ok), o .ensures, ex)) (x .ensures ∙ rw (back-ok (p .result) (p .ok), p .ensures, other))
+      (left-value A small node-is K u (l .result) _ refl (both .0) (l .ensures .0) (λ h. l .ensures .1 h ∙ rw other))
+      (right-value A small node-is K u (q .result) _ refl (both .1) (q .ensures .0) (q .ensures .1))
+      (w .ensures)),
+  beyond-kept (c .before .before .before .before .before .before .before .before .before .before .before .before .before .before .before .args .cells .now) (c .before .before .before .before .before .before .before .before .before .before .before .before .before .before .before .args .k) 1 2 _ _ (omega arith) (omega arith) (c .before .before .before .before .before .before .before .before .before .before .before .before .before .before .before .pre .1),
+)
 
 pub take-timed-spec : {M : Type 1} → statement M
 take-timed-spec =

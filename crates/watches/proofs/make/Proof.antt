@@ -27,13 +27,13 @@ is-roomy-requires : tie.Need-is-roomy-requires
 is-roomy-requires c κs = search needs
 
 returns : tie.Need-returns
-returns c = 
+returns c =
     let s = c .before .before .before .before .before .args in
     let m = c .before .before .before .making-refusal .ensures in
     (m ∙ sym (first-stays (making-checks (no-rows (watch-setup (s .predicates) (s .scales))) (s .table)) _ (λ z. c .if2 .taken (m ∙ z))), (λ z. absurd (short (c .before) z), (λ z. (refl, refl), (record { same = λ i h. refl }, record { same = λ i h. refl }))))
 
 returns-2 : tie.Need-returns-2
-returns-2 c = 
+returns-2 c =
     let s = c .before .before .before .before .before .args in
     let m = c .before .before .before .making-refusal .ensures in
     (sym (first-here (making-checks (no-rows (watch-setup (s .predicates) (s .scales))) (s .table)) (room-check (length (s .numbers .now)) (length (s .cells .now))) [] tt (sym m ∙ c .if2 .left) (sym (c .before .before .is-roomy .ensures) ∙ not-true (c .before .before .is-roomy .result) (c .before .if1 .taken))), (λ z. absurd (short (c .before) z), (λ z. (refl, refl), (record { same = λ i h. refl }, record { same = λ i h. refl }))))
@@ -48,14 +48,13 @@ same-length-2 : tie.Need-same-length-2
 same-length-2 c = search needs
 
 returns-3 : tie.Need-returns-3
-returns-3 c = 
+returns-3 c =
     let s = c .before .before .before .before .before .before .before .before .before .before .args in
     let m = c .before .before .before .before .before .before .before .before .making-refusal .ensures in
     let f = c .before .before .before .write-fresh .ensures in
     let o = room (c .before .before .before .before .before .before) in
     let n = f .1 .1 .0 in
-    let p = f .1 .1 .1 in
-    (
+    let p = f .1 .1 .1 in (
       m ∙ sym (lent-first (watch-setup (s .predicates) (s .scales)) (s .table) _ _ o),
       (
         λ z. rw (f .0, f .1 .0) (fresh-watches (c .before .before .before .before .before .before .before .before .making-refusal .result) (s .table) (s .predicates) (s .scales) (s .numbers .now) (s .cells .now) n p (o .long) (o .wide) m),

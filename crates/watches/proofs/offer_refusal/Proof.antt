@@ -29,7 +29,7 @@ row-refusal-requires : tie.Need-row-refusal-requires
 row-refusal-requires c κs = search needs
 
 returns-2 : tie.Need-returns-2
-returns-2 c = 
+returns-2 c =
     λ cells t k W.
     let e = c .before .before .before .before .if1 .left in
     let K = kept-now W e in

@@ -24,7 +24,7 @@ shared-slice-copy-out-result : tie.Need-shared-slice-copy-out-result
 shared-slice-copy-out-result c = search needs
 
 returns : tie.Need-returns
-returns c = 
+returns c =
     λ t k K R some.
     let s = c .before .before .before .before in
     let n = K .planned .count in

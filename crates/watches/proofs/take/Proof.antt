@@ -27,9 +27,9 @@ is-roomy-requires : tie.Need-is-roomy-requires
 is-roomy-requires c κs = search needs
 
 returns : tie.Need-returns
-returns c = 
+returns c =
     let h = cramped _ _ (sym (c .before .is-roomy .ensures) ∙ not-true (c .before .is-roomy .result) (c .if1 .taken)) in
-    (λ t k W. absurd (h (watch-roomy W)), (λ t k W. absurd (h (watch-roomy W)), (λ z. (refl, refl), (λ z. refl, (record { same = λ i h. refl }, record { same = λ i h. refl })))))
+    (record { equal = λ z. refl; number = λ t k W. absurd (h (watch-roomy W)); watch = λ t k W. absurd (h (watch-roomy W)) }, (λ z. refl, (record { same = λ i h. refl }, record { same = λ i h. refl })))
 
 offer-refusal-requires : tie.Need-offer-refusal-requires
 offer-refusal-requires c κs = room (c .before) .long
@@ -38,10 +38,10 @@ same-length : tie.Need-same-length
 same-length c = search needs
 
 returns-2 : tie.Need-returns-2
-returns-2 c = 
+returns-2 c =
     let s = c .before .before .before .before .before .before in
     let o = c .before .offer-refusal .ensures in
-    (λ t k W. o (s .args .cells .now) t k W, (λ t k W. refused-watches W (row-of s) (λ z. c .if2 .taken (o (s .args .cells .now) t k W ∙ z)), (λ z. (refl, refl), (λ z. absurd (z (room (c .before .before .before))), (record { same = λ i h. refl }, record { same = λ i h. refl })))))
+    (record { equal = λ z. refl; number = o (s .args .cells .now); watch = λ t k W. refused-watches W (row-of s) (λ z. c .if2 .taken (o (s .args .cells .now) t k W ∙ z)) }, (λ z. absurd (z (room (c .before .before .before))), (record { same = λ i h. refl }, record { same = λ i h. refl })))
 
 take-row-requires : tie.Need-take-row-requires
 take-row-requires c κs = let m = room (c .before .before .before .before .before) in (m .long, m .wide)
@@ -53,10 +53,10 @@ same-length-3 : tie.Need-same-length-3
 same-length-3 c = search needs
 
 returns-3 : tie.Need-returns-3
-returns-3 c = 
+returns-3 c =
     let s = c .before .before .before .before .before .before .before .before .before .before .before .before in
     let t3 = c .before .before .before .take-row .ensures in
-    (λ t k W. sym (none (c .before .before .before .before .before .before) t k W), (λ t k W. subst (Watches _ _ t) (sym (unless-none (with-row k (row-of s)) k (none (c .before .before .before .before .before .before) t k W))) (t3 .0 t k W (none (c .before .before .before .before .before .before) t k W)), (λ z. absurd (z refl), (λ z. absurd (z (room (c .before .before .before .before .before .before .before .before .before))), t3 .1))))
+    (record { equal = λ z. absurd (z refl); number = λ t k W. sym (none (c .before .before .before .before .before .before) t k W); watch = λ t k W. subst (Watches _ _ t) (sym (unless-none (with-row k (row-of s)) k (none (c .before .before .before .before .before .before) t k W))) (t3 .0 t k W (none (c .before .before .before .before .before .before) t k W)) }, (λ z. absurd (z (room (c .before .before .before .before .before .before .before .before .before))), t3 .1))
 
 pub take-spec : {M : Type 1} → statement M
 take-spec =

@@ -39,7 +39,7 @@ root-margin-requires : tie.Need-root-margin-requires
 root-margin-requires c κs = let m = room (c .before .before .before .before) in (m .long, m .wide)
 
 returns-4 : tie.Need-returns-4
-returns-4 c = 
+returns-4 c =
     let m = c .root-margin in
     (λ t k W. ap (λ (x : ℤ). margin-outcome (Margin x)) (back-ok (m .result) (m .ok)) ∙ told-margin W (c .before .before .before .if2 .left) (c .before .if3 .left) (m .ensures), λ z. absurd (z (room (c .before .before .before .before .before))))
 
