@@ -7,12 +7,14 @@
  * valid for its count, and a slice that is written must share no place with another of the call.
  *
  * No function keeps a pointer, allocates, or has a state: calls on several threads are
- * independent, and equal inputs give equal answers.
+ * independent, and equal inputs give equal answers. A watch is a state, but stands in the caller's
+ * own slices.
  *
  * A refusal is its number below, 0 for none: what a function returns, or, of varmityep_write, a
  * member of what it returns. Of several that apply, the first in that list is given, whatever the
  * size of its number. Under a refusal nothing is written: every slice keeps its contents.
  * varmityep_answer alone gives no number, and writes its lines under a refusal too: they say it.
+ * varmityep_watch_fresh writes a watch under a refusal too: it gives that number to every later call.
  */
 #ifndef VARMITYEP_H
 #define VARMITYEP_H
@@ -36,6 +38,9 @@ extern "C" {
 #define VARMITYEP_LINES 2688 /* lines, in bytes: no answer is longer */
 /* text of a written requirement, in bytes: 64 nodes of at most 26, so none is longer */
 #define VARMITYEP_REQUIREMENT_BYTES 1664
+/* numbers and cells of a watch: shorter ones hold none, and are refused by 8 */
+#define VARMITYEP_WATCH_NUMBERS 366
+#define VARMITYEP_WATCH_CELLS 224
 
 /* Limits of what is accepted. */
 #define VARMITYEP_MOST_BYTES 65536
@@ -72,13 +77,16 @@ enum {
     VARMITYEP_PREDICATE = 4,
     /* a scale not 1 to 1,000 */
     VARMITYEP_SCALE = 13,
-    /* no sample, over 4,096, values not rows x channels long, or scales not one for each channel */
+    /* a table to be watched: a temporal operator (kinds 5 to 8) stands inside another, in any node */
+    VARMITYEP_NESTED = 16,
+    /* no sample, over 4,096, values not rows x channels long, or scales not one for each channel; of
+       a watch: values not one for each channel, or no row accepted yet */
     VARMITYEP_SAMPLES = 5,
     /* times not rising, or one above 2,000,000,000 */
     VARMITYEP_TIMES = 6,
     /* a value beyond 1,000,000,000, either sign */
     VARMITYEP_VALUES = 7,
-    /* work too short */
+    /* work too short, or the slices of a watch */
     VARMITYEP_WORK = 8,
     /* step not 1 to 1,000,000,000, or drift above 1,000,000,000 */
     VARMITYEP_STEP_DRIFT = 9,
@@ -235,6 +243,53 @@ uint64_t varmityep_verdict(const uint64_t *nodes, size_t nodes_len, uint64_t cou
                            uint64_t step, uint64_t drift,
                            int64_t *work, size_t work_len,
                            int64_t *result, size_t result_len);
+
+/*
+ * A place for a watch: a requirement's margin while the card runs, one row after the other. It
+ * stores no row, and takes any count of them, also above VARMITYEP_MOST_ROWS. What stands in it is
+ * the library's own; it has no pointer in it, and a copy is a watch by itself.
+ */
+typedef struct varmityep_watch {
+    uint64_t numbers[VARMITYEP_WATCH_NUMBERS];
+    int64_t cells[VARMITYEP_WATCH_CELLS];
+} varmityep_watch;
+
+/*
+ * Makes a fresh watch, which has seen no row, for a table (nodes: VARMITYEP_NODES), its predicates
+ * and scales; scales_len is the count of channels. Refusal 0, 3, 4 (scales_len not 1 to 8, or a
+ * predicate), 13, 16 (every node is looked at) or, after these, 8 (numbers or cells too short).
+ * Writes the watch into numbers (VARMITYEP_WATCH_NUMBERS) and cells (VARMITYEP_WATCH_CELLS), places
+ * behind it keep their contents. Under 3, 4, 13 and 16 it writes one too, if both have the room: a
+ * watch that gives the same number to every row and to its margin.
+ */
+uint64_t varmityep_watch_fresh(const uint64_t *nodes, size_t nodes_len, uint64_t count,
+                               const uint64_t *ranges, size_t ranges_len,
+                               const int64_t *ends, size_t ends_len,
+                               const uint64_t *scales, size_t scales_len,
+                               uint64_t *numbers, size_t numbers_len,
+                               int64_t *cells, size_t cells_len);
+
+/*
+ * Offers a row to a watch: refusal 0, 8 (numbers or cells too short to hold a watch, in which case
+ * nothing else is judged), the number that refused the making, 5 (values_len is not the count of
+ * channels), 6 (time is not later than that of the last row accepted, or above 2,000,000,000) or 7.
+ * Under a refusal the watch is unchanged: the row is as if it had not come.
+ * Where no call of varmityep_watch_fresh made what stands in numbers and cells, here and in
+ * varmityep_watch_margin, any answer may come, but nothing beyond what is lent is read or written.
+ */
+uint64_t varmityep_watch_row(uint64_t *numbers, size_t numbers_len,
+                             int64_t *cells, size_t cells_len,
+                             uint64_t time,
+                             const int64_t *values, size_t values_len);
+
+/*
+ * The margin of the recording that is made of the rows accepted so far: refusal 0, 8 (as above), the
+ * number that refused the making, or 5 before the first row accepted. It is what varmityep_margin
+ * gives for these rows, where they are not more than that takes. Writes the margin at result[0].
+ */
+uint64_t varmityep_watch_margin(const uint64_t *numbers, size_t numbers_len,
+                                const int64_t *cells, size_t cells_len,
+                                int64_t *result, size_t result_len);
 
 #ifdef __cplusplus
 }

@@ -3,8 +3,9 @@
 //! [`answer`] gives the lines that the program `margin` prints for a sheet. The parts of that answer
 //! can be taken one by one: [`read_sheet`], [`read_requirement`], [`read_rows`], [`margin()`] and
 //! [`verdict`]; `examples/judge.rs` puts them together. [`Table::write`] gives a requirement's text
-//! for a sheet that is being made, as `examples/write.rs` does. What an input is refused for is a
-//! [`Refusal`].
+//! for a sheet that is being made, as `examples/write.rs` does. A [`Watch`] gives the margin while
+//! the rows come, as `examples/watch.rs` does: its size is fixed, 366 + 224 words of 8 bytes, since it
+//! stores no row. What an input is refused for is a [`Refusal`].
 //!
 //! Here numbers are only brought into and out of the flat form that the library takes. Whatever is
 //! decided is decided in the library, which is proved.
@@ -18,12 +19,14 @@ mod predicate;
 mod refusal;
 mod sheet;
 mod table;
+mod watch;
 
 pub use judge::{margin, verdict, Judgement, Recording, Verdict, MOST_SCALE, TOP};
 pub use predicate::{Predicate, Predicates, Range};
 pub use refusal::Refusal;
 pub use sheet::{read_rows, read_sheet, Counts, Sheet, MOST_REQUIREMENTS};
 pub use table::{kind, read_requirement, Node, Table, MOST_REQUIREMENT_BYTES, NO_END};
+pub use watch::Watch;
 
 /// Measured rows that [`answer`] has room for; more are refused by 5.
 pub const ANSWER_ROWS: usize = 2_048;

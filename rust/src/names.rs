@@ -108,12 +108,50 @@ extern "C" {
         result: *mut i64,
         result_len: usize,
     ) -> u64;
+
+    fn varmityep_watch_fresh(
+        nodes: *const u64,
+        nodes_len: usize,
+        count: u64,
+        ranges: *const u64,
+        ranges_len: usize,
+        ends: *const i64,
+        ends_len: usize,
+        scales: *const u64,
+        scales_len: usize,
+        numbers: *mut u64,
+        numbers_len: usize,
+        cells: *mut i64,
+        cells_len: usize,
+    ) -> u64;
+
+    fn varmityep_watch_row(
+        numbers: *mut u64,
+        numbers_len: usize,
+        cells: *mut i64,
+        cells_len: usize,
+        time: u64,
+        values: *const i64,
+        values_len: usize,
+    ) -> u64;
+
+    fn varmityep_watch_margin(
+        numbers: *const u64,
+        numbers_len: usize,
+        cells: *const i64,
+        cells_len: usize,
+        result: *mut i64,
+        result_len: usize,
+    ) -> u64;
 }
 
 /// No answer is longer, in bytes.
 pub const LINES: usize = 2_688;
 /// No written requirement is longer, in bytes.
 pub const REQUIREMENT_BYTES: usize = 1_664;
+/// Numbers and cells that a watch stands in.
+pub const WATCH_NUMBERS: usize = 366;
+pub const WATCH_CELLS: usize = 224;
 
 /// What a requirement's writing hands back: the refusal, 0 for none, and the length of the text.
 #[repr(C)]
@@ -256,4 +294,60 @@ pub fn margin(call: &Call, work: &mut [i64], result: &mut [i64]) -> u64 {
 
 pub fn verdict(call: &Call, step: u64, drift: u64, work: &mut [i64], result: &mut [i64]) -> u64 {
     ask!(varmityep_verdict, call, [step, drift], work, result)
+}
+
+/// What a watch is made of: one scale for each channel.
+pub struct Making<'a> {
+    pub nodes: &'a [u64],
+    pub count: u64,
+    pub ranges: &'a [u64],
+    pub ends: &'a [i64],
+    pub scales: &'a [u64],
+}
+
+pub fn watch_fresh(making: &Making, numbers: &mut [u64], cells: &mut [i64]) -> u64 {
+    unsafe {
+        varmityep_watch_fresh(
+            making.nodes.as_ptr(),
+            making.nodes.len(),
+            making.count,
+            making.ranges.as_ptr(),
+            making.ranges.len(),
+            making.ends.as_ptr(),
+            making.ends.len(),
+            making.scales.as_ptr(),
+            making.scales.len(),
+            numbers.as_mut_ptr(),
+            numbers.len(),
+            cells.as_mut_ptr(),
+            cells.len(),
+        )
+    }
+}
+
+pub fn watch_row(numbers: &mut [u64], cells: &mut [i64], time: u64, values: &[i64]) -> u64 {
+    unsafe {
+        varmityep_watch_row(
+            numbers.as_mut_ptr(),
+            numbers.len(),
+            cells.as_mut_ptr(),
+            cells.len(),
+            time,
+            values.as_ptr(),
+            values.len(),
+        )
+    }
+}
+
+pub fn watch_margin(numbers: &[u64], cells: &[i64], result: &mut [i64]) -> u64 {
+    unsafe {
+        varmityep_watch_margin(
+            numbers.as_ptr(),
+            numbers.len(),
+            cells.as_ptr(),
+            cells.len(),
+            result.as_mut_ptr(),
+            result.len(),
+        )
+    }
 }

@@ -15,6 +15,7 @@ pub enum Refusal {
     Room = 15,
     Predicates = 4,
     Scales = 13,
+    Nested = 16,
     Samples = 5,
     Times = 6,
     Values = 7,
@@ -26,7 +27,7 @@ pub enum Refusal {
 
 impl Refusal {
     /// Every refusal, in the order in which they count.
-    pub const ALL: [Refusal; 15] = [
+    pub const ALL: [Refusal; 16] = [
         Refusal::Text,
         Refusal::TooManyRequirements,
         Refusal::Requirement,
@@ -35,6 +36,7 @@ impl Refusal {
         Refusal::Room,
         Refusal::Predicates,
         Refusal::Scales,
+        Refusal::Nested,
         Refusal::Samples,
         Refusal::Times,
         Refusal::Values,
@@ -84,6 +86,9 @@ impl fmt::Display for Refusal {
                  end out of range or lo > hi"
             }
             Refusal::Scales => "a scale out of range",
+            Refusal::Nested => {
+                "a table to be watched in which a temporal operator stands inside another"
+            }
             Refusal::Samples => {
                 "no sample, over 4,096, values not rows × channels long, or scales not one for \
                  each channel"

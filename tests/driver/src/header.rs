@@ -2,7 +2,7 @@
 //! driver's and the proved source's; its functions are those that Rust declares.
 
 use crate::library::{COUNTS, ENDS, NODES, NUMBERS, PLACES, RANGES, RESULT, SCALES};
-use crate::names::{Written, LINES, REQUIREMENT_BYTES};
+use crate::names::{Written, LINES, REQUIREMENT_BYTES, WATCH_CELLS, WATCH_NUMBERS};
 use peer::limits::*;
 use peer::refusal::ORDER;
 use std::mem::offset_of;
@@ -44,6 +44,8 @@ fn lengths_and_limits_are_those_of_the_header() {
         ("RESULT", RESULT),
         ("LINES", LINES),
         ("REQUIREMENT_BYTES", REQUIREMENT_BYTES),
+        ("WATCH_NUMBERS", WATCH_NUMBERS),
+        ("WATCH_CELLS", WATCH_CELLS),
         ("MOST_BYTES", MOST_BYTES),
         ("MOST_ROWS", MOST_SAMPLES as usize),
         ("MOST_CHANNELS", MOST_CHANNELS as usize),
@@ -111,6 +113,20 @@ fn what_writing_hands_back_is_laid_out_as_in_c() {
     assert_eq!((offset_of!(Written, number), offset_of!(Written, length)), (0, 8));
 }
 
+#[test]
+fn a_place_for_a_watch_has_its_numbers_and_cells() {
+    let (_, list) = HEADER.split_once("typedef struct varmityep_watch {").expect("the struct");
+    let (list, name) = list.split_once("} ").expect("its end");
+    assert_eq!(
+        list.split_whitespace().collect::<Vec<_>>(),
+        [
+            "uint64_t", "numbers[VARMITYEP_WATCH_NUMBERS];", "int64_t",
+            "cells[VARMITYEP_WATCH_CELLS];"
+        ]
+    );
+    assert!(name.starts_with("varmityep_watch;"));
+}
+
 /// Each function's name and those of its parameters, by name: what stands in parentheses right behind
 /// a name of the library.
 fn functions(
@@ -138,7 +154,13 @@ fn functions_have_the_parameters_that_rust_declares() {
     let declared = functions(HEADER, " varmityep_", in_c);
     assert_eq!(declared, functions(NAMES, "fn varmityep_", in_rust));
     let names: Vec<&str> = declared.iter().map(|(name, _)| name.as_str()).collect();
-    let all = ["answer", "distance", "margin", "requirement", "rows", "sheet", "verdict", "write"];
-    assert_eq!(names, all);
-    assert_eq!(declared[7].1, ["nodes", "nodes_len", "count", "text", "text_len"]);
+    assert_eq!(
+        names,
+        [
+            "answer", "distance", "margin", "requirement", "rows", "sheet", "verdict",
+            "watch_fresh", "watch_margin", "watch_row", "write",
+        ]
+    );
+    let last = &declared[names.len() - 1];
+    assert_eq!(last.1, ["nodes", "nodes_len", "count", "text", "text_len"]);
 }

@@ -1,4 +1,4 @@
-//! Document 01 with Changes 1, 3, 4, 5 and 6 of document 02 as literal definitions.
+//! Document 01 with Changes 1, 3, 4, 5, 6 and 7 of document 02 as literal definitions.
 //!
 //! Nothing here is fast and nothing is shared with the proved library: each definition is read
 //! from the papers anew, each largest and smallest is taken afresh, so that an agreement of the
@@ -32,8 +32,12 @@ pub mod rows;
 pub mod sheet;
 pub mod writer;
 
+// A margin while the card runs.
+pub mod watch;
+
 // Second ways to the same answers, which the driver compares with the first.
 pub mod between;
+pub mod carried;
 pub mod levels;
 
 pub mod generate;
@@ -42,6 +46,8 @@ pub mod generate;
 mod scales;
 #[cfg(test)]
 mod several;
+#[cfg(test)]
+mod watching;
 #[cfg(test)]
 mod worked;
 #[cfg(test)]

@@ -21,12 +21,12 @@ pub struct Margins<'a> {
 }
 
 /// "A largest over nothing is −TOP."
-fn largest(numbers: impl Iterator<Item = i64>) -> i64 {
+pub fn largest(numbers: impl Iterator<Item = i64>) -> i64 {
     numbers.max().unwrap_or(-TOP)
 }
 
 /// "A smallest over nothing is TOP."
-fn smallest(numbers: impl Iterator<Item = i64>) -> i64 {
+pub fn smallest(numbers: impl Iterator<Item = i64>) -> i64 {
     numbers.min().unwrap_or(TOP)
 }
 

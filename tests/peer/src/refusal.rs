@@ -10,6 +10,7 @@ pub enum Refusal {
     Room,
     Predicates,
     Scales,
+    Nested,
     Samples,
     Times,
     Values,
@@ -30,6 +31,7 @@ impl Refusal {
             Refusal::Room => 15,
             Refusal::Predicates => 4,
             Refusal::Scales => 13,
+            Refusal::Nested => 16,
             Refusal::Samples => 5,
             Refusal::Times => 6,
             Refusal::Values => 7,
@@ -42,11 +44,12 @@ impl Refusal {
 }
 
 /// The numbers in the order in which they count, which is not that of their size.
-pub const ORDER: [u64; 15] = [1, 12, 2, 3, 14, 15, 4, 13, 5, 6, 7, 8, 9, 10, 11];
+pub const ORDER: [u64; 16] = [1, 12, 2, 3, 14, 15, 4, 13, 16, 5, 6, 7, 8, 9, 10, 11];
 
-/// Those of them that a sheet may be refused by: 14 and 15 are for tables that are written out.
+/// Those of them that a sheet may be refused by: 14 and 15 are for tables that are written out, 16 for
+/// tables that are watched.
 pub fn of_a_sheet() -> Vec<u64> {
-    ORDER.into_iter().filter(|number| ![14, 15].contains(number)).collect()
+    ORDER.into_iter().filter(|number| ![14, 15, 16].contains(number)).collect()
 }
 
 /// The one of these numbers that counts first, 0 where there is none.

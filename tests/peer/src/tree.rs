@@ -44,4 +44,24 @@ impl Tree {
             | Tree::Release(left, _, right) => 1 + left.size() + right.size(),
         }
     }
+
+    /// What stands right inside: left, or left and right.
+    pub fn operands(&self) -> Vec<&Shared> {
+        match self {
+            Tree::Atom(_) => Vec::new(),
+            Tree::Not(left) | Tree::Eventually(_, left) | Tree::Always(_, left) => vec![left],
+            Tree::And(left, right)
+            | Tree::Or(left, right)
+            | Tree::Until(left, _, right)
+            | Tree::Release(left, _, right) => vec![left, right],
+        }
+    }
+
+    /// Whether it is itself a temporal operator.
+    pub fn is_temporal(&self) -> bool {
+        match self {
+            Tree::Atom(_) | Tree::Not(_) | Tree::And(..) | Tree::Or(..) => false,
+            Tree::Until(..) | Tree::Release(..) | Tree::Eventually(..) | Tree::Always(..) => true,
+        }
+    }
 }

@@ -69,7 +69,8 @@ fn lent(rng: &mut Prng, cells: usize) -> usize {
     }
 }
 
-fn sound(rng: &mut Prng) -> Call {
+/// A call that nothing is wrong with.
+pub(super) fn sound(rng: &mut Prng) -> Call {
     let channels = 1 + rng.below(3) as u64;
     let rows = if rng.once_in(12) { 40 + rng.below(30) } else { 1 + rng.below(12) };
     let step = rng.pick(&[1, 1, 2, 3, 10]);
@@ -149,7 +150,7 @@ pub(super) fn any_table(rng: &mut Prng, taste: &Taste) -> Table {
     Table { nodes }
 }
 
-fn leaf(rng: &mut Prng, taste: &Taste) -> Node {
+pub(super) fn leaf(rng: &mut Prng, taste: &Taste) -> Node {
     if rng.once_in(10) {
         Node { kind: kind::TRUE, ..Node::default() }
     } else {
@@ -219,7 +220,7 @@ fn two_rows(call: &mut Call) {
     }
 }
 
-fn break_table(rng: &mut Prng, call: &mut Call) {
+pub(super) fn break_table(rng: &mut Prng, call: &mut Call) {
     let nodes = &mut call.table.nodes;
     let place = rng.below(nodes.len());
     nodes[place] = broken_node(rng, place as u64);
@@ -266,6 +267,10 @@ fn break_channels_or_predicate(rng: &mut Prng, call: &mut Call) {
         call.recording.channels = rng.pick(&[0, 9, u64::MAX]);
         return;
     }
+    break_predicate(rng, call);
+}
+
+pub(super) fn break_predicate(rng: &mut Prng, call: &mut Call) {
     let channels = call.recording.channels;
     let number = rng.below(16);
     let set = Predicate { channel: 0, range: Range::Free };

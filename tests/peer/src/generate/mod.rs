@@ -14,4 +14,5 @@ pub mod scales;
 pub mod several;
 pub mod sheets;
 pub mod tables;
+pub mod watches;
 pub mod windows;

@@ -82,7 +82,8 @@ pub fn unshared(table: &Table) -> u64 {
     uses(table).into_iter().fold(0, u64::saturating_add)
 }
 
-fn children(node: &Node) -> Vec<u64> {
+/// The nodes that it names.
+pub fn children(node: &Node) -> Vec<u64> {
     match node.kind {
         kind::NOT | kind::EVENTUALLY | kind::ALWAYS => vec![node.left],
         kind::AND | kind::OR | kind::UNTIL | kind::RELEASE => vec![node.left, node.right],
