@@ -3,9 +3,13 @@
 use crate::flat::{flat_nodes, flat_predicates, Peer};
 use crate::library::{Library, COUNTS, ENDS, NODES, NUMBERS, PLACES, RANGES, RESULT, SCALES};
 use crate::names::{self, Written, LINES};
+use crate::play::{play, unlike, Plan, Step};
 use crate::program::Program;
 use peer::generate::calls::Call;
+use peer::generate::watches::Watching;
 use peer::limits::MOST_SCALE;
+use peer::predicate::Predicates;
+use peer::table::Table;
 use std::fmt::Debug;
 
 /// What is compared with the peer.
@@ -15,7 +19,7 @@ pub struct Others {
 }
 
 /// So many places follow the whole of what may be written, to see that they stay.
-const BEHIND: usize = 3;
+pub const BEHIND: usize = 3;
 
 fn differ(what: &str, peer: impl Debug, other: impl Debug) -> String {
     format!("{what}\n  the peer:  {peer:?}\n  the other: {other:?}")
@@ -56,7 +60,7 @@ const NOISE: u64 = 0x5A5A_5A5A;
 pub const SIGNED_NOISE: i64 = -0x5A5A_5A5A;
 
 /// What the peer gives and leaves in the lent places, which the library must give and leave too.
-fn same<T: PartialEq + Debug>(
+pub fn same<T: PartialEq + Debug>(
     others: &Others,
     what: &str,
     ask: impl Fn(&dyn Library) -> T,
@@ -177,37 +181,96 @@ pub fn distance(
 /// How much is lent of nodes, ranges, ends and result: what loses nothing.
 pub const WHOLE_CALL: [usize; 4] = [NODES, RANGES, ENDS, RESULT];
 
+/// A table and predicates as they are lent. What is lent beyond the last place of all is not looked
+/// at.
+pub struct Flat {
+    pub nodes: Vec<u64>,
+    pub count: u64,
+    pub ranges: Vec<u64>,
+    pub ends: Vec<i64>,
+}
+
+impl Flat {
+    /// Any count beyond the nodes there are is refused alike.
+    pub fn of(table: &Table, predicates: &Predicates, any: usize) -> Flat {
+        let (ranges, ends) = flat_predicates(predicates);
+        let count = match table.count() as u64 {
+            count if count > 64 => [65, 1 << 32, u64::MAX][any % 3],
+            count => count,
+        };
+        Flat {
+            nodes: [&flat_nodes(table)[..], &[NOISE; BEHIND]].concat(),
+            count,
+            ranges: [&ranges[..], &[NOISE; BEHIND]].concat(),
+            ends: [&ends[..], &[SIGNED_NOISE; BEHIND]].concat(),
+        }
+    }
+}
+
 /// Refusal numbers of margin and verdict.
 pub fn calls(others: &Others, call: &Call, lengths: [usize; 4]) -> Result<(u64, u64), String> {
-    let mut count = call.table.count() as u64;
-    if count > 64 {
-        // Any count beyond the nodes there are is refused alike.
-        count = [65, 1 << 32, u64::MAX][call.recording.rows() % 3];
-    }
-    // What is lent beyond the last place of all is not looked at.
-    let (ranges, ends) = flat_predicates(&call.predicates);
-    let nodes = [&flat_nodes(&call.table)[..], &[NOISE; BEHIND]].concat();
-    let ranges = [&ranges[..], &[NOISE; BEHIND]].concat();
-    let ends = [&ends[..], &[SIGNED_NOISE; BEHIND]].concat();
-    let flat = names::Call {
-        nodes: &nodes[..lengths[0]],
-        count,
-        ranges: &ranges[..lengths[1]],
-        ends: &ends[..lengths[2]],
+    let margin = margins(others, call, lengths)?.0;
+    let flat = Flat::of(&call.table, &call.predicates, call.recording.rows());
+    let (asked, lent) = (asked(&flat, call, lengths), ..lengths[3]);
+    let (step, drift) = (call.step, call.drift);
+    let verdict = same(others, "verdict", |library| {
+        let (mut work, mut result) = (call.work.clone(), [SIGNED_NOISE; RESULT + BEHIND]);
+        (library.verdict(&asked, step, drift, &mut work, &mut result[lent]), result, work)
+    })?;
+    Ok((margin, verdict.0))
+}
+
+/// The refusal number of the margin, and what stands in the first place then.
+pub fn margins(others: &Others, call: &Call, lengths: [usize; 4]) -> Result<(u64, i64), String> {
+    let flat = Flat::of(&call.table, &call.predicates, call.recording.rows());
+    let (asked, lent) = (asked(&flat, call, lengths), ..lengths[3]);
+    let (number, result, _) = same(others, "margin", |library| {
+        let (mut work, mut result) = (call.work.clone(), [SIGNED_NOISE; RESULT + BEHIND]);
+        (library.margin(&asked, &mut work, &mut result[lent]), result, work)
+    })?;
+    Ok((number, result[0]))
+}
+
+fn asked<'a>(flat: &'a Flat, call: &'a Call, lengths: [usize; 4]) -> names::Call<'a> {
+    names::Call {
+        nodes: &flat.nodes[..lengths[0]],
+        count: flat.count,
+        ranges: &flat.ranges[..lengths[1]],
+        ends: &flat.ends[..lengths[2]],
         channels: call.recording.channels,
         scales: &call.recording.scales,
         times: &call.recording.times,
         values: &call.recording.values,
-    };
-    let lent = ..lengths[3];
-    let margin = same(others, "margin", |library| {
-        let (mut work, mut result) = (call.work.clone(), [SIGNED_NOISE; RESULT + BEHIND]);
-        (library.margin(&flat, &mut work, &mut result[lent]), result, work)
-    })?;
-    let (step, drift) = (call.step, call.drift);
-    let verdict = same(others, "verdict", |library| {
-        let (mut work, mut result) = (call.work.clone(), [SIGNED_NOISE; RESULT + BEHIND]);
-        (library.verdict(&flat, step, drift, &mut work, &mut result[lent]), result, work)
-    })?;
-    Ok((margin.0, verdict.0))
+    }
+}
+
+/// How much is lent of nodes, ranges and ends to the making of a watch: what loses nothing.
+pub const WHOLE_MAKING: [usize; 3] = [NODES, RANGES, ENDS];
+
+pub fn making<'a>(flat: &'a Flat, scales: &'a [u64], lengths: [usize; 3]) -> names::Making<'a> {
+    names::Making {
+        nodes: &flat.nodes[..lengths[0]],
+        count: flat.count,
+        ranges: &flat.ranges[..lengths[1]],
+        ends: &flat.ends[..lengths[2]],
+        scales,
+    }
+}
+
+/// A watch that is offered all its rows, as planned: its steps.
+pub fn watches(
+    others: &Others,
+    making: &names::Making,
+    watching: &Watching,
+    plan: &Plan,
+) -> Result<Vec<Step>, String> {
+    let ours = play(&Peer, making, &watching.offers, plan)?;
+    if let Some(library) = &others.library {
+        let theirs = play(library.as_ref(), making, &watching.offers, plan)
+            .map_err(|what| format!("the library: {what}"))?;
+        if let Some(k) = unlike(&ours, &theirs) {
+            return Err(differ(&format!("step {k} of a watch"), ours[k], theirs[k]));
+        }
+    }
+    Ok(ours)
 }

@@ -9,6 +9,7 @@ use crate::ordered;
 use crate::scaled;
 use crate::shapes;
 use crate::tally::Tally;
+use crate::watched::{limit_watches, watched_rows, WATCH};
 use crate::written::{limit_tables, read_again, written_table, WRITTEN};
 use peer::answer::{entry_line, judge_sheet, printed, Answer, Entry};
 use peer::generate::calls::{call, Foretold};
@@ -47,17 +48,18 @@ pub struct Family {
 }
 
 /// A family's place gives its seeds, so a new one goes to the end.
-pub const FAMILIES: [Family; 10] = [
+pub const FAMILIES: [Family; 11] = [
     Family { name: "sound", share: 180, run: sound_sheet },
     Family { name: "tiny", share: 90, run: tiny_sheet },
-    Family { name: "faulty", share: 210, run: faulty_sheet },
-    Family { name: "damaged", share: 120, run: damaged_sheet },
+    Family { name: "faulty", share: 190, run: faulty_sheet },
+    Family { name: "damaged", share: 100, run: damaged_sheet },
     Family { name: "several", share: 70, run: several_sheet },
     Family { name: "calls", share: 150, run: library_call },
     Family { name: "requirements", share: 50, run: requirement_text },
     Family { name: "rows", share: 50, run: rows_text },
     Family { name: WINDOWS, share: 30, run: windows_call },
     Family { name: WRITTEN, share: 50, run: written_table },
+    Family { name: WATCH, share: 40, run: watched_rows },
 ];
 
 pub const WINDOWS: &str = "windows";
@@ -351,7 +353,8 @@ pub fn limit_sheets(bench: &mut Bench) -> Result<(), Failure> {
     }
     limit_rows(bench)?;
     limit_distances(bench)?;
-    limit_tables(bench)
+    limit_tables(bench)?;
+    limit_watches(bench)
 }
 
 /// Distances where the products are largest, and where 4, 13 and 7 meet.

@@ -1,13 +1,15 @@
 //! The peer's types as flat numbers, and the peer in the library's place.
 
+use crate::kept;
 use crate::library::{Library, ENDS, NODES, NUMBERS, PLACES, RANGES, SCALES};
-use crate::names::{self, Call, Written};
+use crate::names::{self, Call, Making, Written};
 use peer::predicate::{Predicate, Predicates, Range, UNSET};
 use peer::recording::Recording;
 use peer::refusal::Refusal;
 use peer::sheet::Sheet;
 use peer::table::{Node, Table};
 use peer::verdict::Verdict;
+use peer::watch::Watch;
 
 /// Five numbers for each of 64 nodes: kind, left, right, lo, hi. Places beyond the count are 0.
 pub fn flat_nodes(table: &Table) -> [u64; NODES] {
@@ -95,8 +97,8 @@ fn predicate((range, channel, lo, hi): (u64, u64, i64, i64)) -> Predicate {
     Predicate { channel, range }
 }
 
-fn predicates(call: &Call) -> Predicates {
-    let (ranges, ends) = (padded::<_, RANGES>(call.ranges), padded::<_, ENDS>(call.ends));
+fn predicates(ranges: &[u64], ends: &[i64]) -> Predicates {
+    let (ranges, ends) = (padded::<_, RANGES>(ranges), padded::<_, ENDS>(ends));
     let mut predicates = [UNSET; 16];
     for (p, place) in predicates.iter_mut().enumerate() {
         *place = predicate((ranges[2 * p], ranges[2 * p + 1], ends[2 * p], ends[2 * p + 1]));
@@ -188,7 +190,8 @@ impl Library for Peer {
 
     fn margin(&self, call: &Call, work: &mut [i64], result: &mut [i64]) -> u64 {
         let table = table(call.nodes, call.count);
-        let found = peer::margin::margin(&table, &predicates(call), &recording(call), work);
+        let predicates = predicates(call.ranges, call.ends);
+        let found = peer::margin::margin(&table, &predicates, &recording(call), work);
         hand(found, |margin| write(&[margin], result))
     }
 
@@ -200,7 +203,8 @@ impl Library for Peer {
         work: &mut [i64],
         result: &mut [i64],
     ) -> u64 {
-        let (table, predicates) = (table(call.nodes, call.count), predicates(call));
+        let table = table(call.nodes, call.count);
+        let predicates = predicates(call.ranges, call.ends);
         let judged =
             peer::verdict::verdict(&table, &predicates, &recording(call), step, drift, work);
         hand(judged, |judgement| {
@@ -211,5 +215,33 @@ impl Library for Peer {
             };
             write(&[verdict, judgement.hold, judgement.fail], result);
         })
+    }
+
+    fn watch_fresh(&self, making: &Making, numbers: &mut [u64], cells: &mut [i64]) -> u64 {
+        let table = table(making.nodes, making.count);
+        let predicates = predicates(making.ranges, making.ends);
+        let watch = Watch::fresh(&table, &predicates, making.scales);
+        let refusal = watch.refusal();
+        if !kept::fits(numbers, cells) {
+            return refusal.unwrap_or(Refusal::Work).number();
+        }
+        kept::keep(watch, numbers, cells);
+        refusal.map_or(0, Refusal::number)
+    }
+
+    fn watch_row(&self, numbers: &mut [u64], cells: &mut [i64], time: u64, values: &[i64]) -> u64 {
+        let Some(before) = kept::watch(numbers, cells) else { return Refusal::Work.number() };
+        let mut watch = before.clone();
+        let taken = watch.row(time, values);
+        // Whatever the peer makes of a row is kept, so that what it must not do is seen.
+        if watch != before {
+            kept::keep(watch, numbers, cells);
+        }
+        hand(taken, |()| ())
+    }
+
+    fn watch_margin(&self, numbers: &[u64], cells: &[i64], result: &mut [i64]) -> u64 {
+        let Some(watch) = kept::watch(numbers, cells) else { return Refusal::Work.number() };
+        hand(watch.margin(), |margin| write(&[margin], result))
     }
 }

@@ -3,9 +3,10 @@
 //! holds.
 //!
 //! A refusal is its number, 0 for none. Whatever is lent is written under 0 alone, as far as it
-//! reaches, and keeps its contents under every other number.
+//! reaches, and keeps its contents under every other number; only a watch that is refused is written
+//! too.
 
-use crate::names::{Call, Sheet, Written};
+use crate::names::{Call, Making, Sheet, Written};
 use peer::limits::{MOST_CHANNELS, MOST_NODES, MOST_REQUIREMENTS, PREDICATES};
 
 /// Lengths that lose nothing.
@@ -63,4 +64,14 @@ pub trait Library {
         work: &mut [i64],
         result: &mut [i64],
     ) -> u64;
+
+    /// Refusal 0, 3, 4, 13, 16 or 8; a watch in numbers and cells, a refused one too, wherever both have
+    /// the room.
+    fn watch_fresh(&self, making: &Making, numbers: &mut [u64], cells: &mut [i64]) -> u64;
+
+    /// Refusal 0, 8, that of the making, 5, 6 or 7.
+    fn watch_row(&self, numbers: &mut [u64], cells: &mut [i64], time: u64, values: &[i64]) -> u64;
+
+    /// Refusal 0, 8, that of the making, or 5; the margin in result.
+    fn watch_margin(&self, numbers: &[u64], cells: &[i64], result: &mut [i64]) -> u64;
 }

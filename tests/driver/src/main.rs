@@ -9,6 +9,7 @@ mod families;
 mod flat;
 #[cfg(test)]
 mod header;
+mod kept;
 mod library;
 // Without a library the functions are unused, the forms of what is lent are not.
 #[cfg_attr(not(any(feature = "proved", test)), allow(dead_code))]
@@ -16,6 +17,7 @@ mod library;
 mod names;
 mod ordered;
 mod pairs;
+mod play;
 mod program;
 #[cfg(any(feature = "proved", test))]
 mod proved;
@@ -24,6 +26,8 @@ mod shapes;
 #[cfg(all(test, not(feature = "proved")))]
 mod standin;
 mod tally;
+mod watchable;
+mod watched;
 mod written;
 
 use arguments::Arguments;
@@ -37,6 +41,7 @@ use std::ops::Range;
 use std::process::ExitCode;
 use std::time::Instant;
 use tally::Tally;
+use watched::WATCH;
 use written::WRITTEN;
 
 /// Thousands of cases of a run.
@@ -189,7 +194,8 @@ fn run_long(others: &Others, tally: &mut Tally, run: u64) -> bool {
 
 /// What must come up, and how often: every refusal and every verdict, of every entry point, every
 /// order of predicates, every fault of `c=` lines, cards with unequal scales, all that claims may
-/// be about, every kind of table that is written and of pair in its text, every shape of window.
+/// be about, every kind of table that is written and of pair in its text, every kind of watch and of
+/// row that is offered to one, every shape of window.
 fn wanted(thousands: u64, long: bool) -> Vec<(String, u64)> {
     let mut wanted = wanted_refusals(thousands);
     for verdict in ["holds", "fails", "unshown"] {
@@ -217,6 +223,7 @@ fn wanted(thousands: u64, long: bool) -> Vec<(String, u64)> {
     }
     wanted.extend(claimed::all().iter().map(|about| (format!("histories: {about}"), thousands)));
     wanted.extend(wanted_writings(thousands));
+    wanted.extend(watchable::all().iter().map(|kind| (format!("{WATCH}: {kind}"), thousands / 2)));
     for shape in shapes::all() {
         wanted.push((format!("{WINDOWS}: {shape}"), thousands / 5));
         wanted.extend(long.then(|| (format!("{LONG}: {shape}"), 1)));
@@ -239,6 +246,12 @@ fn wanted_refusals(thousands: u64) -> Vec<(String, u64)> {
     each("rows refused=", &[0, 1, 4, 5], 2);
     each(&format!("{WRITTEN} refused="), &[0, 3, 14, 15], 10);
     each(&format!("{WRITTEN}, cut refused="), &[0, 3], 1);
+    each(&format!("{WATCH} refused="), &[0, 3, 4, 13, 16], 2);
+    each(&format!("{WATCH}, row refused="), &[0, 5, 6, 7], 20);
+    each(&format!("{WATCH}, margin refused="), &[0, 5], 5);
+    each(&format!("{WATCH}, refused watch, row refused="), &[3, 4, 13, 16], 10);
+    each(&format!("{WATCH}, short refused="), &[3, 4, 13, 16, 8], 1);
+    each(&format!("{WATCH}, cut refused="), &[0, 3], 1);
     wanted
 }
 

@@ -1,7 +1,7 @@
 //! The proved static library, through the C names as the Rust wrapper declares them.
 
 use crate::library::Library;
-use crate::names::{self, Call, Sheet, Written};
+use crate::names::{self, Call, Making, Sheet, Written};
 
 pub struct Proved;
 
@@ -56,5 +56,17 @@ impl Library for Proved {
         result: &mut [i64],
     ) -> u64 {
         names::verdict(call, step, drift, work, result)
+    }
+
+    fn watch_fresh(&self, making: &Making, numbers: &mut [u64], cells: &mut [i64]) -> u64 {
+        names::watch_fresh(making, numbers, cells)
+    }
+
+    fn watch_row(&self, numbers: &mut [u64], cells: &mut [i64], time: u64, values: &[i64]) -> u64 {
+        names::watch_row(numbers, cells, time, values)
+    }
+
+    fn watch_margin(&self, numbers: &[u64], cells: &[i64], result: &mut [i64]) -> u64 {
+        names::watch_margin(numbers, cells, result)
     }
 }

@@ -3,7 +3,7 @@
 
 use crate::flat::Peer;
 use crate::library::Library;
-use crate::names::{Call, Sheet, Written};
+use crate::names::{Call, Making, Sheet, Written};
 use std::slice::{from_raw_parts, from_raw_parts_mut};
 
 #[no_mangle]
@@ -141,6 +141,62 @@ macro_rules! judging {
 
 judging!(varmityep_margin, [], margin);
 judging!(varmityep_verdict, [step, drift], verdict);
+
+#[no_mangle]
+unsafe extern "C" fn varmityep_watch_fresh(
+    nodes: *const u64,
+    nodes_len: usize,
+    count: u64,
+    ranges: *const u64,
+    ranges_len: usize,
+    ends: *const i64,
+    ends_len: usize,
+    scales: *const u64,
+    scales_len: usize,
+    numbers: *mut u64,
+    numbers_len: usize,
+    cells: *mut i64,
+    cells_len: usize,
+) -> u64 {
+    let making = Making {
+        nodes: from_raw_parts(nodes, nodes_len),
+        count,
+        ranges: from_raw_parts(ranges, ranges_len),
+        ends: from_raw_parts(ends, ends_len),
+        scales: from_raw_parts(scales, scales_len),
+    };
+    let numbers = from_raw_parts_mut(numbers, numbers_len);
+    Peer.watch_fresh(&making, numbers, from_raw_parts_mut(cells, cells_len))
+}
+
+#[no_mangle]
+unsafe extern "C" fn varmityep_watch_row(
+    numbers: *mut u64,
+    numbers_len: usize,
+    cells: *mut i64,
+    cells_len: usize,
+    time: u64,
+    values: *const i64,
+    values_len: usize,
+) -> u64 {
+    let numbers = from_raw_parts_mut(numbers, numbers_len);
+    let cells = from_raw_parts_mut(cells, cells_len);
+    Peer.watch_row(numbers, cells, time, from_raw_parts(values, values_len))
+}
+
+#[no_mangle]
+unsafe extern "C" fn varmityep_watch_margin(
+    numbers: *const u64,
+    numbers_len: usize,
+    cells: *const i64,
+    cells_len: usize,
+    result: *mut i64,
+    result_len: usize,
+) -> u64 {
+    let numbers = from_raw_parts(numbers, numbers_len);
+    let cells = from_raw_parts(cells, cells_len);
+    Peer.watch_margin(numbers, cells, from_raw_parts_mut(result, result_len))
+}
 
 #[test]
 fn the_peer_behind_the_c_names_agrees_with_itself() {
