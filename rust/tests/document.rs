@@ -1,10 +1,10 @@
 //! Document 01's example, whole and by its parts, windows from now, predicates by number, scales,
-//! several requirements, tables written out, and every refusal number.
+//! several requirements, tables written out, watches, and every refusal number.
 
 use varmityep::{
     answer, kind, margin, read_requirement, read_rows, read_sheet, verdict, Counts, Judgement,
-    Node, Predicate, Predicates, Range, Recording, Refusal, Table, Verdict, MOST_REQUIREMENTS,
-    MOST_REQUIREMENT_BYTES, MOST_SCALE, NO_END, TOP,
+    Node, Predicate, Predicates, Range, Recording, Refusal, Table, Verdict, Watch,
+    MOST_REQUIREMENTS, MOST_REQUIREMENT_BYTES, MOST_SCALE, NO_END, TOP,
 };
 
 const EXAMPLE: &str = "\
@@ -396,6 +396,96 @@ fn every_refusal_of_the_writer() {
     assert_eq!(written(&[Node { left: 15, ..LEAF }]).as_deref(), Ok("p15"));
 }
 
+/// A watch for one requirement of the example's card.
+fn watch(requirement: &str) -> Watch {
+    let sheet = read_sheet(EXAMPLE.as_bytes()).unwrap();
+    let table = read_requirement(requirement.as_bytes()).unwrap();
+    Watch::fresh(&table, &sheet.predicates, &sheet.scales)
+}
+
+#[test]
+fn a_watch_gives_the_margin_of_the_rows_so_far() {
+    let predicates = read_sheet(EXAMPLE.as_bytes()).unwrap().predicates;
+    let (times, values) = ([0, 1, 2, 3, 4], [10, 11, 10, 9, 10]);
+    for (requirement, margins) in [
+        ("p0", [6; 5]),
+        ("G[0,*]p0", [6, 6, 6, 5, 5]),
+        ("G[0,2]p0", [6; 5]),
+        ("F[1,3]p0", [-TOP, 7, 7, 7, 7]),
+        ("p0U[2,*]!p0", [-TOP, -TOP, -6, -5, -5]),
+        ("!(p0R[3,4]p0)|G[4,9]p0", [TOP, TOP, TOP, TOP, 6]),
+    ] {
+        let mut watch = watch(requirement);
+        assert_eq!((watch.refusal(), watch.margin()), (None, Err(Refusal::Samples)));
+        let table = read_requirement(requirement.as_bytes()).unwrap();
+        for row in 0..5 {
+            assert_eq!(watch.row(times[row], &values[row..=row]), Ok(()));
+            assert_eq!(watch.margin(), Ok(margins[row]), "{requirement}");
+            let (times, values) = (&times[..=row], &values[..=row]);
+            let recording = Recording { channels: 1, scales: &[1], times, values };
+            let whole = margin(&table, &predicates, &recording, &mut [0; 99]);
+            assert_eq!(whole, Ok(margins[row]), "{requirement}");
+        }
+    }
+}
+
+#[test]
+fn a_refused_row_leaves_the_watch_as_it_was() {
+    let mut watch = watch("G[0,*]p0");
+    assert_eq!(watch.row(7, &[10]), Ok(()));
+    let before = watch.clone();
+    for (time, values, refusal) in [
+        (8, &[][..], Refusal::Samples),
+        (7, &[0, 0], Refusal::Samples),
+        (7, &[0], Refusal::Times),
+        (2_000_000_001, &[1 << 40], Refusal::Times),
+        (9, &[1_000_000_001], Refusal::Values),
+    ] {
+        assert_eq!(watch.row(time, values), Err(refusal));
+        assert_eq!((&watch, watch.margin()), (&before, Ok(6)));
+    }
+    // A copy goes on by itself.
+    let mut other = watch.clone();
+    assert_eq!((watch.row(8, &[9]), other.row(2_000_000_000, &[4])), (Ok(()), Ok(())));
+    assert_eq!((watch.margin(), other.margin()), (Ok(5), Ok(-1)));
+}
+
+#[test]
+fn a_watch_has_one_size_and_takes_any_count_of_rows() {
+    assert_eq!(size_of::<Watch>(), 8 * (Watch::NUMBERS + Watch::CELLS));
+    let mut watch = watch("G[0,*]p0");
+    for time in 0..5_000 {
+        assert_eq!(watch.row(time, &[6_000 - time as i64]), Ok(()));
+    }
+    assert_eq!(watch.margin(), Ok(1_001 - 4));
+}
+
+#[test]
+fn a_refused_watch_gives_its_number_to_every_call() {
+    let predicates = whole().predicates;
+    let of = |text: &str| read_requirement(text.as_bytes()).unwrap();
+    let mut unreached = of("G[0,1](p0|!F[0,1]p0)");
+    unreached.nodes.push(LEAF);
+    for (table, scales, refusal) in [
+        (of("G[0,1]F[0,1]p1"), &[][..], Refusal::Table),
+        (Table::default(), &[1], Refusal::Table),
+        (of("G[0,1]F[0,1]p0"), &[], Refusal::Predicates),
+        (of("p0"), &[0; 9], Refusal::Predicates),
+        (of("G[0,1]F[0,1]p0"), &[1, MOST_SCALE + 1], Refusal::Scales),
+        (of("G[0,1]F[0,1]p0"), &[1], Refusal::Nested),
+        (unreached, &[1], Refusal::Nested),
+    ] {
+        let mut watch = Watch::fresh(&table, &predicates, scales);
+        assert_eq!(watch.refusal(), Some(refusal));
+        for (time, values) in [(0, &[10][..]), (1, &[10]), (0, &[]), (u64::MAX, &[i64::MIN])] {
+            assert_eq!(watch.row(time, values), Err(refusal));
+            assert_eq!(watch.margin(), Err(refusal));
+        }
+    }
+    // Side by side they may stand.
+    assert_eq!(watch("F[0,1]p0&!(G[0,*]p0|T)").refusal(), None);
+}
+
 #[test]
 fn distances_are_counted_from_one() {
     let by = |range, scale, value| Predicate { channel: 7, range }.distance(scale, value);
@@ -422,5 +512,5 @@ fn distances_are_counted_from_one() {
 #[test]
 fn refusals_have_the_papers_numbers() {
     let numbers = Refusal::ALL.map(Refusal::number);
-    assert_eq!(numbers, [1, 12, 2, 3, 14, 15, 4, 13, 5, 6, 7, 8, 9, 10, 11]);
+    assert_eq!(numbers, [1, 12, 2, 3, 14, 15, 4, 13, 16, 5, 6, 7, 8, 9, 10, 11]);
 }
