@@ -50,18 +50,20 @@ pub fn all() -> Vec<String> {
 
 /// What the watch and its rows are about.
 pub fn about(watching: &Watching) -> Vec<String> {
-    let found = match watching.number {
-        0 => [about_table(&watching.table), about_rows(watching)].concat(),
-        16 => about_nested(&watching.table),
-        _ => Vec::new(),
+    let (letters, others) = match watching.number {
+        0 => {
+            let others = [about_table(&watching.table), about_rows(watching)].concat();
+            (lettered(&watching.table), others)
+        }
+        16 => (Vec::new(), about_nested(&watching.table)),
+        _ => (Vec::new(), Vec::new()),
     };
-    let letters = if watching.number == 0 { lettered(&watching.table) } else { Vec::new() };
-    letters.into_iter().chain(found.into_iter().map(str::to_string)).collect()
+    letters.into_iter().chain(others.into_iter().map(str::to_string)).collect()
 }
 
-/// Those of these that were found.
-fn kept<const N: usize>(kinds: [(&'static str, bool); N]) -> Vec<&'static str> {
-    kinds.into_iter().filter(|(_, found)| *found).map(|(what, _)| what).collect()
+/// Those of these that there are.
+fn found<const N: usize>(kinds: [(&'static str, bool); N]) -> Vec<&'static str> {
+    kinds.into_iter().filter(|(_, is)| *is).map(|(what, _)| what).collect()
 }
 
 /// The temporal operators that the root reaches.
@@ -95,7 +97,7 @@ fn about_table(table: &Table) -> Vec<&'static str> {
         }
     }
     let boolean = |k: usize| is_boolean(table.nodes[k].kind);
-    kept([
+    found([
         (
             ABOVE,
             reached.iter().any(|&k| boolean(k) && below(table, k as u64).into_iter().any(temporal)),
@@ -121,7 +123,7 @@ fn about_nested(table: &Table) -> Vec<&'static str> {
             operands.len() == 2 && has(operands[side]) && !has(operands[1 - side])
         })
     };
-    kept([
+    found([
         (NESTED_REACHED, outer.iter().any(|&k| uses[k] > 0)),
         (NESTED_UNREACHED, outer.iter().all(|&k| uses[k] == 0)),
         (NESTED_AT_ONCE, outer.iter().any(at_once)),
@@ -141,7 +143,7 @@ fn about_rows(watching: &Watching) -> Vec<&'static str> {
         if offer.number == 0 {
             about.extend((last.is_some() && offer.time <= overtaken).then_some(OVERTAKEN));
             (last, overtaken) = (Some(offer.time), 0);
-        } else {
+        } else if offer.number != 6 {
             overtaken = overtaken.max(offer.time);
         }
     }
@@ -154,7 +156,7 @@ fn about_row(offer: &Offer, channels: usize, last: Option<u64>) -> Vec<&'static 
     let (five, seven) = (count != channels, offer.values.iter().any(bad));
     let past = time > LAST_TIME;
     let six = past || last.is_some_and(|last| time <= last);
-    kept([
+    found([
         (NO_VALUE, count == 0),
         (ONE_LESS, count + 1 == channels),
         (ONE_MORE, count == channels + 1),
@@ -200,5 +202,80 @@ pub fn spoil(state: &mut State, kind: &str, rng: &mut Prng) {
             }
         }
         _ => {}
+    }
+}
+
+#[cfg(test)]
+mod tests {
+    use super::*;
+    use peer::grammar::read_requirement;
+    use peer::predicate::UNSET;
+    use peer::table::Node;
+
+    fn of(text: &str) -> Table {
+        read_requirement(text.as_bytes()).unwrap()
+    }
+
+    /// The same with one node more, which alone is then reached.
+    fn unreached(text: &str) -> Table {
+        let mut table = of(text);
+        table.nodes.push(Node::default());
+        table
+    }
+
+    #[test]
+    fn tables_are_told_apart() {
+        assert_eq!(lettered(&of("p0U[0,*]p1&G[0,3]p0")), ["U without end", "G with an end"]);
+        assert!(lettered(&unreached("F[0,1]p0")).is_empty());
+        assert_eq!(about_table(&of("F[0,1]p0&G[0,*]p0")), [ABOVE]);
+        assert_eq!(about_table(&of("!p0R[0,1]p1")), [BELOW]);
+        assert!(about_table(&of("F[0,1]p0")).is_empty());
+        assert_eq!(about_table(&unreached("F[0,1]!p0")), [UNREACHED]);
+        // The first predicate is both what is always so and what is so now.
+        let mut shared = of("G[0,1]p0");
+        shared.nodes.push(Node { kind: kind::AND, left: 0, right: 1, ..Node::default() });
+        assert_eq!(about_table(&shared), [ABOVE, SHARED]);
+    }
+
+    #[test]
+    fn nestings_are_told_apart() {
+        let reached = |text: &str| about_nested(&of(text));
+        assert_eq!(reached("F[0,1]G[0,1]p0"), [NESTED_REACHED, NESTED_AT_ONCE]);
+        assert_eq!(reached("F[0,1]!!G[0,1]p0"), [NESTED_REACHED, NESTED_DEEP]);
+        let left = [NESTED_REACHED, NESTED_AT_ONCE, NESTED_LEFT];
+        assert_eq!(reached("(p0U[0,1]p0)U[0,1]p0"), left);
+        let right = [NESTED_REACHED, NESTED_DEEP, NESTED_RIGHT];
+        assert_eq!(reached("p0R[0,1](p0|F[0,1]p0)|p1"), right);
+        let both = [NESTED_REACHED, NESTED_AT_ONCE];
+        assert_eq!(reached("(F[0,1]p0)R[0,1]F[0,1]p0"), both);
+        let alone = about_nested(&unreached("F[0,1]G[0,1]p0"));
+        assert_eq!(alone, [NESTED_UNREACHED, NESTED_AT_ONCE]);
+    }
+
+    #[test]
+    fn rows_are_told_apart() {
+        let offer = |time, count, number| Offer { time, values: vec![0; count], number };
+        let bad = Offer { time: 9, values: vec![0, i64::MIN], number: 7 };
+        let offers = vec![
+            offer(0, 2, 0),
+            offer(0, 1, 5),
+            offer(LAST_TIME + 1, 2, 6),
+            bad,
+            offer(9, 2, 0),
+            offer(8, 3, 5),
+            offer(8, 0, 5),
+            offer(LAST_TIME, 2, 0),
+        ];
+        let (table, predicates, scales) = (of("p0"), [UNSET; 16], vec![1; 2]);
+        let watching = Watching { table, predicates, scales, number: 0, offers };
+        let wanted = [
+            &[AT_ZERO][..],
+            &[ONE_LESS, EQUAL_TIME, FIVE_SIX],
+            &[PAST_TIME, BAD_VALUE, OVERTAKEN],
+            &[ONE_MORE, EARLIER, FIVE_SIX],
+            &[NO_VALUE, EARLIER, FIVE_SIX],
+            &[AT_LAST],
+        ];
+        assert_eq!(about_rows(&watching), wanted.concat());
     }
 }
