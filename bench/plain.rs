@@ -32,7 +32,7 @@ fn clearance(a: i64, b: i64) -> i64 {
 }
 
 /// In the scaled unit; free alone stays at TOP.
-fn distance(range: Range, scale: i64, v: i64) -> i64 {
+pub fn distance(range: Range, scale: i64, v: i64) -> i64 {
     match range {
         Range::Unset | Range::Free => TOP,
         Range::AtLeast(lo) => scale * clearance(lo, v),
@@ -51,11 +51,11 @@ fn edge(times: &[u64], i: usize, at: usize, stop: Option<u64>) -> usize {
     j
 }
 
-fn extreme(largest: bool, a: i64, b: i64) -> i64 {
+pub fn extreme(largest: bool, a: i64, b: i64) -> i64 {
     if largest { a.max(b) } else { a.min(b) }
 }
 
-fn nothing(largest: bool) -> i64 {
+pub fn nothing(largest: bool) -> i64 {
     if largest { -TOP } else { TOP }
 }
 
