@@ -115,7 +115,9 @@ impl Watch {
         watch
     }
 
-    /// Takes the next row: 0, or the number of what refuses it; then the watch stays as it is.
+    /// Takes the next row: 0, or the number of what refuses it; then the watch stays as it is. Like a
+    /// library's functions, it is called and not written out where it is called.
+    #[inline(never)]
     pub fn row(&mut self, time: u64, values: &[i64]) -> u64 {
         if values.len() != self.channels {
             return 5;
@@ -155,6 +157,7 @@ impl Watch {
     }
 
     /// The root's margin, or the number of what refuses it.
+    #[inline(never)]
     pub fn margin(&self) -> Result<i64, u64> {
         match self.times {
             Some(_) => Ok(self.known.margin[self.count - 1]),

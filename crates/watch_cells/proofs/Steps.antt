@@ -58,19 +58,6 @@ module _ (d : Card) (n : Node) (φ : ℕ → Formula ℕ) (i : ℕ) where
   pub point-margin : n .kind < length kinds → timed (operator (n .kind)) ≡ false → margin d (formula (operator (n .kind)) n φ) i ≡ point-of (operator (n .kind)) (leaf-at d n i) (margin d (φ (n .left)) i) (margin d (φ (n .right)) i)
   point-margin h u = by-kind (n .kind) h u
 
--- with operands a node has no value of its own
-pub own-idle : (k : ℕ) → k < length kinds → timed (operator k) ≡ false → 1 < k → (x y l r : ℤ) → point-of (operator k) x l r ≡ point-of (operator k) y l r
-own-idle zero h u m x y l r = absurd (omega arith)
-own-idle (suc zero) h u m x y l r = absurd (omega arith)
-own-idle (suc (suc zero)) h u m x y l r = refl
-own-idle (suc (suc (suc zero))) h u m x y l r = refl
-own-idle (suc (suc (suc (suc zero)))) h u m x y l r = refl
-own-idle (suc (suc (suc (suc (suc zero))))) h u m x y l r = untimed refl u
-own-idle (suc (suc (suc (suc (suc (suc zero)))))) h u m x y l r = untimed refl u
-own-idle (suc (suc (suc (suc (suc (suc (suc zero))))))) h u m x y l r = untimed refl u
-own-idle (suc (suc (suc (suc (suc (suc (suc (suc zero)))))))) h u m x y l r = untimed refl u
-own-idle (suc (suc (suc (suc (suc (suc (suc (suc (suc k))))))))) h u m x y l r = absurd (omega arith)
-
 -- without operands it has no window, and no temporal operator stands in it
 pub own-untimed : (k : ℕ) → k ≤ 1 → timed (operator k) ≡ false
 own-untimed zero h = refl

@@ -42,7 +42,7 @@ use Rattle.arrivals.proofs.Growth.{before, value-newest, newest-distance}
 use Rattle.watch_cells.specs.State.{SCALES-AT, HELD-AT, node-in, predicate-in, held-in, Planned, Held}
 use Rattle.watch_cells.specs.Taking.{point-of, Operand, PointAsks, LeafAsks, so-far, margin-after, SameBeyond, Arriving, Done, Taking}
 use Rattle.watch_cells.proofs.Points.{leaf-point}
-use Rattle.watch_cells.proofs.Steps.{leaf-at, point-margin, own-idle, own-untimed, own-momentary, operands-momentary, left-of, right-of, timed-form, timed-left, unary-left-margin, carried-by, never-temporal, margin-taken, carried-taken, margin-before, carried-before}
+use Rattle.watch_cells.proofs.Steps.{leaf-at, point-margin, own-untimed, own-momentary, operands-momentary, left-of, right-of, timed-form, timed-left, unary-left-margin, carried-by, never-temporal, margin-taken, carried-taken, margin-before, carried-before}
 
 -- ---- two of a node's three cells are written
 module _ (cells : List ℤ) (k p q : ℕ) (x y : ℤ) where
@@ -203,38 +203,41 @@ module _ {numbers : List ℕ} {cells values : List ℤ} {opening : Bool} {since 
   margin-held : (q : ℕ) → q < k → T (momentary (φ q)) ⊎ (_≡_ {A = ℕ} 1 1) → held-in cells q 1 ≡ margin longer (φ q) 0
   margin-held q b m = K .done q b .held .margin-is
 
-  -- at sample 0 a node without operands keeps what it had at the first row
-  own-first : (leaf : ℤ) → Leaf leaf → n .kind ≤ 1 → so-far cells opening leaf k 1 ≡ margin longer (φ k) 0
-  own-first leaf L h =
-      let m : T (momentary (φ k)) = subst (λ (ψ : Formula ℕ). T (momentary ψ)) (sym tree-is) (own-momentary (n .kind) n φ h) in
-      let a : leaf ≡ margin longer (φ k) (rows c) = leaf-newest leaf L ∙ leaf-point _ (point-asks 0 (rows c) newest-held (own-untimed (n .kind) h) (inl m)) h ∙ pointed (own-untimed (n .kind) h) (rows c) in
-      held-before leaf (margin longer (φ k) 0) 1 (λ z. rw z at a) (λ some. K .waiting k (omega arith) small some .margin-is ∙ sym (before c r (A .fits) (φ k) m 0 some))
+  -- the node's two cells
+  margins-taken : timed (operator (n .kind)) ≡ false → (x y : ℤ) → (T (momentary (φ k)) → x ≡ margin longer (φ k) (rows c)) → y ≡ margin longer (φ k) 0 → Taking numbers (stored cells k 0 1 x y) t c r (suc k)
+  margins-taken u x y hx hy =
+      next cells k 0 1 x y (omega arith) (omega arith) K
+      (record {
+        held = record {
+          margin-is = second-stored cells k 0 1 x y (room 1 (omega arith)) ∙ hy;
+          carried-is = λ e w a b z. absurd (never-temporal (operator (n .kind)) n φ u e w a b (sym tree-is ∙ z));
+        };
+        newest = λ m. first-stored cells k 0 1 x y (λ (e : _≡_ {A = ℕ} 0 1). omega arith) (room 0 (omega arith)) ∙ hx m;
+      })
 
-  module _ (leaf first x y : ℤ) (L : Leaf leaf) (f : first ≡ so-far cells opening leaf k 1) (u : timed (operator (n .kind)) ≡ false) (hx : (a b : ℤ) → PointAsks cells n k 0 a b → x ≡ point-of (operator (n .kind)) leaf a b) (hy : (a b : ℤ) → PointAsks cells n k 1 a b → y ≡ point-of (operator (n .kind)) first a b) where
-    newest-is : T (momentary (φ k)) → x ≡ margin longer (φ k) (rows c)
-    newest-is m =
-        hx _ _ (point-asks 0 (rows c) newest-held u (inl m))
-        ∙ ap (λ (z : ℤ). point-of (operator (n .kind)) z (margin longer (φ (n .left)) (rows c)) (margin longer (φ (n .right)) (rows c))) (leaf-newest leaf L)
-        ∙ pointed u (rows c)
+  -- a node without operands: at sample 0 it keeps what it had at the first row
+  module _ (leaf first : ℤ) (L : Leaf leaf) (f : first ≡ so-far cells opening leaf k 1) (own : n .kind ≤ 1) where
+    no-window : timed (operator (n .kind)) ≡ false
+    no-window = own-untimed (n .kind) own
 
-    margin-is : y ≡ margin longer (φ k) 0
-    margin-is =
-        let a = point-asks 1 0 margin-held u (inr refl) in
-        elim (decLt 1 (n .kind)) [
-          | yes h ↦ hy _ _ a ∙ own-idle (n .kind) (rules .known) u h first (leaf-at longer n 0) _ _ ∙ pointed u 0
-          | no h ↦ let own : n .kind ≤ 1 = omega arith in hy _ _ a ∙ sym (leaf-point first a own) ∙ f ∙ own-first leaf L own
-        ]
+    inner : T (momentary (φ k))
+    inner = subst (λ (ψ : Formula ℕ). T (momentary ψ)) (sym tree-is) (own-momentary (n .kind) n φ own)
 
-    pub plain-taken : Taking numbers (stored cells k 0 1 x y) t c r (suc k)
-    plain-taken =
-        next cells k 0 1 x y (omega arith) (omega arith) K
-        (record {
-          held = record {
-            margin-is = second-stored cells k 0 1 x y (room 1 (omega arith)) ∙ margin-is;
-            carried-is = λ e w a b z. absurd (never-temporal (operator (n .kind)) n φ u e w a b (sym tree-is ∙ z));
-          };
-          newest = λ m. first-stored cells k 0 1 x y (λ (e : _≡_ {A = ℕ} 0 1). omega arith) (room 0 (omega arith)) ∙ newest-is m;
-        })
+    own-newest : leaf ≡ margin longer (φ k) (rows c)
+    own-newest = leaf-newest leaf L ∙ leaf-point _ (point-asks 0 (rows c) newest-held no-window (inl inner)) own ∙ pointed no-window (rows c)
+
+    own-first : first ≡ margin longer (φ k) 0
+    own-first = f ∙ held-before leaf (margin longer (φ k) 0) 1 (λ z. rw z at own-newest) (λ some. K .waiting k (omega arith) small some .margin-is ∙ sym (before c r (A .fits) (φ k) inner 0 some))
+
+    pub leaf-taken : Taking numbers (stored cells k 0 1 leaf first) t c r (suc k)
+    leaf-taken = margins-taken no-window leaf first (λ m. own-newest) own-first
+
+  -- "not", "and", "or"
+  pub joined-taken : (x y : ℤ) → timed (operator (n .kind)) ≡ false → ((leaf a b : ℤ) → PointAsks cells n k 0 a b → x ≡ point-of (operator (n .kind)) leaf a b) → ((leaf a b : ℤ) → PointAsks cells n k 1 a b → y ≡ point-of (operator (n .kind)) leaf a b) → Taking numbers (stored cells k 0 1 x y) t c r (suc k)
+  joined-taken x y u hx hy =
+      margins-taken u x y
+      (λ m. hx (leaf-at longer n (rows c)) _ _ (point-asks 0 (rows c) newest-held u (inl m)) ∙ pointed u (rows c))
+      (hy (leaf-at longer n 0) _ _ (point-asks 1 0 margin-held u (inr refl)) ∙ pointed u 0)
 
   -- ---- with a window
   module _ (u : timed (operator (n .kind)) ≡ true) where

@@ -124,15 +124,12 @@ fn opposite(a: i64) -> i64
     numbers::negated(a)
 }
 
-// A node without window, from one part of its operands' cells.
-fn point(cells: &[i64], node: Node, k: usize, part: usize, leaf: i64) -> i64
+// "Not", "and" or "or", from one part of their operands' cells.
+fn point(cells: &[i64], node: Node, k: usize, part: usize) -> i64
     requires { ⌜ (CELLS ≤ length (now cells)) × (k ≤ NODES) × (part < 3) ⌝ }
-    ensures { λ r. ⌜ ((a b : _) → PointAsks (now (cells .entry)) node k part a b → r ≡ point-of (operator (node .kind)) leaf a b) ⌝ }
+    ensures { λ r. ⌜ ((leaf a b : _) → 1 < node .kind → PointAsks (now (cells .entry)) node k part a b → r ≡ point-of (operator (node .kind)) leaf a b) ⌝ }
 {
     let kind = node.kind;
-    if kind <= tables::PREDICATE {
-        return leaf;
-    }
     let left = operand(cells, k, node.left, part);
     if kind == tables::NOT {
         return opposite(left);
@@ -197,8 +194,8 @@ fn right_operand(cells: &[i64], node: Node, k: usize) -> i64
     }
 }
 
-// A node without window takes the row.
-fn take_plain(
+// True or a predicate takes the row: at sample 0 it keeps what it had at the first one.
+fn take_leaf(
     numbers: &[u64],
     cells: &mut [i64],
     values: &[i64],
@@ -207,13 +204,24 @@ fn take_plain(
     k: usize,
 )
     requires { ⌜ (NUMBERS ≤ length (now numbers)) × (CELLS ≤ length (now cells)) × (k < NODES) ⌝ }
-    ensures taken { λ _. ⌜ ((since : _) (t : Table) (c : Card) (r : Row) → Arriving (now (values .entry)) opening since t c r → k < t .count → node ≡ node-in (now (numbers .entry)) k → timed (operator (node .kind)) ≡ false → Taking (now (numbers .entry)) (now (cells .entry)) t c r k → Taking (now (numbers .entry)) (now (cells .exit)) t c r (suc k)) ⌝ }
+    ensures taken { λ _. ⌜ ((since : _) (t : Table) (c : Card) (r : Row) → Arriving (now (values .entry)) opening since t c r → k < t .count → node ≡ node-in (now (numbers .entry)) k → node .kind ≤ 1 → Taking (now (numbers .entry)) (now (cells .entry)) t c r k → Taking (now (numbers .entry)) (now (cells .exit)) t c r (suc k)) ⌝ }
     ensures beyond { λ _. ⌜ SameBeyond (now (cells .entry)) (now (cells .exit)) ⌝ }
 {
     let leaf = leaf_value(numbers, cells, values, node);
     let first = so_far(cells, opening, leaf, k, MARGIN);
-    let newest = point(cells, node, k, NEWEST, leaf);
-    let margin = point(cells, node, k, MARGIN, first);
+    let at = HELD_AT + 3 * k;
+    cells[at + NEWEST] = leaf;
+    cells[at + MARGIN] = first;
+}
+
+// "Not", "and" or "or" takes the row.
+fn take_joined(cells: &mut [i64], node: Node, k: usize)
+    requires { ⌜ (CELLS ≤ length (now cells)) × (k < NODES) ⌝ }
+    ensures taken { λ _. ⌜ ((numbers values : _) (opening : _) (since : _) (t : Table) (c : Card) (r : Row) → Arriving values opening since t c r → k < t .count → node ≡ node-in numbers k → 1 < node .kind → timed (operator (node .kind)) ≡ false → Taking numbers (now (cells .entry)) t c r k → Taking numbers (now (cells .exit)) t c r (suc k)) ⌝ }
+    ensures beyond { λ _. ⌜ SameBeyond (now (cells .entry)) (now (cells .exit)) ⌝ }
+{
+    let newest = point(cells, node, k, NEWEST);
+    let margin = point(cells, node, k, MARGIN);
     let at = HELD_AT + 3 * k;
     cells[at + NEWEST] = newest;
     cells[at + MARGIN] = margin;
@@ -251,10 +259,13 @@ fn take_node(
     ensures beyond { λ _. ⌜ SameBeyond (now (cells .entry)) (now (cells .exit)) ⌝ }
 {
     let node = node_of(numbers, k);
+    if node.kind <= tables::PREDICATE {
+        return take_leaf(numbers, cells, values, node, opening, k);
+    }
     if tables::is_timed(node.kind) {
         take_timed(cells, node, opening, since, k)
     } else {
-        take_plain(numbers, cells, values, node, opening, k)
+        take_joined(cells, node, k)
     }
 }
 
