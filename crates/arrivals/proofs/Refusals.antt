@@ -52,7 +52,7 @@ module _ (c : Card) (t : Table) where
         (yes-or (eqb (rows c) 0) (ltb (last-time c) (r .time)) (elim (l .rising) [ inl e ↦ inl (yes-eqb e) | inr k ↦ inr (lt→ltb (last-time c) (r .time) k) ]))
 
     row-exact : AllExact (row-checks c r)
-    row-exact = (record { sound = eqb→eq _ _; complete = yes-eqb }, λ _. (record { sound = later-is; complete = later-passes }, λ _. (record { sound = values-are (card (c .setup) [] (r .values)); complete = values-pass (card (c .setup) [] (r .values)) }, λ _. tt)))
+    row-exact = (record { sound = eqb→eq _ _; complete = yes-eqb }, λ _. (record { sound = later-is; complete = later-passes }, λ _. (record { sound = values-are (r .values); complete = values-pass (r .values) }, λ _. tt)))
 
     pub offer-exact : AllExact (offer-checks c t r)
     offer-exact = exact-append (making-checks c t) (row-checks c r) making-exact (λ _. row-exact)

@@ -3,6 +3,7 @@ ghost use mathlib.Core.Path.{_≡_};
 ghost use lib.Dec.{eqb};
 ghost use Rattle.refusals.specs.First.{first};
 ghost use Rattle.recordings.specs.Card.{Card, rows, last-time};
+ghost use Rattle.recordings.specs.Accepted.{Values};
 ghost use Rattle.arrivals.specs.Arrivals.{no-rows, making-checks, follows, row-checks};
 use recordings::LATEST;
 use recordings::Setup;
@@ -32,7 +33,8 @@ fn follows(rows: u64, last: u64, time: u64) -> bool
 
 // The first of refusals 5 to 7 that applies to a row, 0 where none does. Of the rows before it, it is asked whether there were any, and the time of the last.
 pub fn row_refusal(channels: u64, taken: u64, last: u64, time: u64, values: &[i64]) -> u64
-    ensures { λ r. ⌜ ((c : Card) → channels ≡ c .setup .channels → eqb taken 0 ≡ eqb (rows c) 0 → last ≡ last-time c → r ≡ first (row-checks c (record { time = time; values = now (values .entry) }))) ⌝ }
+    ensures number { λ r. ⌜ ((c : Card) → channels ≡ c .setup .channels → eqb taken 0 ≡ eqb (rows c) 0 → last ≡ last-time c → r ≡ first (row-checks c (record { time = time; values = now (values .entry) }))) ⌝ }
+    ensures values { λ r. ⌜ (r ≡ 0 → Values (now (values .entry))) ⌝ }
 {
     if values.len() as u64 != channels {
         return 5;

@@ -68,7 +68,7 @@ module _ (c : Card) (t : Table) where
   checks-exact : AllExact (checks-before c t)
   checks-exact =
       let e = exact c t in
-      (e .0, λ p. (e .1 p .0, λ q. (samples-exact c, λ _. (record { sound = times-are c; complete = times-pass c }, λ _. (record { sound = values-are c; complete = values-pass c }, λ _. tt)))))
+      (e .0, λ p. (e .1 p .0, λ q. (samples-exact c, λ _. (record { sound = times-are c; complete = times-pass c }, λ _. (record { sound = values-are (c .values); complete = values-pass (c .values) }, λ _. tt)))))
 
   pub margin-exact : (cells : ℕ) → AllExact (margin-checks-before c t cells)
   margin-exact cells = exact-append (checks-before c t) (margin-room c t cells ∷ []) checks-exact (λ _. (record { sound = leb→le _ _; complete = le→leb _ _ }, λ _. tt))

@@ -81,7 +81,7 @@ in-range-passes v r =
     (parts-le (negℤ (pos FARTHEST)) v (omega (arith, r .size, abs-parts v)))
     (parts-le v (pos FARTHEST) (omega (arith, r .size, abs-parts v)))
 
-range-ends : (r : Range) → T (range-obeys r) → Ends r
+pub range-ends : (r : Range) → T (range-obeys r) → Ends r
 range-ends Unset t = tt
 range-ends Free t = tt
 range-ends (AtLeast lo) t = value-in-range lo t
@@ -91,7 +91,7 @@ range-ends (Between lo hi) t =
     let b = and-yes (value-obeys hi) (leZ lo hi) (a .1) in
     (value-in-range lo (a .0), value-in-range hi (b .0), b .1)
 
-ends-pass : (r : Range) → Ends r → T (range-obeys r)
+pub ends-pass : (r : Range) → Ends r → T (range-obeys r)
 ends-pass Unset e = tt
 ends-pass Free e = tt
 ends-pass (AtLeast lo) e = in-range-passes lo e

@@ -74,7 +74,7 @@ fn between_obeys(lo: i64, hi: i64) -> bool
     low & (high & (lo <= hi))
 }
 
-fn range_obeys(range: Range) -> bool
+pub fn range_obeys(range: Range) -> bool
     ensures { λ r. ⌜ r ≡ range-obeys range ⌝ }
 {
     match range {

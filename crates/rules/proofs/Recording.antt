@@ -2,11 +2,12 @@
 -- Assumes nothing.
 use mathlib.Core.Path.{_≡_}
 use mathlib.Core.Bool.{true, _&&_}
+use mathlib.Core.List.{List}
 use Prim.Native.Nat.{ℕ, suc, _-_, _*_, _≤_}
 use native.Mathlib.Omega.{arith}
 use lib.Dec.{T, leb, ltb, eqb, leb→le, le→leb, ltb→lt, lt→ltb, eqb→eq}
 use lib.ListN.{length, getD}
-use lib.IntN.{pos}
+use lib.IntN.{ℤ, pos}
 use mir.Facts.{and-yes, yes-and, yes-eqb}
 use Rattle.numbers.proofs.Parts.{holds}
 use Rattle.lists.proofs.Below.{all-at, at-all}
@@ -66,10 +67,10 @@ times-pass c r =
     (at-all (λ j. leb (time c j) LATEST) (rows c) (λ i h. le→leb (time c i) LATEST (r .small-times i h)))
 
 -- ---- 7
-pub values-are : (c : Card) → T (values-obey (c .values)) → Values (c .values)
+pub values-are : (vs : List ℤ) → T (values-obey vs) → Values vs
 unfolding values-obey
-values-are c t = record { each = λ m h. value-in-range (getD (c .values) m (pos 0)) (all-at (λ j. value-obeys (getD (c .values) j (pos 0))) (length (c .values)) t m h) }
+values-are vs t = record { each = λ m h. value-in-range (getD vs m (pos 0)) (all-at (λ j. value-obeys (getD vs j (pos 0))) (length vs) t m h) }
 
-pub values-pass : (c : Card) → Values (c .values) → T (values-obey (c .values))
+pub values-pass : (vs : List ℤ) → Values vs → T (values-obey vs)
 unfolding values-obey
-values-pass c r = at-all (λ j. value-obeys (getD (c .values) j (pos 0))) (length (c .values)) (λ m h. in-range-passes (getD (c .values) m (pos 0)) (r .each m h))
+values-pass vs r = at-all (λ j. value-obeys (getD vs j (pos 0))) (length vs) (λ m h. in-range-passes (getD vs m (pos 0)) (r .each m h))

@@ -21,7 +21,7 @@ use Rattle.rules.proofs.Recording.{lengths-are, lengths-pass, times-are
 
 pub exact : (c : Card) (t : Table) → AllExact (checks c t)
 unfolding requirement-obeys
-exact c t = (three, λ _. (record { sound = channels-are c; complete = channels-pass c }, λ _. (record { sound = scales-are c; complete = scales-pass c }, λ _. (record { sound = lengths-are c; complete = lengths-pass c }, λ _. (record { sound = times-are c; complete = times-pass c }, λ _. (record { sound = values-are c; complete = values-pass c }, λ _. tt))))))
+exact c t = (three, λ _. (record { sound = channels-are c; complete = channels-pass c }, λ _. (record { sound = scales-are c; complete = scales-pass c }, λ _. (record { sound = lengths-are c; complete = lengths-pass c }, λ _. (record { sound = times-are c; complete = times-pass c }, λ _. (record { sound = values-are (c .values); complete = values-pass (c .values) }, λ _. tt))))))
   where
     three : Exact (check-at (checks c t) 0)
     three = record {

@@ -12,13 +12,9 @@ use Rattle.lists.proofs.Below.{same-test}
 use Rattle.logic.specs.declared.Stop.the-variants.{Endless, Before}
 use Rattle.logic.specs.Window.{reaches, inside}
 use Rattle.logic.specs.Reading.{margin-extreme}
-use Rattle.recordings.specs.declared.Predicate.{Predicate}
+use Rattle.recordings.specs.declared.Range.{Range}
 use Rattle.recordings.specs.Distance.{TOP, scaled-distance}
 use Rattle.recordings.specs.Accepted.{MOST-CHANNELS, ScaleInRange, InRange, Proper}
-use Rattle.distances.specs.declared.Answer.{Answer}
-use Rattle.distances.specs.declared.Answer.the-variants.{Distance, Refused}
-use Rattle.distances.specs.Answers.{DistanceOutcome, distance-outcome, distance-judged}
-use Rattle.distances.proofs.Promises.{none-number, distance-is, distance-not-zero}
 use Rattle.tables.specs.declared.Node.{Node}
 use Rattle.tables.specs.Kind.{Operator, joined, operator, operator-extremum, not-kind}
 use Rattle.tables.specs.Tree.{NO-END, window}
@@ -61,13 +57,5 @@ module _ {cells : List ℤ} {n : Node} {k part : ℕ} {l r : ℤ} (leaf : ℤ) (
   pub joined-point : 1 < n .kind → (n .kind ≡ not-kind → ⊥) → {v : ℤ} → v ≡ margin-extreme (operator-extremum (operator (n .kind))) l r → v ≡ point-of (operator (n .kind)) leaf l r
   joined-point h other {v} e = subst (λ (o : Operator). v ≡ point-of o leaf l r) (sym (joined-is h other)) e
 
--- ---- a predicate that was accepted has its distance
-module _ {p q : Predicate} {k s : ℕ} {v x : ℤ} (hq : q ≡ p) (hs : s ≡ k) (hx : x ≡ v) (a : Proper p MOST-CHANNELS) (b : ScaleInRange k) (d : InRange v) where
-  judged : distance-judged q s x ≡ distance-judged p k v
-  judged = rw (hq, hs, hx)
-
-  pub distance-found : (answer : Answer) {far : ℤ} → distance-outcome answer ≡ distance-judged q s x → answer ≡ Distance far → far ≡ scaled-distance TOP k (p .range) v
-  distance-found answer e f = ap (λ (o : DistanceOutcome). o .distance) (sym (ap distance-outcome f) ∙ e ∙ judged) ∙ distance-is p k v (none-number p k v a b d)
-
-  pub never-refused : (answer : Answer) {n : ℕ} → distance-outcome answer ≡ distance-judged q s x → answer ≡ Refused n → ⊥
-  never-refused answer e f = distance-not-zero p k v (none-number p k v a b d) (sym (ap (λ (o : DistanceOutcome). o .distance) (sym (ap distance-outcome f) ∙ e ∙ judged)))
+pub distance-same : {k s : ℕ} {r q : Range} {v x : ℤ} → s ≡ k → r ≡ q → x ≡ v → scaled-distance TOP s r x ≡ scaled-distance TOP k q v
+distance-same a b d = rw (a, b, d)

@@ -12,15 +12,15 @@ ghost use Rattle.logic.specs.Reading.{margin-nothing};
 ghost use Rattle.recordings.specs.declared.Predicate.{Predicate};
 ghost use Rattle.recordings.specs.Distance.{TOP, scaled-distance};
 ghost use Rattle.recordings.specs.Card.{Card};
+ghost use Rattle.recordings.specs.Accepted.{Values};
 ghost use Rattle.tables.specs.declared.Table.{Table};
 ghost use Rattle.tables.specs.Kind.{operator, predicate-kind};
 ghost use Rattle.tables.specs.Tree.{NODES, window};
 ghost use Rattle.tables.specs.Rules.{is-child, right-use, timed};
 ghost use Rattle.arrivals.specs.Arrivals.{Row};
-ghost use Rattle.watch_cells.specs.State.{NUMBERS, CELLS, node-in, predicate-in, held-in};
+ghost use Rattle.watch_cells.specs.State.{NUMBERS, CELLS, node-in, held-in};
 ghost use Rattle.watch_cells.specs.Taking.{point-of, PointAsks, LeafAsks, so-far, margin-after, SameBeyond, Arriving, Taking};
 use logic::Extremum;
-use recordings::Predicate;
 use recordings::TOP;
 use tables::Node;
 
@@ -54,28 +54,17 @@ fn node_of(numbers: &[u64], k: usize) -> Node
     }
 }
 
-fn predicate_of(numbers: &[u64], cells: &[i64], p: usize) -> Predicate
-    requires { ⌜ (NUMBERS ≤ length (now numbers)) × (CELLS ≤ length (now cells)) × (p < 16) ⌝ }
-    ensures { λ r. ⌜ r ≡ predicate-in (now (numbers .entry)) (now (cells .entry)) p ⌝ }
-{
-    let at = RANGES_AT + 2 * p;
-    Predicate {
-        channel: numbers[at + 1] as usize,
-        range: flat::range_from(numbers[at], cells[2 * p], cells[2 * p + 1]),
-    }
-}
-
 // The distance of the row's value from a predicate; TOP of numbers that name none.
 fn distance_of(numbers: &[u64], cells: &[i64], values: &[i64], node: Node) -> i64
-    requires { ⌜ (NUMBERS ≤ length (now numbers)) × (CELLS ≤ length (now cells)) ⌝ }
+    requires { ⌜ (NUMBERS ≤ length (now numbers)) × (CELLS ≤ length (now cells)) × Values (now values) ⌝ }
     ensures { λ r. ⌜ ((p : Predicate) (k : _) → LeafAsks (now (numbers .entry)) (now (cells .entry)) (now (values .entry)) node p k → r ≡ scaled-distance TOP k (p .range) (getD (now (values .entry)) (p .channel) (pos 0))) ⌝ }
 {
     let named = node.left;
     if 16 <= named {
         return TOP;
     }
-    let predicate = predicate_of(numbers, cells, named);
-    let channel = predicate.channel;
+    let at = RANGES_AT + 2 * named;
+    let channel = numbers[at + 1] as usize;
     if recordings::MOST_CHANNELS <= channel {
         return TOP;
     }
@@ -83,15 +72,19 @@ fn distance_of(numbers: &[u64], cells: &[i64], values: &[i64], node: Node) -> i6
         return TOP;
     }
     let scale = numbers[SCALES_AT + channel];
-    match distances::distance(predicate, scale, values[channel]) {
-        distances::Answer::Distance(far) => far,
-        distances::Answer::Refused(_) => TOP,
+    if recordings::MOST_SCALE < scale {
+        return TOP;
     }
+    let range = flat::range_from(numbers[at], cells[2 * named], cells[2 * named + 1]);
+    if !predicates::range_obeys(range) {
+        return TOP;
+    }
+    points::scaled_distance(range, scale, values[channel])
 }
 
 // What a node without operands has at the row: a predicate its distance, true TOP.
 fn leaf_value(numbers: &[u64], cells: &[i64], values: &[i64], node: Node) -> i64
-    requires { ⌜ (NUMBERS ≤ length (now numbers)) × (CELLS ≤ length (now cells)) ⌝ }
+    requires { ⌜ (NUMBERS ≤ length (now numbers)) × (CELLS ≤ length (now cells)) × Values (now values) ⌝ }
     ensures other { λ r. ⌜ ((node .kind ≡ predicate-kind → ⊥) → r ≡ pos TOP) ⌝ }
     ensures named { λ r. ⌜ (node .kind ≡ predicate-kind → (p : Predicate) (k : _) → LeafAsks (now (numbers .entry)) (now (cells .entry)) (now (values .entry)) node p k → r ≡ scaled-distance TOP k (p .range) (getD (now (values .entry)) (p .channel) (pos 0))) ⌝ }
 {
@@ -203,7 +196,7 @@ fn take_leaf(
     opening: bool,
     k: usize,
 )
-    requires { ⌜ (NUMBERS ≤ length (now numbers)) × (CELLS ≤ length (now cells)) × (k < NODES) ⌝ }
+    requires { ⌜ (NUMBERS ≤ length (now numbers)) × (CELLS ≤ length (now cells)) × (k < NODES) × Values (now values) ⌝ }
     ensures taken { λ _. ⌜ ((since : _) (t : Table) (c : Card) (r : Row) → Arriving (now (values .entry)) opening since t c r → k < t .count → node ≡ node-in (now (numbers .entry)) k → node .kind ≤ 1 → Taking (now (numbers .entry)) (now (cells .entry)) t c r k → Taking (now (numbers .entry)) (now (cells .exit)) t c r (suc k)) ⌝ }
     ensures beyond { λ _. ⌜ SameBeyond (now (cells .entry)) (now (cells .exit)) ⌝ }
 {
@@ -254,7 +247,7 @@ fn take_node(
     since: u64,
     k: usize,
 )
-    requires { ⌜ (NUMBERS ≤ length (now numbers)) × (CELLS ≤ length (now cells)) × (k < NODES) ⌝ }
+    requires { ⌜ (NUMBERS ≤ length (now numbers)) × (CELLS ≤ length (now cells)) × (k < NODES) × Values (now values) ⌝ }
     ensures taken { λ _. ⌜ ((t : Table) (c : Card) (r : Row) → Arriving (now (values .entry)) opening since t c r → k < t .count → Taking (now (numbers .entry)) (now (cells .entry)) t c r k → Taking (now (numbers .entry)) (now (cells .exit)) t c r (suc k)) ⌝ }
     ensures beyond { λ _. ⌜ SameBeyond (now (cells .entry)) (now (cells .exit)) ⌝ }
 {
@@ -278,7 +271,7 @@ pub fn take_nodes(
     since: u64,
     count: usize,
 )
-    requires { ⌜ (NUMBERS ≤ length (now numbers)) × (CELLS ≤ length (now cells)) × (count ≤ NODES) ⌝ }
+    requires { ⌜ (NUMBERS ≤ length (now numbers)) × (CELLS ≤ length (now cells)) × (count ≤ NODES) × Values (now values) ⌝ }
     ensures taken { λ _. ⌜ ((t : Table) (c : Card) (r : Row) → Arriving (now (values .entry)) opening since t c r → count ≡ t .count → Taking (now (numbers .entry)) (now (cells .entry)) t c r 0 → Taking (now (numbers .entry)) (now (cells .exit)) t c r count) ⌝ }
     ensures beyond { λ _. ⌜ SameBeyond (now (cells .entry)) (now (cells .exit)) ⌝ }
 {

@@ -11,6 +11,7 @@ ghost use Rattle.lists.specs.Front.{written};
 ghost use Rattle.flat.specs.Predicates.{ends-of};
 ghost use Rattle.recordings.specs.Card.{Card, rows};
 ghost use Rattle.recordings.specs.Margin.{margin};
+ghost use Rattle.recordings.specs.Accepted.{Values};
 ghost use Rattle.tables.specs.declared.Table.{Table};
 ghost use Rattle.tables.specs.Tree.{NODES, root};
 ghost use Rattle.tables.specs.Rules.{TableRules};
@@ -186,7 +187,8 @@ pub fn make(
 // The first refusal that applies to a row.
 fn offer_refusal(numbers: &[u64], time: u64, values: &[i64]) -> u64
     requires { ⌜ NUMBERS ≤ length (now numbers) ⌝ }
-    ensures { λ r. ⌜ ((cells : _) (t : Table) (c : Card) → Watches (now (numbers .entry)) cells t c → r ≡ offer-refusal c t (record { time = time; values = now (values .entry) })) ⌝ }
+    ensures number { λ r. ⌜ ((cells : _) (t : Table) (c : Card) → Watches (now (numbers .entry)) cells t c → r ≡ offer-refusal c t (record { time = time; values = now (values .entry) })) ⌝ }
+    ensures values { λ r. ⌜ (r ≡ 0 → Values (now (values .entry))) ⌝ }
 {
     let refusal = numbers[REFUSAL];
     if refusal != 0 {
@@ -227,7 +229,7 @@ fn node_count(count: u64) -> usize
 
 // A row that was accepted.
 fn take_row(numbers: &mut [u64], cells: &mut [i64], time: u64, values: &[i64])
-    requires { ⌜ (NUMBERS ≤ length (now numbers)) × (CELLS ≤ length (now cells)) ⌝ }
+    requires { ⌜ (NUMBERS ≤ length (now numbers)) × (CELLS ≤ length (now cells)) × Values (now values) ⌝ }
     ensures watch { λ _. ⌜ ((t : Table) (c : Card) → Watches (now (numbers .entry)) (now (cells .entry)) t c → offer-refusal c t (record { time = time; values = now (values .entry) }) ≡ 0 → Watches (now (numbers .exit)) (now (cells .exit)) t (with-row c (record { time = time; values = now (values .entry) }))) ⌝ }
     ensures behind { λ _. ⌜ SameBehind NUMBERS 0 (now (numbers .entry)) (now (numbers .exit)) × SameBehind CELLS (pos 0) (now (cells .entry)) (now (cells .exit)) ⌝ }
 {

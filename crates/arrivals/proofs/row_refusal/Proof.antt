@@ -1,8 +1,11 @@
 -- The tests follow the list; what they are told of the rows before is all that the list asks of them.
 -- Assumes nothing.
 use mathlib.Core.Path.{_≡_, refl, sym, _∙_}
+use native.Mathlib.Omega.{arith}
 use borrow.Author.Needs.{needs}
 use borrow.Author.Tests.{not-true, not-false}
+use Rattle.numbers.proofs.Parts.{holds}
+use Rattle.rules.proofs.Recording.{values-are}
 use Rattle.arrivals.specs.Arrivals.{Row}
 use Rattle.arrivals.proofs.Refusals.{row-five, row-later}
 use Rattle.arrivals.proofs.row_refusal.Statement.{statement}
@@ -12,31 +15,37 @@ abbrev row-of : tie.Start → Row
 row-of s = record { time = s .args .time; values = s .args .values .now }
 
 returns : tie.Need-returns
-returns c = λ k hc ht hl. row-five k (row-of (c .before)) (c .before .args .taken) hc ht hl (c .if1 .taken)
+returns c = (λ k hc ht hl. row-five k (row-of (c .before)) (c .before .args .taken) hc ht hl (c .if1 .taken), λ z. absurd (omega (arith, z)))
 
 follows-requires : tie.Need-follows-requires
 follows-requires c κs = search needs
 
 returns-2 : tie.Need-returns-2
-returns-2 c =
+returns-2 c = (
     λ k hc ht hl.
     let s = c .before .before .before in
-    row-later k (row-of s) (s .args .taken) hc ht hl (c .before .before .if1 .left) (sym (not-true (c .before .follows .result) (c .if2 .taken)) ∙ c .before .follows .ensures) refl
+    row-later k (row-of s) (s .args .taken) hc ht hl (c .before .before .if1 .left) (sym (not-true (c .before .follows .result) (c .if2 .taken)) ∙ c .before .follows .ensures) refl,
+    λ z. absurd (omega (arith, z)),
+    )
 
 values-obey-requires : tie.Need-values-obey-requires
 values-obey-requires c κs = search needs
 
 returns-3 : tie.Need-returns-3
-returns-3 c =
+returns-3 c = (
     λ k hc ht hl.
     let s = c .before .before .before .before .before in
-    row-later k (row-of s) (s .args .taken) hc ht hl (c .before .before .before .before .if1 .left) (sym (not-false _ (c .before .before .if2 .left)) ∙ c .before .before .before .follows .ensures) (sym (not-true (c .before .values-obey .result) (c .if3 .taken)) ∙ c .before .values-obey .ensures)
+    row-later k (row-of s) (s .args .taken) hc ht hl (c .before .before .before .before .if1 .left) (sym (not-false _ (c .before .before .if2 .left)) ∙ c .before .before .before .follows .ensures) (sym (not-true (c .before .values-obey .result) (c .if3 .taken)) ∙ c .before .values-obey .ensures),
+    λ z. absurd (omega (arith, z)),
+    )
 
 returns-4 : tie.Need-returns-4
-returns-4 c =
+returns-4 c = (
     λ k hc ht hl.
     let s = c .before .before .before .before .before in
-    row-later k (row-of s) (s .args .taken) hc ht hl (c .before .before .before .before .if1 .left) (sym (not-false _ (c .before .before .if2 .left)) ∙ c .before .before .before .follows .ensures) (sym (not-false _ (c .if3 .left)) ∙ c .before .values-obey .ensures)
+    row-later k (row-of s) (s .args .taken) hc ht hl (c .before .before .before .before .if1 .left) (sym (not-false _ (c .before .before .if2 .left)) ∙ c .before .before .before .follows .ensures) (sym (not-false _ (c .if3 .left)) ∙ c .before .values-obey .ensures),
+    λ z. values-are (c .before .before .before .before .before .args .values .now) (holds (sym (c .before .values-obey .ensures) ∙ not-false _ (c .if3 .left))),
+    )
 
 pub row-refusal-spec : {M : Type 1} → statement M
 row-refusal-spec =

@@ -1,42 +1,67 @@
--- Of a predicate that was accepted the distance is not refused; nothing else is asked for.
+-- Of a predicate that was accepted the numbers pass every test; of others nothing is asked for.
 -- Assumes nothing.
-use Prim.Native.Nat.{ℕ, _+_}
-use lib.ListN.{getD}
-use Rattle.points.proofs.Fits.{fit}
-use mir.Syntax.{w64}
-use mir.Val.{toZ, ofZ}
-use mathlib.Core.Path.{_≡_, refl, sym, ap, ap₂, _∙_}
+use mathlib.Core.Path.{_≡_, refl, sym, ap, ap₂, _∙_, subst}
 use native.Mathlib.Omega.{arith}
-use Rattle.numbers.proofs.Bits.{back-ok, back-is}
-use Prim.Native.Nat.{ℕ}
+use borrow.Author.Tests.{not-true, not-false}
+use Prim.Native.Nat.{ℕ, _+_, _*_}
+use lib.Dec.{T}
+use lib.ListN.{getD}
+use lib.IntN.{pos}
+use Rattle.numbers.proofs.Bits.{back, back-ok, back-is}
+use Rattle.numbers.proofs.Parts.{holds}
+use Rattle.points.proofs.Fits.{fit, in-back}
 use Rattle.recordings.specs.declared.Predicate.{Predicate}
+use Rattle.recordings.specs.declared.Range.{Range}
+use Rattle.predicates.specs.Predicates.{range-obeys}
+use Rattle.predicates.proofs.Predicates.{range-ends, ends-pass}
+use Rattle.refusals.proofs.First.{answers}
+use Rattle.flat.specs.Predicates.{range-from}
 use Rattle.watch_cells.specs.Taking.{LeafAsks}
-use Rattle.watch_cells.proofs.Points.{distance-found, never-refused}
+use Rattle.watch_cells.proofs.Points.{clash, distance-same}
 use borrow.Author.Needs.{needs}
 use Rattle.watch_cells.proofs.distance_of.Statement.{statement}
 use Rattle.watch_cells.proofs.distance_of.Tie as tie
 
--- Of a predicate that was accepted the distance is not refused; nothing else is asked for.
--- Assumes nothing.
+-- what a predicate's node reads
+abbrev Asks : tie.Start → Predicate → ℕ → Type 0
+Asks s p k = LeafAsks (s .args .numbers .now) (s .args .cells .now) (s .args .values .now) (s .args .node) p k
 
--- the predicate that is read
-read : (c : tie.After-predicate-of) {p : Predicate} {k : ℕ} → LeafAsks (c .before .before .before .args .numbers .now) (c .before .before .before .args .cells .now) (c .before .before .before .args .values .now) (c .before .before .before .args .node) p k → c .predicate-of .result ≡ p
-read c a = c .predicate-of .ensures ∙ a .predicate-is
+channel : (s : tie.Start) {p : Predicate} {k : ℕ} → Asks s p k → getD (s .args .numbers .now) (14 + 2 * s .args .node .left + 1) 0 ≡ p .channel
+channel s a = ap (λ (q : Predicate). q .channel) (a .predicate-is)
 
-channel : (c : tie.After-predicate-of) {p : Predicate} {k : ℕ} → LeafAsks (c .before .before .before .args .numbers .now) (c .before .before .before .args .cells .now) (c .before .before .before .args .values .now) (c .before .before .before .args .node) p k → c .predicate-of .result .channel ≡ p .channel
-channel c a = ap (λ (q : Predicate). q .channel) (read c a)
+scale : (s : tie.Start) {p : Predicate} {k : ℕ} → Asks s p k → getD (s .args .numbers .now) (6 + getD (s .args .numbers .now) (14 + 2 * s .args .node .left + 1) 0) 0 ≡ k
+scale s a = ap (λ (n : ℕ). getD (s .args .numbers .now) (6 + n) 0) (channel s a) ∙ a .scale-is
+
+range : (c : tie.After-range-from) {p : Predicate} {k : ℕ} → Asks (c .before .before .before .before .before .before .before .before .before .before .before) p k → c .range-from .result ≡ p .range
+range c a =
+    let s = c .before .before .before .before .before .before .before .before .before .before .before in
+    c .range-from .ensures
+    ∙ ap₂ (range-from (getD (s .args .numbers .now) (14 + 2 * s .args .node .left) 0)) (back-ok _ (c .before .before .range-from-arg .given)) (back-ok _ (c .before .range-from-arg2 .given))
+    ∙ ap (λ (q : Predicate). q .range) (a .predicate-is)
 
 returns : tie.Need-returns
 returns c = λ p k a. absurd (omega (arith, a .numbered, c .if1 .taken))
 
-predicate-of-requires : tie.Need-predicate-of-requires
-predicate-of-requires c κs = search needs
+mul-at : tie.Need-mul-at
+mul-at c = search needs
+
+add-at : tie.Need-add-at
+add-at c = search needs
+
+add-channel : tie.Need-add-channel
+add-channel c = search needs
+
+mul-channel : tie.Need-mul-channel
+mul-channel c = search needs
+
+shared-slice-read-channel : tie.Need-shared-slice-read-channel
+shared-slice-read-channel c = search needs
 
 returns-2 : tie.Need-returns-2
-returns-2 c = λ p k a. absurd (omega (arith, a .known, channel (c .before) a, c .if2 .taken))
+returns-2 c = λ p k a. absurd (omega (arith, a .known, channel (c .before .before .before .before) a, c .if2 .taken))
 
 returns-3 : tie.Need-returns-3
-returns-3 c = λ p k a. absurd (omega (arith, a .here, channel (c .before .before) a, c .if3 .taken))
+returns-3 c = λ p k a. absurd (omega (arith, a .here, channel (c .before .before .before .before .before) a, c .if3 .taken))
 
 add-scale : tie.Need-add-scale
 add-scale c = search needs
@@ -47,51 +72,92 @@ mul-scale c = search needs
 shared-slice-read-scale : tie.Need-shared-slice-read-scale
 shared-slice-read-scale c = search needs
 
-mul-distance : tie.Need-mul-distance
-mul-distance c = search needs
-
-shared-slice-copy-out-distance : tie.Need-shared-slice-copy-out-distance
-shared-slice-copy-out-distance c = search needs
-
-distance-requires : tie.Need-distance-requires
-distance-requires c κs = search needs
-
-enum-known-far : tie.Need-enum-known-far
-enum-known-far c = search needs
-
-enum-told : tie.Need-enum-told
-enum-told c = search needs
-
 returns-4 : tie.Need-returns-4
-returns-4 c =
-    λ p k a.
-    let z : toZ w64 (ofZ w64 (c .before .far .given .0 .0)) ≡ c .before .far .given .0 .0 = search needs in
-    let r = c .before .before .before .before .before .before .before .before in
-    let s = r .before .before .before in
-    z ∙ distance-found (read r a) (ap (λ (n : ℕ). getD (s .args .numbers .now) (6 + n) 0) (channel r a) ∙ a .scale-is) (rw (channel r a) (back-is (fit (a .in-range)))) (a .proper) (a .scaled) (a .in-range) (c .before .before .before .distance .result) (c .before .before .before .distance .ensures) (c .before .far .given .1)
+returns-4 c = λ p k a. absurd (omega (arith, a .scaled .most, scale (c .before .before .before .before .before .before .before) a, c .if4 .taken))
+
+mul-range-from : tie.Need-mul-range-from
+mul-range-from c = search needs
+
+shared-slice-read-range-from : tie.Need-shared-slice-read-range-from
+shared-slice-read-range-from c = search needs
+
+mul-range-from-2 : tie.Need-mul-range-from-2
+mul-range-from-2 c = search needs
+
+mul-range-from-3 : tie.Need-mul-range-from-3
+mul-range-from-3 c = search needs
+
+shared-slice-copy-out-range-from : tie.Need-shared-slice-copy-out-range-from
+shared-slice-copy-out-range-from c = search needs
+
+mul-range-from-4 : tie.Need-mul-range-from-4
+mul-range-from-4 c = search needs
+
+add-range-from : tie.Need-add-range-from
+add-range-from c = search needs
+
+mul-range-from-5 : tie.Need-mul-range-from-5
+mul-range-from-5 c = search needs
+
+shared-slice-copy-out-range-from-2 : tie.Need-shared-slice-copy-out-range-from-2
+shared-slice-copy-out-range-from-2 c = search needs
+
+range-from-requires : tie.Need-range-from-requires
+range-from-requires c κs = search needs
+
+range-obeys-requires : tie.Need-range-obeys-requires
+range-obeys-requires c κs = search needs
 
 returns-5 : tie.Need-returns-5
-returns-5 c =
+returns-5 c = λ p k a. absurd (clash (answers (subst (λ (r : Range). T (range-obeys r)) (sym (range (c .before .before) a)) (ends-pass (p .range) (a .proper .ends)))) (sym (c .before .range-obeys .ensures) ∙ not-true (c .before .range-obeys .result) (c .if5 .taken)))
+
+mul-scaled-distance : tie.Need-mul-scaled-distance
+mul-scaled-distance c = search needs
+
+shared-slice-copy-out-scaled-distance : tie.Need-shared-slice-copy-out-scaled-distance
+shared-slice-copy-out-scaled-distance c = search needs
+
+scaled-distance-requires : tie.Need-scaled-distance-requires
+scaled-distance-requires c κs =
+    let s = c .before .before .before .before .before .before .before .before .before .before .before .before .before .before in
+    (in-back (s .pre .2 .each _ (c .before .before .before .before .before .before .before .before .before .if3 .left)), range-ends (c .before .before .before .range-from .result) (holds (sym (c .before .before .range-obeys .ensures) ∙ not-false _ (c .before .if5 .left))), c .before .before .before .before .before .before .before .if4 .left)
+
+returns-6 : tie.Need-returns-6
+returns-6 c = 
     λ p k a.
-    let r = c .before .before .before .before .before .before .before in
-    let s = r .before .before .before in
-    absurd (never-refused (read r a) (ap (λ (n : ℕ). getD (s .args .numbers .now) (6 + n) 0) (channel r a) ∙ a .scale-is) (rw (channel r a) (back-is (fit (a .in-range)))) (a .proper) (a .scaled) (a .in-range) (c .before .before .distance .result) (c .before .before .distance .ensures) (c .enum-told .given .1))
+    let s = c .before .before .before .before .before .before .before .before .before .before .before .before .before .before .before in
+    let z = c .scaled-distance in
+    back-ok (z .result) (z .ok) ∙ z .ensures ∙ distance-same (scale s a) (range (c .before .before .before .before) a) (ap back (ap (λ (n : ℕ). getD (s .args .values .now) n (pos 0)) (channel s a)) ∙ back-is (fit (a .in-range)))
 
 pub distance-of-spec : {M : Type 1} → statement M
 distance-of-spec =
     tie.close
     (tie.spec
     returns
-    predicate-of-requires
+    mul-at
+    add-at
+    add-channel
+    mul-channel
+    shared-slice-read-channel
     returns-2
     returns-3
     add-scale
     mul-scale
     shared-slice-read-scale
-    mul-distance
-    shared-slice-copy-out-distance
-    distance-requires
-    enum-known-far
-    enum-told
     returns-4
-    returns-5)
+    mul-range-from
+    shared-slice-read-range-from
+    mul-range-from-2
+    mul-range-from-3
+    shared-slice-copy-out-range-from
+    mul-range-from-4
+    add-range-from
+    mul-range-from-5
+    shared-slice-copy-out-range-from-2
+    range-from-requires
+    range-obeys-requires
+    returns-5
+    mul-scaled-distance
+    shared-slice-copy-out-scaled-distance
+    scaled-distance-requires
+    returns-6)

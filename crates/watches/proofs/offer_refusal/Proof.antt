@@ -14,7 +14,7 @@ shared-slice-read-refusal : tie.Need-shared-slice-read-refusal
 shared-slice-read-refusal c = search needs
 
 returns : tie.Need-returns
-returns c = λ cells t k W. making-first W (row-checks k (row-of (c .before .before .before))) (c .if1 .taken)
+returns c = (λ cells t k W. making-first W (row-checks k (row-of (c .before .before .before))) (c .if1 .taken), λ z. absurd (c .if1 .taken z))
 
 shared-slice-read-row-refusal : tie.Need-shared-slice-read-row-refusal
 shared-slice-read-row-refusal c = search needs
@@ -29,11 +29,13 @@ row-refusal-requires : tie.Need-row-refusal-requires
 row-refusal-requires c κs = search needs
 
 returns-2 : tie.Need-returns-2
-returns-2 c =
+returns-2 c = (
     λ cells t k W.
     let e = c .before .before .before .before .if1 .left in
     let K = kept-now W e in
-    c .row-refusal .ensures k (K .planned .channels) (K .clock .taken) (K .clock .last) ∙ row-first W (row-of (c .before .before .before .before .before .before .before)) e
+    c .row-refusal .ensures .0 k (K .planned .channels) (K .clock .taken) (K .clock .last) ∙ row-first W (row-of (c .before .before .before .before .before .before .before)) e,
+    c .row-refusal .ensures .1,
+    )
 
 pub offer-refusal-spec : {M : Type 1} → statement M
 offer-refusal-spec =

@@ -21,7 +21,7 @@ room : (c : tie.Else1) → Roomy (length (c .before .before .before .args .numbe
 room c = roomy _ _ (sym (c .before .is-roomy .ensures) ∙ not-false _ (c .if1 .left))
 
 none : (c : tie.Else2) (t : Table) (k : Card) → Watches (c .before .before .before .before .before .before .args .numbers .now) (c .before .before .before .before .before .before .args .cells .now) t k → offer-refusal k t (row-of (c .before .before .before .before .before .before)) ≡ 0
-none c t k W = sym (c .before .offer-refusal .ensures (c .before .before .before .before .before .before .args .cells .now) t k W) ∙ c .if2 .left
+none c t k W = sym (c .before .offer-refusal .ensures .0 (c .before .before .before .before .before .before .args .cells .now) t k W) ∙ c .if2 .left
 
 is-roomy-requires : tie.Need-is-roomy-requires
 is-roomy-requires c κs = search needs
@@ -40,11 +40,11 @@ same-length c = search needs
 returns-2 : tie.Need-returns-2
 returns-2 c =
     let s = c .before .before .before .before .before .before in
-    let o = c .before .offer-refusal .ensures in
+    let o = c .before .offer-refusal .ensures .0 in
     (record { equal = λ z. refl; number = o (s .args .cells .now); watch = λ t k W. refused-watches W (row-of s) (λ z. c .if2 .taken (o (s .args .cells .now) t k W ∙ z)) }, (λ z. absurd (z (room (c .before .before .before))), (record { same = λ i h. refl }, record { same = λ i h. refl })))
 
 take-row-requires : tie.Need-take-row-requires
-take-row-requires c κs = let m = room (c .before .before .before .before .before) in (m .long, m .wide)
+take-row-requires c κs = let m = room (c .before .before .before .before .before) in (m .long, m .wide, c .before .before .before .offer-refusal .ensures .1 (c .before .before .if2 .left))
 
 same-length-2 : tie.Need-same-length-2
 same-length-2 c = search needs
