@@ -8,8 +8,9 @@ use crate::table::{self, Table};
 /// The margin of one requirement, row after row. A watch takes one row at a time, stores none, and has
 /// no limit of rows; its size is the same however many it has taken.
 ///
-/// After any rows its margin is that of the recording made of those that it accepted, as
-/// [`crate::margin()`] would give it. A row that is refused leaves the watch as it was.
+/// After any rows its margin is that of the recording made of those that it accepted: what
+/// [`crate::margin()`] gives for it, up to the 4,096 rows that this takes. A row that is refused leaves
+/// the watch as it was.
 #[derive(Clone, PartialEq, Eq, Debug)]
 pub struct Watch {
     numbers: [u64; Watch::NUMBERS],

@@ -2,16 +2,21 @@
 -- Assumes nothing.
 use mathlib.Core.Path.{_≡_, sym, _∙_, subst}
 use mathlib.Core.List.{List, [], _∷_}
-use Prim.Native.Nat.{ℕ}
+use Prim.Native.Nat.{ℕ, _*_, _≤_}
+use native.Mathlib.Omega.{arith}
 use native.Mathlib.Decide.{ℕ-discrete}
 use lib.IntN.{pos}
 use Rattle.recordings.specs.declared.Setup.{Setup}
-use Rattle.recordings.specs.Card.{Card}
+use Rattle.recordings.specs.Card.{Card, rows}
+use Rattle.recordings.specs.Accepted.{MOST-ROWS}
 use Rattle.recordings.specs.Margin.{margin}
 use Rattle.tables.specs.declared.Table.{Table}
 use Rattle.tables.specs.Tree.{root}
 use Rattle.refusals.specs.First.{first, Refused}
-use Rattle.refusals.proofs.First.{refused, first-is, first-stays, unless-none, unless-some}
+use Rattle.refusals.proofs.First.{passed, refused, first-is, first-stays, unless-none, unless-some}
+use Rattle.rules.specs.Refusals.{Sound}
+use Rattle.margins.specs.Answers.{margin-judged}
+use Rattle.margins.proofs.Promises.{none-number}
 use Rattle.arrivals.specs.Arrivals.{Row, no-rows, with-row, making-checks, row-checks, offer-checks, offer-refusal, accepted, recorded, some-row-check, asked-checks, asked-refusal, margin-so-far}
 use Rattle.arrivals.specs.Fits.{Fits}
 use Rattle.arrivals.proofs.Refusals.{making-exact, offer-exact, asked-exact}
@@ -69,3 +74,22 @@ keeps-fitting t c (r ∷ rs) f = keeps-fitting t (accepted t c r) rs (elim (ℕ-
 
 pub recorded-fits : (s : Setup) (t : Table) (rs : List Row) → s .scales .count ≡ s .channels → first (making-checks (no-rows s) t) ≡ 0 → Fits (recorded t (no-rows s) rs)
 recorded-fits s t rs k e = keeps-fitting t (no-rows s) rs (fits-none s t k e)
+
+-- ---- where the rows are not more than a recording may have, it is the margin that is judged of that recording, the cells being enough
+pub judged-alike : (c : Card) (t : Table) (cells : ℕ) → Fits c → asked-refusal c t ≡ 0 → rows c ≤ MOST-ROWS → t .count * rows c ≤ cells → margin-judged c t cells ≡ margin-so-far c t
+unfolding margin-judged margin-so-far
+judged-alike c t cells f e few room =
+    let p = passed (asked-checks c t) tt (asked-exact c t) e in
+    let m = f .measured in
+    let s : Sound c t = record {
+      ruled = p .each 0 (omega arith) .0;
+      named = p .each 0 (omega arith) .1;
+      recorded = record {
+        channels = m .channels;
+        scaled = m .scaled;
+        lengths = record { all-scales = m .all-scales; some-row = p .each 4 (omega arith); few-rows = few; all-values = f .all-values };
+        times = f .times;
+        values = m .values;
+      };
+    } in
+    rw (none-number c t cells s room, e)

@@ -1,5 +1,5 @@
 -- Each test of the lists holds exactly where its sentence does, so a number is answered exactly when its condition applies and no earlier one does (`refused` and
--- `first-is` of refusals). The rows that were accepted make a recording that is as document 01 asks, but for their count.
+-- `first-is` of refusals).
 -- Assumes nothing.
 use mathlib.Core.Path.{_≡_, refl, sym, _∙_}
 use mathlib.Core.Bool.{Bool, true, false, cond, _||_}

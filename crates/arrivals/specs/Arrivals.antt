@@ -1,4 +1,4 @@
--- Rows as they arrive, one at a time: which are accepted, the recording made of them, and the margin that is answered meanwhile. No row is the 4,096th: any count may come.
+-- Rows as they arrive, one at a time: which are accepted, the recording made of them, and the margin that is answered meanwhile. There is no limit of rows.
 -- Assumes nothing.
 use mathlib.Core.Path.{_≡_}
 use mathlib.Core.Bool.{Bool, _&&_, _||_}

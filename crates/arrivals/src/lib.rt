@@ -24,11 +24,11 @@ pub fn making_refusal(table: Table, setup: Setup) -> u64
     0
 }
 
-// Whether a row's time may follow that of the last of so many rows.
-fn follows(rows: u64, last: u64, time: u64) -> bool
-    ensures { λ r. ⌜ r ≡ follows rows last time ⌝ }
+// Whether a row's time may follow that of the last row; `taken` is 0 where there was none.
+fn follows(taken: u64, last: u64, time: u64) -> bool
+    ensures { λ r. ⌜ r ≡ follows taken last time ⌝ }
 {
-    (time <= LATEST) & ((rows == 0) | (last < time))
+    (time <= LATEST) & ((taken == 0) | (last < time))
 }
 
 // The first of refusals 5 to 7 that applies to a row, 0 where none does. Of the rows before it, it is asked whether there were any, and the time of the last.

@@ -27,7 +27,7 @@ unnested (negation φ) = unnested φ
 unnested (junction e l r) = unnested l && unnested r
 unnested (temporal d e w l r) = momentary l && momentary r
 
--- 16: of no node, whether the root reaches it or not
+-- 16: every node is asked, whether the root reaches it or not
 unfoldable pub nodes-unnested : List Node → ℕ → Bool
 nodes-unnested ns n = all-below (λ k. unnested (tree ns k)) n
 

@@ -233,9 +233,11 @@ fn take_timed(cells: &mut [i64], node: Node, opening: bool, since: u64, k: usize
     let left = left_operand(cells, node, other, k);
     let right = right_operand(cells, node, k);
     let here = in_window(node, since);
+    let next = points::extreme(other, carried, left);
+    let best = margin_after(e, margin, carried, right, here);
     let at = HELD_AT + 3 * k;
-    cells[at + MARGIN] = margin_after(e, margin, carried, right, here);
-    cells[at + CARRIED] = points::extreme(other, carried, left);
+    cells[at + MARGIN] = best;
+    cells[at + CARRIED] = next;
 }
 
 // Node k takes the row.

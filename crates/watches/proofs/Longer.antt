@@ -6,7 +6,8 @@ use mathlib.Core.List.{List, [], _∷_}
 use Prim.Native.Nat.{ℕ, zero, suc, _+_, _-_, _*_, _≤_, _<_, min}
 use native.Mathlib.Omega.{arith}
 use lib.Dec.{T, eqb, eqb→eq}
-use lib.ListN.{length, getD}
+use lib.ListN.{length, getD, set}
+use Rattle.lists.specs.Fill.{fill}
 use lib.IntN.{ℤ, pos}
 use borrow.Author.Tests.{ne-eqb}
 use Rattle.recordings.specs.declared.Setup.{Setup}
@@ -22,6 +23,11 @@ use Rattle.watch_cells.specs.State.{NUMBERS, CELLS, Planned, Clock}
 use Rattle.watch_cells.specs.Taking.{Arriving, Taking}
 use Rattle.watches.specs.Watches.{Kept, Watches, SameBehind, put-at}
 use Rattle.watches.proofs.Fresh.{length-put, put-in, put-out}
+
+-- three numbers, one after the other
+pub three-put : (numbers : List ℕ) (a b c : ℕ) → set (set (set numbers 2 a) 3 b) 4 c ≡ put-at 2 0 (a ∷ b ∷ c ∷ []) numbers
+unfolding fill
+three-put numbers a b c = refl
 
 -- what refuses a making looks at no sample
 making-same : (c : Card) (t : Table) (r : Row) → first (making-checks c t) ≡ first (making-checks (with-row c r) t)

@@ -2,17 +2,23 @@
 -- Assumes nothing.
 use mathlib.Core.Path.{_≡_, refl, sym, ap, _∙_, subst}
 use mathlib.Core.List.{List, [], _∷_}
+use Prim.Native.Nat.{ℕ}
 use Rattle.recordings.specs.declared.Predicate.{Predicate}
 use Rattle.recordings.specs.declared.Scales.{Scales}
+use Rattle.recordings.specs.declared.Setup.{Setup}
 use Rattle.recordings.specs.Card.{Card}
 use Rattle.tables.specs.declared.Table.{Table}
-use Rattle.refusals.specs.First.{first}
+use Rattle.refusals.specs.First.{first, AllExact, Refused}
+use Rattle.refusals.proofs.First.{refused, first-is, exact-append, answers}
 use Rattle.margins.specs.declared.Answer.{Answer}
 use Rattle.margins.specs.Answers.{MarginOutcome, margin-outcome}
 use Rattle.arrivals.specs.Arrivals.{Row, watch-setup, no-rows, making-checks, accepted, recorded, margin-so-far}
+use Rattle.arrivals.proofs.Refusals.{making-exact}
 use Rattle.arrivals.proofs.Promises.{refused-row, making-refuses, making-silences}
 use Rattle.watches.specs.declared.Watch.{Watch}
 use Rattle.watches.specs.declared.Taken.{Taken}
+use Rattle.watches.specs.Watches.{room-check, lent-checks}
+use Rattle.watches.proofs.Answers.{roomy, roomy-passes}
 use Rattle.watches.specs.Run.{Watching, Took, Told, Run, rest, offer}
 
 pub run-watching : (t : Table) (c : Card) {w v : Watch} {rs : List Row} → Run w rs v → Watching w t c → Watching v t (recorded t c rs)
@@ -34,3 +40,14 @@ module _ (t : Table) (c : Card) (h : first (making-checks c t) ≡ 0 → ⊥) wh
 
   pub margin-refused : {w : Watch} (a : Answer) → Watching w t c → Told w a → margin-outcome a .number ≡ first (making-checks c t)
   margin-refused a W f = ap (λ (o : MarginOutcome). o .number) (f t c W) ∙ making-silences c t h
+
+-- ---- a watch that is lent: the making's number or 8, exactly when its condition applies and no earlier one does
+module _ (s : Setup) (t : Table) (numbers cells : ℕ) where
+  lent-exact : AllExact (lent-checks s t numbers cells)
+  lent-exact = exact-append (making-checks (no-rows s) t) (room-check numbers cells ∷ []) (making-exact (no-rows s) t) (λ _. (record { sound = λ h. roomy numbers cells (answers h); complete = roomy-passes numbers cells }, λ _. tt))
+
+  pub lent-refused : (first (lent-checks s t numbers cells) ≡ 0 → ⊥) → Refused (lent-checks s t numbers cells) (first (lent-checks s t numbers cells))
+  lent-refused h = refused (lent-checks s t numbers cells) lent-exact h
+
+  pub refused-lent : (m : ℕ) → Refused (lent-checks s t numbers cells) m → first (lent-checks s t numbers cells) ≡ m
+  refused-lent m h = first-is (lent-checks s t numbers cells) lent-exact h

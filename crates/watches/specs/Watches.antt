@@ -1,5 +1,5 @@
--- A watch of a table that has taken the rows of a recording: the number that its making was refused by or, where it wasn't, the table, the setup, the times and each node's
--- margin at sample 0. How these lie in the slices is watch_cells/specs/State.
+-- A watch of a table that has taken the rows of a recording: the number that its making was refused by or, where it wasn't, the table, the setup, the times, and of each node
+-- its margin at sample 0 and what it carries. How these lie in the slices is watch_cells/specs/State.
 -- Assumes nothing.
 use mathlib.Core.Path.{_≡_}
 use mathlib.Core.Bool.{_&&_}

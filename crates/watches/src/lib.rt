@@ -238,8 +238,9 @@ fn take_row(numbers: &mut [u64], cells: &mut [i64], time: u64, values: &[i64])
     let since = seconds(start, time);
     let count = node_count(numbers[COUNT]);
     watch_cells::take_nodes(numbers, cells, values, taken == 0, since, count);
-    let clock = [1, start, time];
-    put_numbers(&clock, numbers, TAKEN);
+    numbers[TAKEN] = 1;
+    numbers[START] = start;
+    numbers[LAST] = time;
 }
 
 // One row more, in a watch that is lent. A refused one leaves it as it is.

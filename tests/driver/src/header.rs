@@ -18,6 +18,9 @@ const PRINTED: &str = include_str!("../../../crates/outcome_lines/src/lib.rt");
 /// And of the writer.
 const WRITER: &str = include_str!("../../../crates/writing/src/lib.rt");
 
+/// And of the watch.
+const WATCH: &str = include_str!("../../../crates/watches/src/lib.rt");
+
 /// What follows these words, up to the first byte that stands in no number.
 fn number(source: &str, words: &str) -> u64 {
     let (_, rest) = source.split_once(words).unwrap_or_else(|| panic!("no {words}"));
@@ -29,6 +32,14 @@ fn number(source: &str, words: &str) -> u64 {
 fn lines_have_the_length_of_the_proved_source() {
     let lines = number(PRINTED, "pub const LINES: usize = ");
     assert_eq!(number(HEADER, "#define VARMITYEP_LINES "), lines);
+}
+
+#[test]
+fn a_watch_is_as_long_as_the_proved_source_has_it() {
+    let numbers = number(WATCH, "pub const NUMBERS: usize = ");
+    assert_eq!(number(HEADER, "#define VARMITYEP_WATCH_NUMBERS "), numbers);
+    let cells = number(WATCH, "pub const CELLS: usize = ");
+    assert_eq!(number(HEADER, "#define VARMITYEP_WATCH_CELLS "), cells);
 }
 
 #[test]

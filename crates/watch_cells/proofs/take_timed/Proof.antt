@@ -14,9 +14,6 @@ use borrow.Author.Needs.{needs}
 use Rattle.watch_cells.proofs.take_timed.Statement.{statement}
 use Rattle.watch_cells.proofs.take_timed.Tie as tie
 
--- Right at the new sample is joined with what left was before it; then left is taken in.
--- Assumes nothing.
-
 extremum-of-requires : tie.Need-extremum-of-requires
 extremum-of-requires c κs = search needs
 
@@ -44,35 +41,35 @@ right-operand-requires c κs = search needs
 in-window-requires : tie.Need-in-window-requires
 in-window-requires c κs = search needs
 
+extreme-requires : tie.Need-extreme-requires
+extreme-requires c κs = search needs
+
+margin-after-requires : tie.Need-margin-after-requires
+margin-after-requires c κs = search needs
+
 mul-at : tie.Need-mul-at
 mul-at c = search needs
 
 add-at : tie.Need-add-at
 add-at c = search needs
 
-margin-after-requires : tie.Need-margin-after-requires
-margin-after-requires c κs = search needs
+add-best : tie.Need-add-best
+add-best c = search needs
 
-add-cells : tie.Need-add-cells
-add-cells c = search needs
+mul-best : tie.Need-mul-best
+mul-best c = search needs
 
-mul-cells : tie.Need-mul-cells
-mul-cells c = search needs
+slice-set-from-best : tie.Need-slice-set-from-best
+slice-set-from-best c = search needs
 
-slice-set-from-cells : tie.Need-slice-set-from-cells
-slice-set-from-cells c = search needs
+add-next : tie.Need-add-next
+add-next c = search needs
 
-extreme-requires : tie.Need-extreme-requires
-extreme-requires c κs = search needs
+mul-next : tie.Need-mul-next
+mul-next c = search needs
 
-add-t24 : tie.Need-add-t24
-add-t24 c = search needs
-
-mul-t23 : tie.Need-mul-t23
-mul-t23 c = search needs
-
-slice-set-from-cells-2 : tie.Need-slice-set-from-cells-2
-slice-set-from-cells-2 c = let s = c .before .before .before .before .before .before .before .before .before .before .before .before .before .before .before in rw length-set (omega (arith, s .pre .0, s .pre .1))
+slice-set-from-next : tie.Need-slice-set-from-next
+slice-set-from-next c = let s = c .before .before .before .before .before .before .before .before .before .before .before .before .before .before .before in rw length-set (omega (arith, s .pre .0, s .pre .1))
 
 same-length : tie.Need-same-length
 same-length c = search needs
@@ -90,8 +87,8 @@ returns c = (
       let l = c .before .before .before .before .before .left-operand in
       let q = c .before .before .before .right-operand in
       let w = c .before .before .in-window in
-      let y = c .before .margin-after in
-      let z = c .extreme in
+      let y = c .margin-after in
+      let z = c .before .extreme in
       let node-is = n-is ∙ K .planned .nodes (s .args .k) (s .pre .1) in
       let e = operator-extremum (operator (s .args .node .kind)) in
       let other : c .before .before .before .before .before .before .before .before .before .before .before .before .before .dual .result ≡ dual e = du ∙ ap dual ex in
@@ -121,15 +118,15 @@ take-timed-spec =
     left-operand-requires
     right-operand-requires
     in-window-requires
+    extreme-requires
+    margin-after-requires
     mul-at
     add-at
-    margin-after-requires
-    add-cells
-    mul-cells
-    slice-set-from-cells
-    extreme-requires
-    add-t24
-    mul-t23
-    slice-set-from-cells-2
+    add-best
+    mul-best
+    slice-set-from-best
+    add-next
+    mul-next
+    slice-set-from-next
     same-length
     returns)

@@ -1,16 +1,16 @@
 -- The nodes take the row, then the times move.
 -- Assumes nothing.
-use mathlib.Core.Path.{_≡_, refl, sym, ap, ap₂, _∙_, subst}
+use mathlib.Core.Path.{_≡_, refl, sym, ap, _∙_, subst}
 use native.Mathlib.Omega.{arith}
 use mathlib.Core.List.{List, [], _∷_}
 use Prim.Native.Nat.{ℕ, _+_, _-_, _<_}
 use lib.Dec.{eqb}
-use lib.ListN.{getD}
+use lib.ListN.{getD, length-set}
 use Rattle.arrivals.specs.Arrivals.{Row}
 use Rattle.watch_cells.specs.Taking.{Arriving, Taking}
 use Rattle.watches.specs.Watches.{put-at}
 use Rattle.watches.proofs.Fresh.{put-out}
-use Rattle.watches.proofs.Longer.{counted, arriving, untaken, longer-watches}
+use Rattle.watches.proofs.Longer.{three-put, counted, arriving, untaken, longer-watches}
 use borrow.Author.Needs.{needs}
 use Rattle.watches.proofs.take_row.Statement.{statement}
 use Rattle.watches.proofs.take_row.Tie as tie
@@ -39,11 +39,14 @@ node-count-requires c κs = search needs
 take-nodes-requires : tie.Need-take-nodes-requires
 take-nodes-requires c κs = search needs
 
-slice-aggregate-put-numbers : tie.Need-slice-aggregate-put-numbers
-slice-aggregate-put-numbers c = search needs
+slice-write-numbers : tie.Need-slice-write-numbers
+slice-write-numbers c = search needs
 
-put-numbers-requires : tie.Need-put-numbers-requires
-put-numbers-requires c κs = search needs
+slice-write-numbers-2 : tie.Need-slice-write-numbers-2
+slice-write-numbers-2 c = rw length-set (omega (arith, c .before .before .before .before .before .before .before .before .before .before .before .pre .0))
+
+slice-write-numbers-3 : tie.Need-slice-write-numbers-3
+slice-write-numbers-3 c = rw (length-set, length-set) (omega (arith, c .before .before .before .before .before .before .before .before .before .before .before .pre .0))
 
 same-length : tie.Need-same-length
 same-length c = search needs
@@ -52,21 +55,22 @@ same-length-2 : tie.Need-same-length-2
 same-length-2 c = search needs
 
 returns : tie.Need-returns
-returns c =
-    let s = c .before .before .before .before .before .before .before .before .before .before .before .before .before .before .before .before in
-    let st = c .before .before .before .before .before .before .before .before .before .before .before .before .start-of .ensures in
-    let se = c .before .before .before .before .before .before .before .before .before .before .before .seconds .ensures in
-    let nc = c .before .before .before .before .before .before .before .before .before .node-count .ensures in
-    let tn = c .before .before .before .before .before .before .take-nodes .ensures in
-    let pn = c .before .before .put-numbers .ensures in (
+returns c = 
+    let s = c .before .before .before .before .before .before .before .before .before .before .before in
+    let st = c .before .before .before .before .before .before .before .start-of .ensures in
+    let se = c .before .before .before .before .before .before .seconds .ensures in
+    let nc = c .before .before .before .before .node-count .ensures in
+    let tn = c .before .take-nodes .ensures in
+    let new = three-put (s .args .numbers .now) 1 (c .before .before .before .before .before .before .before .start-of .result) (s .args .time) in
+    (
       λ t k W e.
-          let r = row-of s in
-          let since = se ∙ ap (λ (x : ℕ). s .args .time - x) st in
-          let count = nc ∙ counted r W e in
-          let A = subst (λ (x : ℕ). Arriving (s .args .values .now) (eqb (getD (s .args .numbers .now) 2 0) 0) x t k r) (sym since) (arriving r W e) in
-          let D = subst (Taking (s .args .numbers .now) _ t k r) count (tn .0 t k r A count (untaken r W e)) in
-          longer-watches r W e D (pn ∙ ap (λ (x : ℕ). put-at 2 0 (1 ∷ x ∷ s .args .time ∷ []) (s .args .numbers .now)) st),
-      (record { same = λ i h. ap (λ (l : List ℕ). getD l i 0) pn ∙ put-out 2 0 (1 ∷ c .before .before .before .before .before .before .before .before .before .before .before .before .start-of .result ∷ s .args .time ∷ []) (s .args .numbers .now) i (λ a (z : i < 2 + 3). omega arith) }, record { same = tn .1 .same }),
+      let r = row-of s in
+      let since = se ∙ ap (λ (x : ℕ). s .args .time - x) st in
+      let count = nc ∙ counted r W e in
+      let A = subst (λ (x : ℕ). Arriving (s .args .values .now) (eqb (getD (s .args .numbers .now) 2 0) 0) x t k r) (sym since) (arriving r W e) in
+      let D = subst (Taking (s .args .numbers .now) _ t k r) count (tn .0 t k r A count (untaken r W e)) in
+      longer-watches r W e D (new ∙ ap (λ (x : ℕ). put-at 2 0 (1 ∷ x ∷ s .args .time ∷ []) (s .args .numbers .now)) st),
+      (record { same = λ i h. ap (λ (l : List ℕ). getD l i 0) new ∙ put-out 2 0 (1 ∷ c .before .before .before .before .before .before .before .start-of .result ∷ s .args .time ∷ []) (s .args .numbers .now) i (λ a (z : i < 2 + 3). omega arith) }, record { same = tn .1 .same }),
     )
 
 pub take-row-spec : {M : Type 1} → statement M
@@ -80,8 +84,9 @@ take-row-spec =
     slice-read-node-count
     node-count-requires
     take-nodes-requires
-    slice-aggregate-put-numbers
-    put-numbers-requires
+    slice-write-numbers
+    slice-write-numbers-2
+    slice-write-numbers-3
     same-length
     same-length-2
     returns)
