@@ -1,20 +1,20 @@
 -- The rows that are accepted make a recording as document 01 asks for it, but for their count: none has none, and each that passes 5, 6 and 7 keeps it so.
 -- Assumes nothing.
-use mathlib.Core.Path.{_≡_, refl, sym, _∙_, subst}
+use mathlib.Core.Path.{_≡_}
 use mathlib.Core.Logic.{inl, inr}
-use mathlib.Core.List.{List, [], _∷_, _++_}
-use Prim.Native.Nat.{ℕ, suc, _+_, _-_, _*_, _≤_, _<_}
+use mathlib.Core.List.{List, _++_}
+use Prim.Native.Nat.{ℕ, suc, _+_, _-_, _≤_, _<_}
 use native.Mathlib.Omega.{arith}
 use native.Mathlib.Decide.{decLt, ℕ-discrete}
 use lib.ListN.{length, getD, length-append, List·getD-append}
 use lib.IntN.{pos}
 use Rattle.recordings.specs.declared.Setup.{Setup}
-use Rattle.recordings.specs.Card.{Card, rows, time, last-time}
-use Rattle.recordings.specs.Accepted.{InRange, Measured, Times, Values}
+use Rattle.recordings.specs.Card.{Card, rows, time}
+use Rattle.recordings.specs.Accepted.{InRange}
 use Rattle.tables.specs.declared.Table.{Table}
 use Rattle.refusals.specs.First.{first, Passed}
-use Rattle.refusals.proofs.First.{passed, unless-none, unless-some}
-use Rattle.arrivals.specs.Arrivals.{Row, no-rows, with-row, making-checks, Later, offer-checks, offer-refusal, accepted, recorded}
+use Rattle.refusals.proofs.First.{passed}
+use Rattle.arrivals.specs.Arrivals.{Row, no-rows, with-row, making-checks, Later, offer-checks, offer-refusal}
 use Rattle.arrivals.specs.Fits.{Fits}
 use Rattle.arrivals.proofs.Refusals.{making-exact, offer-exact}
 use Rattle.arrivals.proofs.Growth.{getD-behind, rows-next, time-before, time-newest}

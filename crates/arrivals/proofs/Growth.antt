@@ -2,10 +2,10 @@
 -- at sample 0 takes one place more: it joins right at the new sample with left's extremum before it, which is carried along.
 -- Assumes nothing.
 use mathlib.Core.Path.{_≡_, refl, sym, ap, ap₂, _∙_}
-use mathlib.Core.Bool.{Bool, true, false, cond, _&&_}
-use mathlib.Core.Logic.{_⊎_, inl, inr}
+use mathlib.Core.Bool.{cond}
+use mathlib.Core.Logic.{inl, inr}
 use mathlib.Core.List.{List, [], _∷_, _++_}
-use Prim.Native.Nat.{ℕ, zero, suc, _+_, _-_, _*_, _≤_, _<_}
+use Prim.Native.Nat.{ℕ, suc, _+_, _-_, _*_, _≤_, _<_}
 use native.Mathlib.Omega.{arith}
 use native.Mathlib.Nat.{mul-le-mul-right}
 use lib.Dec.{T}
@@ -16,10 +16,9 @@ use mir.Facts.{and-yes}
 use Rattle.logic.specs.declared.Window.{Window}
 use Rattle.logic.specs.Window.{inside}
 use Rattle.logic.specs.declared.Extremum.{Extremum}
-use Rattle.logic.specs.Formula.{dual, Direction, future, Formula, truth, atom, negation, junction, temporal}
+use Rattle.logic.specs.Formula.{dual, future, Formula, truth, atom, negation, junction, temporal}
 use Rattle.logic.specs.Reading.{Algebra, Places, offset, extremum, along, read, margins, margin-extreme, margin-nothing}
 use Rattle.logic.proofs.Steps.{same, extremum-step, along-cong}
-use Rattle.recordings.specs.declared.Range.the-variants.{Unset}
 use Rattle.recordings.specs.Card.{Card, rows, time, scale, value, predicate, samples}
 use Rattle.recordings.specs.Distance.{TOP, scaled-distance}
 use Rattle.recordings.specs.Margin.{distance-at, robustness, margin}

@@ -1,6 +1,6 @@
 -- What the definitions promise, sentence by sentence: which number is answered at the making, to a row and to the margin, which rows are recorded, and what the recording then is.
 -- Assumes nothing.
-use mathlib.Core.Path.{_≡_, sym, _∙_, subst}
+use mathlib.Core.Path.{_≡_, sym, subst}
 use mathlib.Core.List.{List, [], _∷_}
 use Prim.Native.Nat.{ℕ, _*_, _≤_}
 use native.Mathlib.Omega.{arith}

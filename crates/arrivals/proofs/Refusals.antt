@@ -1,19 +1,17 @@
 -- Each test of the lists holds exactly where its sentence does, so a number is answered exactly when its condition applies and no earlier one does (`refused` and
 -- `first-is` of refusals).
 -- Assumes nothing.
-use mathlib.Core.Path.{_≡_, refl, sym, _∙_}
+use mathlib.Core.Path.{_≡_, sym, _∙_}
 use mathlib.Core.Bool.{Bool, true, false, cond, _||_}
 use mathlib.Core.Logic.{_⊎_, inl, inr}
-use mathlib.Core.List.{List, [], _∷_, _++_}
-use Prim.Native.Nat.{ℕ, suc, _-_, _*_, _≤_, _<_}
-use native.Mathlib.Omega.{arith}
+use mathlib.Core.List.{[], _∷_}
+use Prim.Native.Nat.{ℕ, _-_}
 use lib.Dec.{T, leb, ltb, eqb, leb→le, le→leb, ltb→lt, lt→ltb, eqb→eq}
-use lib.ListN.{length, getD}
-use lib.IntN.{pos}
+use lib.ListN.{length}
 use borrow.Author.Tests.{eq-eqb, ne-eqb}
 use mir.Facts.{and-yes, yes-and, yes-eqb}
 use Rattle.lists.proofs.Below.{yes-or}
-use Rattle.recordings.specs.Card.{Card, card, rows, last-time}
+use Rattle.recordings.specs.Card.{Card, rows, last-time}
 use Rattle.recordings.specs.Accepted.{LATEST}
 use Rattle.tables.specs.declared.Table.{Table}
 use Rattle.refusals.specs.First.{first, AllExact}

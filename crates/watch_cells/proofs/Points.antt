@@ -1,20 +1,18 @@
 -- What one node is worked out from. A window without end reaches everywhere, another as far as its high end; a kind without window is true, a predicate, "not", or "and" and "or".
 -- Assumes nothing.
-use mathlib.Core.Path.{_≡_, refl, sym, ap, ap₂, _∙_, subst}
+use mathlib.Core.Path.{_≡_, refl, sym, ap, _∙_, subst}
 use mathlib.Core.List.{List}
 use mathlib.Core.Bool.{Bool, true, false, cond, _&&_, _||_}
 use Prim.Native.Nat.{ℕ, zero, suc, _≤_, _<_}
 use native.Mathlib.Omega.{arith}
 use lib.Dec.{T, leb, ltb, eqb, leb→le, le→leb, ltb→lt, lt→ltb}
-use lib.IntN.{ℤ, pos, negℤ}
-use Rattle.numbers.specs.Order.{Within}
+use lib.IntN.{ℤ, negℤ}
 use Rattle.lists.proofs.Below.{same-test}
 use Rattle.logic.specs.declared.Stop.the-variants.{Endless, Before}
 use Rattle.logic.specs.Window.{reaches, inside}
 use Rattle.logic.specs.Reading.{margin-extreme}
 use Rattle.recordings.specs.declared.Range.{Range}
 use Rattle.recordings.specs.Distance.{TOP, scaled-distance}
-use Rattle.recordings.specs.Accepted.{MOST-CHANNELS, ScaleInRange, InRange, Proper}
 use Rattle.tables.specs.declared.Node.{Node}
 use Rattle.tables.specs.Kind.{Operator, joined, operator, operator-extremum, not-kind}
 use Rattle.tables.specs.Tree.{NO-END, window}

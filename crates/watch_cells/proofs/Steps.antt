@@ -1,14 +1,13 @@
 -- What a row adds to one node, by its kind. Without window: at every sample the node is worked out from its operands there. With one: the margin at sample 0 takes in right at
 -- the new sample with what left was before it, and what is carried takes in left.
 -- Assumes nothing.
-use mathlib.Core.Path.{_≡_, refl, sym, ap, ap₂, _∙_, subst}
+use mathlib.Core.Path.{_≡_, refl, sym, ap, _∙_}
 use mathlib.Core.Bool.{Bool, true, false, cond}
-use mathlib.Core.List.{List}
-use Prim.Native.Nat.{ℕ, zero, suc, _+_, _-_, _≤_, _<_}
+use Prim.Native.Nat.{ℕ, zero, suc, _-_, _≤_, _<_}
 use native.Mathlib.Omega.{arith}
 use lib.Dec.{T, eqb}
 use lib.ListN.{length}
-use lib.IntN.{ℤ, pos, negℤ}
+use lib.IntN.{ℤ, pos}
 use mir.Facts.{and-yes}
 use Rattle.numbers.specs.Order.{Within}
 use Rattle.logic.specs.declared.Window.{Window}

@@ -1,18 +1,17 @@
 -- One node more has taken the row. Its own cells hold its values for the longer recording; no other node's cells, and nothing of the table and the setup, has moved.
 -- Assumes nothing.
 use mathlib.Core.Path.{_≡_, refl, sym, ap, ap₂, _∙_, subst}
-use mathlib.Core.Bool.{Bool, true, false, cond}
+use mathlib.Core.Bool.{Bool, true, false}
 use mathlib.Core.Logic.{_⊎_, inl, inr}
 use mathlib.Core.List.{List}
 use Prim.Native.Nat.{ℕ, zero, suc, _+_, _-_, _*_, _≤_, _<_}
 use native.Mathlib.Omega.{arith}
-use native.Mathlib.Decide.{ℕ-discrete, decLt}
+use native.Mathlib.Decide.{ℕ-discrete}
 use lib.Dec.{T, eqb, eqb→eq}
 use lib.ListN.{length, getD, set, length-set}
 use lib.Seq.{getD-set-same, getD-set-other}
 use lib.IntN.{ℤ, pos}
 use borrow.Author.Tests.{eq-eqb, ne-eqb}
-use Rattle.numbers.specs.Order.{Within}
 use Rattle.logic.specs.declared.Window.{Window}
 use Rattle.logic.specs.Window.{inside}
 use Rattle.logic.specs.declared.Extremum.{Extremum}
@@ -22,14 +21,14 @@ use Rattle.recordings.specs.declared.Range.{Range}
 use Rattle.recordings.specs.declared.Range.the-variants.{Unset}
 use Rattle.recordings.specs.declared.Predicate.{Predicate}
 use Rattle.recordings.specs.declared.Setup.{Setup}
-use Rattle.recordings.specs.Card.{Card, rows, time, scale, predicate}
+use Rattle.recordings.specs.Card.{Card, rows, scale, predicate}
 use Rattle.recordings.specs.Distance.{TOP, scaled-distance}
-use Rattle.recordings.specs.Margin.{distance-at, margin}
+use Rattle.recordings.specs.Margin.{margin}
 use Rattle.recordings.specs.Accepted.{InRange}
 use Rattle.recordings.proofs.Margins.{in-range-at, channel-scaled, margin-bounded}
 use Rattle.tables.specs.declared.Node.{Node}
 use Rattle.tables.specs.declared.Table.{Table}
-use Rattle.tables.specs.Kind.{Operator, operator, operator-extremum, predicate-kind}
+use Rattle.tables.specs.Kind.{operator, operator-extremum, predicate-kind}
 use Rattle.tables.specs.Tree.{NODES, node-at, window, formula, tree}
 use Rattle.tables.specs.Rules.{Use, child, number, unused, is-child, Used, left-use, right-use, timed, NodeRules}
 use Rattle.tables.proofs.Trees.{tree-node}
@@ -39,7 +38,7 @@ use Rattle.nesting.proofs.Nesting.{inside-momentary}
 use Rattle.arrivals.specs.Arrivals.{Row, with-row}
 use Rattle.arrivals.specs.Fits.{carried}
 use Rattle.arrivals.proofs.Growth.{before, value-newest, newest-distance}
-use Rattle.watch_cells.specs.State.{SCALES-AT, HELD-AT, node-in, predicate-in, held-in, Planned, Held}
+use Rattle.watch_cells.specs.State.{HELD-AT, predicate-in, held-in, Planned, Held}
 use Rattle.watch_cells.specs.Taking.{point-of, Operand, PointAsks, LeafAsks, so-far, margin-after, SameBeyond, Arriving, Done, Taking}
 use Rattle.watch_cells.proofs.Points.{leaf-point}
 use Rattle.watch_cells.proofs.Steps.{leaf-at, point-margin, own-untimed, own-momentary, operands-momentary, left-of, right-of, timed-form, timed-left, unary-left-margin, carried-by, never-temporal, margin-taken, carried-taken, margin-before, carried-before}

@@ -2,20 +2,17 @@
 -- scales, two numbers for each of sixteen predicates, five for each of 64 nodes. Cells: each predicate's two ends, then three cells for each node.
 -- Assumes nothing.
 use mathlib.Core.Path.{_≡_}
-use mathlib.Core.Bool.{Bool, cond}
 use mathlib.Core.List.{List}
 use Prim.Native.Nat.{ℕ, _+_, _*_, _≤_, _<_}
 use lib.Dec.{eqb}
 use lib.ListN.{length, getD}
-use lib.IntN.{ℤ, pos, negℤ}
+use lib.IntN.{ℤ, pos}
 use Rattle.logic.specs.declared.Extremum.{Extremum}
-use Rattle.logic.specs.Formula.{dual, future, Formula, temporal}
+use Rattle.logic.specs.Formula.{future, Formula, temporal}
 use Rattle.logic.specs.declared.Window.{Window}
-use Rattle.logic.specs.Reading.{margin-extreme, margin-nothing}
 use Rattle.recordings.specs.declared.Predicate.{Predicate}
 use Rattle.recordings.specs.declared.Setup.{Setup}
 use Rattle.recordings.specs.Card.{Card, rows, first-time, last-time, predicate-at}
-use Rattle.recordings.specs.Distance.{TOP}
 use Rattle.recordings.specs.Margin.{margin}
 use Rattle.recordings.specs.Accepted.{MOST-CHANNELS}
 use Rattle.tables.specs.declared.Node.{Node}

@@ -3,14 +3,14 @@
 use mathlib.Core.Path.{_≡_}
 use mathlib.Core.Bool.{Bool, true, false, cond}
 use mathlib.Core.List.{List}
-use Prim.Native.Nat.{ℕ, _+_, _-_, _*_, _≤_, _<_}
+use Prim.Native.Nat.{ℕ, _+_, _-_, _≤_, _<_}
 use lib.Dec.{T, eqb}
 use lib.ListN.{length, getD}
 use lib.IntN.{ℤ, pos, negℤ}
 use Rattle.numbers.specs.Order.{Within}
 use Rattle.logic.specs.declared.Extremum.{Extremum}
 use Rattle.logic.specs.Formula.{dual}
-use Rattle.logic.specs.Reading.{margin-extreme, margin-nothing}
+use Rattle.logic.specs.Reading.{margin-extreme}
 use Rattle.recordings.specs.declared.Predicate.{Predicate}
 use Rattle.recordings.specs.Card.{Card, rows, time}
 use Rattle.recordings.specs.Distance.{TOP}

@@ -1,36 +1,32 @@
 -- What a watch holds gives its answers: the making's number in front of every list, the times for a row's, and the root's cell for the margin. A row that was accepted leaves the
 -- watch of the longer recording.
 -- Assumes nothing.
-use mathlib.Core.Path.{_≡_, refl, sym, ap, ap₂, _∙_, subst}
-use mathlib.Core.Bool.{Bool, true, false, cond, _&&_}
+use mathlib.Core.Path.{_≡_, sym, ap₂, _∙_, subst}
+use mathlib.Core.Bool.{true, false}
 use mathlib.Core.List.{List, [], _∷_, _++_}
-use Prim.Native.Nat.{ℕ, zero, suc, _+_, _-_, _*_, _≤_, _<_, min}
+use Prim.Native.Nat.{ℕ, _+_, _-_, _≤_}
 use native.Mathlib.Omega.{arith}
 use native.Mathlib.Decide.{ℕ-discrete}
 use lib.Dec.{T, leb, eqb, leb→le, le→leb, eqb→eq}
 use lib.ListN.{length, getD}
-use lib.IntN.{ℤ, pos}
+use lib.IntN.{ℤ}
 use mir.Facts.{and-yes, yes-and}
 use borrow.Author.Tests.{eq-eqb, ne-eqb, lt-leb, le-leb}
 use Rattle.numbers.proofs.Parts.{holds}
 use Rattle.recordings.specs.declared.Setup.{Setup}
-use Rattle.recordings.specs.Card.{Card, rows, time, first-time}
+use Rattle.recordings.specs.Card.{Card, rows}
 use Rattle.recordings.specs.Margin.{margin}
 use Rattle.tables.specs.declared.Table.{Table}
-use Rattle.tables.specs.Tree.{NODES, node-at, root}
+use Rattle.tables.specs.Tree.{root}
 use Rattle.tables.specs.Rules.{TableRules}
 use Rattle.refusals.specs.First.{Check, first}
-use Rattle.refusals.proofs.First.{first-append, first-stays, first-of-whole, first-here, first-behind, unless-none, unless-some, answers}
+use Rattle.refusals.proofs.First.{first-append, first-stays, first-here, first-behind, unless-none, unless-some, answers}
 use Rattle.margins.specs.declared.Answer.the-variants.{Margin, Refused}
 use Rattle.margins.specs.Answers.{margin-outcome}
 use Rattle.arrivals.specs.Arrivals.{Row, no-rows, with-row, making-checks, row-checks, offer-refusal, accepted, some-row-check, asked-refusal, margin-so-far}
-use Rattle.arrivals.specs.Fits.{Fits}
-use Rattle.arrivals.proofs.Growth.{rows-next, time-before, time-newest}
-use Rattle.arrivals.proofs.Fitting.{made, offered, fits-next}
-use Rattle.watch_cells.specs.State.{NUMBERS, CELLS, SCALES-AT, RANGES-AT, NODES-AT, HELD-AT, node-in, predicate-in, held-in, Planned, Clock, Held}
-use Rattle.watch_cells.specs.Taking.{Arriving, Taking}
+use Rattle.arrivals.proofs.Fitting.{made}
+use Rattle.watch_cells.specs.State.{NUMBERS, CELLS, held-in}
 use Rattle.watches.specs.Watches.{Kept, Watches, Roomy, room-check, lent-checks}
-use Rattle.watches.proofs.Fresh.{length-put, put-in, put-out}
 
 -- ---- the slices' lengths
 pub roomy : (n m : ℕ) → room-check n m .passes ≡ true → Roomy n m

@@ -1,26 +1,22 @@
 -- A fresh watch reads back as what it was made from: each run of numbers stands where it was put, and no later run was put over it.
 -- Assumes nothing.
-use mathlib.Core.Path.{_≡_, refl, sym, ap, ap₂, _∙_, subst}
+use mathlib.Core.Path.{_≡_, refl, sym, ap, _∙_}
 use mathlib.Core.List.{List, [], _∷_, _++_, append-nil}
-use Prim.Native.Nat.{ℕ, zero, suc, _+_, _-_, _*_, _≤_, _<_}
+use Prim.Native.Nat.{ℕ, _+_, _-_, _*_, _≤_, _<_}
 use native.Mathlib.Omega.{arith}
 use lib.ListN.{length, getD, replicate, length-replicate, length-append, length-take, length-drop, drop}
 use lib.Seq.{getD-drop}
 use Rattle.refusals.specs.First.{first}
 use lib.IntN.{ℤ, pos}
-use Rattle.lists.specs.Fill.{fill}
 use Rattle.lists.specs.Front.{written}
 use Rattle.lists.proofs.Front.{written-in-front}
 use Rattle.lists.proofs.Filled.{length-fill, fill-in, fill-out}
 use Rattle.recordings.specs.declared.Predicate.{Predicate}
-use Rattle.recordings.specs.declared.Range.{Range}
 use Rattle.recordings.specs.declared.Scales.{Scales}
 use Rattle.recordings.specs.Card.{predicate-at}
-use Rattle.tables.specs.declared.Node.{Node}
 use Rattle.tables.specs.declared.Table.{Table}
 use Rattle.tables.specs.Tree.{NODES, node-at}
-use Rattle.building.specs.Storing.{WIDTH, cells-of, node-from}
-use Rattle.building.specs.Nodes.{empty-node}
+use Rattle.building.specs.Storing.{cells-of}
 use Rattle.building.proofs.Cells.{length-cells, node-back}
 use Rattle.flat.specs.Predicates.{lo-of, hi-of, ranges-of, ends-of}
 use Rattle.flat.proofs.Padded.{padded-at}
@@ -28,8 +24,8 @@ use Rattle.flat.proofs.Back.{length-pairs, predicate-back}
 use Rattle.arrivals.specs.Arrivals.{watch-setup, no-rows, making-checks}
 use Rattle.arrivals.proofs.Growth.{getD-behind}
 use Rattle.arrivals.proofs.Fitting.{fits-none}
-use Rattle.watch_cells.specs.State.{NUMBERS, CELLS, SCALES-AT, RANGES-AT, NODES-AT, node-in, predicate-in, Planned, Clock, Held}
-use Rattle.watches.specs.Watches.{Kept, Watches, SameBehind, put-at, setup-numbers, fresh-numbers}
+use Rattle.watch_cells.specs.State.{NUMBERS, CELLS, SCALES-AT, RANGES-AT, NODES-AT, node-in, predicate-in}
+use Rattle.watches.specs.Watches.{Watches, SameBehind, put-at, fresh-numbers}
 
 module _ {X : Type 0} (at : ℕ) (none : X) (new old : List X) where
   pub length-put : length (put-at at none new old) ≡ length old

@@ -1,17 +1,16 @@
 -- A row that was accepted: what the nodes are told of it is what the longer recording says, and the watch then is one of that recording. The times are all that moves in its numbers.
 -- Assumes nothing.
 use mathlib.Core.Path.{_≡_, refl, sym, ap, _∙_, subst}
-use mathlib.Core.Bool.{Bool, true, false, cond}
+use mathlib.Core.Bool.{true, false, cond}
 use mathlib.Core.List.{List, [], _∷_}
 use Prim.Native.Nat.{ℕ, zero, suc, _+_, _-_, _*_, _≤_, _<_, min}
 use native.Mathlib.Omega.{arith}
-use lib.Dec.{T, eqb, eqb→eq}
-use lib.ListN.{length, getD, set}
+use lib.Dec.{eqb}
+use lib.ListN.{getD, set}
 use Rattle.lists.specs.Fill.{fill}
-use lib.IntN.{ℤ, pos}
+use lib.IntN.{ℤ}
 use borrow.Author.Tests.{ne-eqb}
-use Rattle.recordings.specs.declared.Setup.{Setup}
-use Rattle.recordings.specs.Card.{Card, rows, time, first-time}
+use Rattle.recordings.specs.Card.{Card, rows, time}
 use Rattle.tables.specs.declared.Table.{Table}
 use Rattle.tables.specs.Tree.{NODES}
 use Rattle.refusals.specs.First.{first}
@@ -19,9 +18,9 @@ use Rattle.refusals.proofs.First.{first-of-whole}
 use Rattle.arrivals.specs.Arrivals.{Row, with-row, making-checks, row-checks, offer-refusal}
 use Rattle.arrivals.proofs.Growth.{rows-next, time-before, time-newest}
 use Rattle.arrivals.proofs.Fitting.{made, offered, fits-next}
-use Rattle.watch_cells.specs.State.{NUMBERS, CELLS, Planned, Clock}
+use Rattle.watch_cells.specs.State.{Planned}
 use Rattle.watch_cells.specs.Taking.{Arriving, Taking}
-use Rattle.watches.specs.Watches.{Kept, Watches, SameBehind, put-at}
+use Rattle.watches.specs.Watches.{Kept, Watches, put-at}
 use Rattle.watches.proofs.Fresh.{length-put, put-in, put-out}
 
 -- three numbers, one after the other

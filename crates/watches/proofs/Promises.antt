@@ -14,7 +14,7 @@ use Rattle.margins.specs.declared.Answer.{Answer}
 use Rattle.margins.specs.Answers.{MarginOutcome, margin-outcome}
 use Rattle.arrivals.specs.Arrivals.{Row, watch-setup, no-rows, making-checks, accepted, recorded, margin-so-far}
 use Rattle.arrivals.proofs.Refusals.{making-exact}
-use Rattle.arrivals.proofs.Promises.{refused-row, making-refuses, making-silences}
+use Rattle.arrivals.proofs.Promises.{making-refuses, making-silences}
 use Rattle.watches.specs.declared.Watch.{Watch}
 use Rattle.watches.specs.declared.Taken.{Taken}
 use Rattle.watches.specs.Watches.{room-check, lent-checks}

@@ -1,6 +1,6 @@
 -- The tests follow the list; what they are told of the rows before is all that the list asks of them.
 -- Assumes nothing.
-use mathlib.Core.Path.{_≡_, refl, sym, _∙_}
+use mathlib.Core.Path.{refl, sym, _∙_}
 use native.Mathlib.Omega.{arith}
 use borrow.Author.Needs.{needs}
 use borrow.Author.Tests.{not-true, not-false}
@@ -22,30 +22,30 @@ follows-requires c κs = search needs
 
 returns-2 : tie.Need-returns-2
 returns-2 c = (
-    λ k hc ht hl.
-    let s = c .before .before .before in
-    row-later k (row-of s) (s .args .taken) hc ht hl (c .before .before .if1 .left) (sym (not-true (c .before .follows .result) (c .if2 .taken)) ∙ c .before .follows .ensures) refl,
-    λ z. absurd (omega (arith, z)),
-    )
+  λ k hc ht hl.
+      let s = c .before .before .before in
+      row-later k (row-of s) (s .args .taken) hc ht hl (c .before .before .if1 .left) (sym (not-true (c .before .follows .result) (c .if2 .taken)) ∙ c .before .follows .ensures) refl,
+  λ z. absurd (omega (arith, z)),
+)
 
 values-obey-requires : tie.Need-values-obey-requires
 values-obey-requires c κs = search needs
 
 returns-3 : tie.Need-returns-3
 returns-3 c = (
-    λ k hc ht hl.
-    let s = c .before .before .before .before .before in
-    row-later k (row-of s) (s .args .taken) hc ht hl (c .before .before .before .before .if1 .left) (sym (not-false _ (c .before .before .if2 .left)) ∙ c .before .before .before .follows .ensures) (sym (not-true (c .before .values-obey .result) (c .if3 .taken)) ∙ c .before .values-obey .ensures),
-    λ z. absurd (omega (arith, z)),
-    )
+  λ k hc ht hl.
+      let s = c .before .before .before .before .before in
+      row-later k (row-of s) (s .args .taken) hc ht hl (c .before .before .before .before .if1 .left) (sym (not-false _ (c .before .before .if2 .left)) ∙ c .before .before .before .follows .ensures) (sym (not-true (c .before .values-obey .result) (c .if3 .taken)) ∙ c .before .values-obey .ensures),
+  λ z. absurd (omega (arith, z)),
+)
 
 returns-4 : tie.Need-returns-4
 returns-4 c = (
-    λ k hc ht hl.
-    let s = c .before .before .before .before .before in
-    row-later k (row-of s) (s .args .taken) hc ht hl (c .before .before .before .before .if1 .left) (sym (not-false _ (c .before .before .if2 .left)) ∙ c .before .before .before .follows .ensures) (sym (not-false _ (c .if3 .left)) ∙ c .before .values-obey .ensures),
-    λ z. values-are (c .before .before .before .before .before .args .values .now) (holds (sym (c .before .values-obey .ensures) ∙ not-false _ (c .if3 .left))),
-    )
+  λ k hc ht hl.
+      let s = c .before .before .before .before .before in
+      row-later k (row-of s) (s .args .taken) hc ht hl (c .before .before .before .before .if1 .left) (sym (not-false _ (c .before .before .if2 .left)) ∙ c .before .before .before .follows .ensures) (sym (not-false _ (c .if3 .left)) ∙ c .before .values-obey .ensures),
+  λ z. values-are (c .before .before .before .before .before .args .values .now) (holds (sym (c .before .values-obey .ensures) ∙ not-false _ (c .if3 .left))),
+)
 
 pub row-refusal-spec : {M : Type 1} → statement M
 row-refusal-spec =

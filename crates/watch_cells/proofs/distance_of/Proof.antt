@@ -1,6 +1,6 @@
 -- Of a predicate that was accepted the numbers pass every test; of others nothing is asked for.
 -- Assumes nothing.
-use mathlib.Core.Path.{_≡_, refl, sym, ap, ap₂, _∙_, subst}
+use mathlib.Core.Path.{_≡_, sym, ap, ap₂, _∙_, subst}
 use native.Mathlib.Omega.{arith}
 use borrow.Author.Tests.{not-true, not-false}
 use Prim.Native.Nat.{ℕ, _+_, _*_}
@@ -123,7 +123,7 @@ scaled-distance-requires c κs =
     (in-back (s .pre .2 .each _ (c .before .before .before .before .before .before .before .before .before .if3 .left)), range-ends (c .before .before .before .range-from .result) (holds (sym (c .before .before .range-obeys .ensures) ∙ not-false _ (c .before .if5 .left))), c .before .before .before .before .before .before .before .if4 .left)
 
 returns-6 : tie.Need-returns-6
-returns-6 c = 
+returns-6 c =
     λ p k a.
     let s = c .before .before .before .before .before .before .before .before .before .before .before .before .before .before .before in
     let z = c .scaled-distance in

@@ -1,8 +1,7 @@
 -- A predicate's node reads its predicate.
 -- Assumes nothing.
-use mathlib.Core.Path.{_≡_, refl, sym, ap, ap₂, _∙_}
-use native.Mathlib.Omega.{arith}
-use Rattle.numbers.proofs.Bits.{back-ok, back-is}
+use mathlib.Core.Path.{refl, _∙_}
+use Rattle.numbers.proofs.Bits.{back-ok}
 use borrow.Author.Needs.{needs}
 use Rattle.watch_cells.proofs.leaf_value.Statement.{statement}
 use Rattle.watch_cells.proofs.leaf_value.Tie as tie

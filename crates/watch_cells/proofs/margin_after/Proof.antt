@@ -1,6 +1,6 @@
 -- A sample outside the window changes nothing.
 -- Assumes nothing.
-use mathlib.Core.Path.{_≡_, refl, sym, ap, ap₂, _∙_}
+use mathlib.Core.Path.{_∙_}
 use Rattle.numbers.proofs.Bits.{back-ok, back-is}
 use borrow.Author.Needs.{needs}
 use Rattle.watch_cells.proofs.margin_after.Statement.{statement}

@@ -6,9 +6,9 @@ use Rattle.numbers.specs.Order.{Within}
 use Rattle.numbers.proofs.Parts.{within-neg}
 use Rattle.recordings.specs.Distance.{TOP}
 use Rattle.points.proofs.Fits.{top-fits}
-use mathlib.Core.Path.{_≡_, refl, sym, ap, ap₂, _∙_}
+use mathlib.Core.Path.{_≡_, _∙_}
 use native.Mathlib.Omega.{arith}
-use Rattle.numbers.proofs.Bits.{back-ok, back-is}
+use Rattle.numbers.proofs.Bits.{back-ok}
 use borrow.Author.Needs.{needs}
 use Rattle.watch_cells.proofs.opposite.Statement.{statement}
 use Rattle.watch_cells.proofs.opposite.Tie as tie

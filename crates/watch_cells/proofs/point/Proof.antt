@@ -1,6 +1,6 @@
 -- "Not" has one operand, "and" and "or" have two.
 -- Assumes nothing.
-use mathlib.Core.Path.{_≡_, refl, sym, ap, _∙_}
+use mathlib.Core.Path.{refl, ap, _∙_}
 use Rattle.numbers.proofs.Bits.{back-ok}
 use lib.IntN.{negℤ}
 use Rattle.watch_cells.proofs.Points.{not-point, two, joined-point}
@@ -15,7 +15,7 @@ opposite-requires : tie.Need-opposite-requires
 opposite-requires c κs = search needs
 
 returns : tie.Need-returns
-returns c = 
+returns c =
     λ leaf a b m h.
     let o = c .before .before .operand in
     let e = c .before .if1 .taken in
@@ -33,7 +33,7 @@ extreme-requires : tie.Need-extreme-requires
 extreme-requires c κs = search needs
 
 returns-2 : tie.Need-returns-2
-returns-2 c = 
+returns-2 c =
     λ leaf a b m h.
     let other = c .before .before .before .if1 .left in
     let o = c .before .before .before .before .operand in

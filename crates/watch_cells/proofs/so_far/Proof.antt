@@ -1,6 +1,5 @@
 -- Before the first row what is given, else the cell.
 -- Assumes nothing.
-use mathlib.Core.Path.{_≡_, refl, sym, ap, ap₂, _∙_}
 use Rattle.numbers.proofs.Bits.{back-ok, back-is}
 use borrow.Author.Needs.{needs}
 use Rattle.watch_cells.proofs.so_far.Statement.{statement}

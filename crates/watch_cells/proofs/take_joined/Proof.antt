@@ -1,6 +1,6 @@
 -- The value at the row and the margin at sample 0, each from the operands'.
 -- Assumes nothing.
-use mathlib.Core.Path.{_≡_, refl, sym, ap, _∙_}
+use mathlib.Core.Path.{_∙_}
 use native.Mathlib.Omega.{arith}
 use Rattle.numbers.proofs.Bits.{back-ok}
 use lib.ListN.{length-set}
@@ -43,13 +43,12 @@ same-length : tie.Need-same-length
 same-length c = search needs
 
 returns : tie.Need-returns
-returns c = 
+returns c =
     let s = c .before .before .before .before in
     let x = c .before .before .point in
-    let y = c .point2 in
-    (
+    let y = c .point2 in (
       λ numbers values opening since t k r A small n-is many u K.
-      rw (back-ok (x .result) (x .ok), back-ok (y .result) (y .ok)) (joined-taken A small (n-is ∙ K .planned .nodes (s .args .k) (s .pre .1)) K (x .result) (y .result) u (λ leaf a b h. x .ensures leaf a b many h) (λ leaf a b h. y .ensures leaf a b many h)),
+          rw (back-ok (x .result) (x .ok), back-ok (y .result) (y .ok)) (joined-taken A small (n-is ∙ K .planned .nodes (s .args .k) (s .pre .1)) K (x .result) (y .result) u (λ leaf a b h. x .ensures leaf a b many h) (λ leaf a b h. y .ensures leaf a b many h)),
       beyond-kept (s .args .cells .now) (s .args .k) 0 1 _ _ (omega arith) (omega arith) (s .pre .1),
     )
 

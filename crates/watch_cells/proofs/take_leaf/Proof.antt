@@ -1,6 +1,6 @@
 -- The value at the row, and at sample 0 what it was at the first.
 -- Assumes nothing.
-use mathlib.Core.Path.{_≡_, refl, sym, ap, _∙_}
+use mathlib.Core.Path.{_∙_}
 use native.Mathlib.Omega.{arith}
 use Rattle.numbers.proofs.Bits.{back-ok}
 use lib.ListN.{length-set}
@@ -43,14 +43,13 @@ same-length : tie.Need-same-length
 same-length c = search needs
 
 returns : tie.Need-returns
-returns c = 
+returns c =
     let s = c .before .before .before .before .before in
     let lf = c .before .before .leaf-value in
     let so = c .so-far in
-    let hl = back-ok (lf .result) (lf .ok) in
-    (
+    let hl = back-ok (lf .result) (lf .ok) in (
       λ since t k r A small n-is own K.
-      rw (hl, back-ok (so .result) (so .ok)) (leaf-taken A small (n-is ∙ K .planned .nodes (s .args .k) (s .pre .2)) K (lf .result) (so .result) (lf .ensures .0, lf .ensures .1) (so .ensures ∙ rw hl) own),
+          rw (hl, back-ok (so .result) (so .ok)) (leaf-taken A small (n-is ∙ K .planned .nodes (s .args .k) (s .pre .2)) K (lf .result) (so .result) (lf .ensures .0, lf .ensures .1) (so .ensures ∙ rw hl) own),
       beyond-kept (s .args .cells .now) (s .args .k) 0 1 _ _ (omega arith) (omega arith) (s .pre .2),
     )
 

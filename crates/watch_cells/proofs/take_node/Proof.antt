@@ -16,11 +16,11 @@ same-length c = search needs
 
 returns : tie.Need-returns
 returns c = (
-    λ t k r A small K.
-    let s = c .before .before .before .before .before .before .before in
-    c .before .take-leaf .ensures .0 (s .args .since) t k r A small (c .before .before .before .before .before .node-of .ensures) (c .before .before .before .if1 .taken) K,
-    c .before .take-leaf .ensures .1,
-    )
+  λ t k r A small K.
+      let s = c .before .before .before .before .before .before .before in
+      c .before .take-leaf .ensures .0 (s .args .since) t k r A small (c .before .before .before .before .before .node-of .ensures) (c .before .before .before .if1 .taken) K,
+  c .before .take-leaf .ensures .1,
+)
 
 is-timed-requires : tie.Need-is-timed-requires
 is-timed-requires c κs = search needs
@@ -36,22 +36,22 @@ same-length-2 c = search needs
 
 returns-2 : tie.Need-returns-2
 returns-2 c = (
-    λ t k r A small K.
-    let s = c .before .before .before .before .before .before .before .before .before in
-    c .before .take-timed .ensures .0 (s .args .numbers .now) (s .args .values .now) t k r A small (c .before .before .before .before .before .before .before .node-of .ensures) (sym (c .before .before .before .before .is-timed .ensures) ∙ c .before .before .before .if2 .taken) K,
-    c .before .take-timed .ensures .1,
-    )
+  λ t k r A small K.
+      let s = c .before .before .before .before .before .before .before .before .before in
+      c .before .take-timed .ensures .0 (s .args .numbers .now) (s .args .values .now) t k r A small (c .before .before .before .before .before .before .before .node-of .ensures) (sym (c .before .before .before .before .is-timed .ensures) ∙ c .before .before .before .if2 .taken) K,
+  c .before .take-timed .ensures .1,
+)
 
 same-length-3 : tie.Need-same-length-3
 same-length-3 c = search needs
 
 returns-3 : tie.Need-returns-3
 returns-3 c = (
-    λ t k r A small K.
-    let s = c .before .before .before .before .before .before .before .before .before in
-    c .before .take-joined .ensures .0 (s .args .numbers .now) (s .args .values .now) (s .args .opening) (s .args .since) t k r A small (c .before .before .before .before .before .before .before .node-of .ensures) (c .before .before .before .before .before .if1 .left) (sym (c .before .before .before .before .is-timed .ensures) ∙ c .before .before .before .if2 .left) K,
-    c .before .take-joined .ensures .1,
-    )
+  λ t k r A small K.
+      let s = c .before .before .before .before .before .before .before .before .before in
+      c .before .take-joined .ensures .0 (s .args .numbers .now) (s .args .values .now) (s .args .opening) (s .args .since) t k r A small (c .before .before .before .before .before .before .before .node-of .ensures) (c .before .before .before .before .before .if1 .left) (sym (c .before .before .before .before .is-timed .ensures) ∙ c .before .before .before .if2 .left) K,
+  c .before .take-joined .ensures .1,
+)
 
 pub take-node-spec : {M : Type 1} → statement M
 take-node-spec =

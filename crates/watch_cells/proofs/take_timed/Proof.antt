@@ -1,13 +1,12 @@
 -- Right at the new sample is joined with what left was before it; then left is taken in.
 -- Assumes nothing.
 use lib.ListN.{length-set}
-use Rattle.logic.specs.declared.Extremum.{Extremum}
 use Rattle.logic.specs.Formula.{dual}
 use Rattle.logic.specs.Reading.{margin-extreme}
 use Rattle.watch_cells.specs.Taking.{margin-after}
 use Rattle.tables.specs.Kind.{operator, operator-extremum}
 use Rattle.watch_cells.proofs.Taken.{beyond-kept, timed-taken, left-value, right-value, both-momentary}
-use mathlib.Core.Path.{_≡_, refl, sym, ap, ap₂, _∙_}
+use mathlib.Core.Path.{_≡_, refl, ap, _∙_}
 use native.Mathlib.Omega.{arith}
 use Rattle.numbers.proofs.Bits.{back, back-ok}
 use borrow.Author.Needs.{needs}

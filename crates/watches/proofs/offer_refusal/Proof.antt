@@ -1,6 +1,6 @@
 -- A refused making gives its number; otherwise the row is judged by what the watch holds of the rows before it.
 -- Assumes nothing.
-use mathlib.Core.Path.{_≡_, refl, sym, ap, ap₂, _∙_, subst}
+use mathlib.Core.Path.{_∙_}
 use Rattle.arrivals.specs.Arrivals.{Row, row-checks}
 use Rattle.watches.proofs.Answers.{making-first, kept-now, row-first}
 use borrow.Author.Needs.{needs}
@@ -30,12 +30,12 @@ row-refusal-requires c κs = search needs
 
 returns-2 : tie.Need-returns-2
 returns-2 c = (
-    λ cells t k W.
-    let e = c .before .before .before .before .if1 .left in
-    let K = kept-now W e in
-    c .row-refusal .ensures .0 k (K .planned .channels) (K .clock .taken) (K .clock .last) ∙ row-first W (row-of (c .before .before .before .before .before .before .before)) e,
-    c .row-refusal .ensures .1,
-    )
+  λ cells t k W.
+      let e = c .before .before .before .before .if1 .left in
+      let K = kept-now W e in
+      c .row-refusal .ensures .0 k (K .planned .channels) (K .clock .taken) (K .clock .last) ∙ row-first W (row-of (c .before .before .before .before .before .before .before)) e,
+  c .row-refusal .ensures .1,
+)
 
 pub offer-refusal-spec : {M : Type 1} → statement M
 offer-refusal-spec =

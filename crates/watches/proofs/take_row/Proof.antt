@@ -1,6 +1,6 @@
 -- The nodes take the row, then the times move.
 -- Assumes nothing.
-use mathlib.Core.Path.{_≡_, refl, sym, ap, _∙_, subst}
+use mathlib.Core.Path.{sym, ap, _∙_, subst}
 use native.Mathlib.Omega.{arith}
 use mathlib.Core.List.{List, [], _∷_}
 use Prim.Native.Nat.{ℕ, _+_, _-_, _<_}
@@ -55,21 +55,20 @@ same-length-2 : tie.Need-same-length-2
 same-length-2 c = search needs
 
 returns : tie.Need-returns
-returns c = 
+returns c =
     let s = c .before .before .before .before .before .before .before .before .before .before .before in
     let st = c .before .before .before .before .before .before .before .start-of .ensures in
     let se = c .before .before .before .before .before .before .seconds .ensures in
     let nc = c .before .before .before .before .node-count .ensures in
     let tn = c .before .take-nodes .ensures in
-    let new = three-put (s .args .numbers .now) 1 (c .before .before .before .before .before .before .before .start-of .result) (s .args .time) in
-    (
+    let new = three-put (s .args .numbers .now) 1 (c .before .before .before .before .before .before .before .start-of .result) (s .args .time) in (
       λ t k W e.
-      let r = row-of s in
-      let since = se ∙ ap (λ (x : ℕ). s .args .time - x) st in
-      let count = nc ∙ counted r W e in
-      let A = subst (λ (x : ℕ). Arriving (s .args .values .now) (eqb (getD (s .args .numbers .now) 2 0) 0) x t k r) (sym since) (arriving r W e) in
-      let D = subst (Taking (s .args .numbers .now) _ t k r) count (tn .0 t k r A count (untaken r W e)) in
-      longer-watches r W e D (new ∙ ap (λ (x : ℕ). put-at 2 0 (1 ∷ x ∷ s .args .time ∷ []) (s .args .numbers .now)) st),
+          let r = row-of s in
+          let since = se ∙ ap (λ (x : ℕ). s .args .time - x) st in
+          let count = nc ∙ counted r W e in
+          let A = subst (λ (x : ℕ). Arriving (s .args .values .now) (eqb (getD (s .args .numbers .now) 2 0) 0) x t k r) (sym since) (arriving r W e) in
+          let D = subst (Taking (s .args .numbers .now) _ t k r) count (tn .0 t k r A count (untaken r W e)) in
+          longer-watches r W e D (new ∙ ap (λ (x : ℕ). put-at 2 0 (1 ∷ x ∷ s .args .time ∷ []) (s .args .numbers .now)) st),
       (record { same = λ i h. ap (λ (l : List ℕ). getD l i 0) new ∙ put-out 2 0 (1 ∷ c .before .before .before .before .before .before .before .start-of .result ∷ s .args .time ∷ []) (s .args .numbers .now) i (λ a (z : i < 2 + 3). omega arith) }, record { same = tn .1 .same }),
     )
 
