@@ -390,6 +390,14 @@ fn print_growth(requirements: &[Requirement], cases: &[[Case; 3]]) {
     println!("{channels} channels, rows: each node more {ours:.2} ns, plain Rust {theirs:.2} ns");
 }
 
+/// A row of each table, all together.
+fn print_together(cases: &[Vec<[Case; 3]>]) {
+    let each: Vec<[f64; 2]> = cases.iter().flatten().map(|case| case[0].each()).collect();
+    let [ours, theirs] = [0, 1].map(|who| each.iter().map(|times| times[who]).sum::<f64>());
+    print!("rows, a row of each table: {ours:.0} ns, plain Rust {theirs:.0} ns, ");
+    println!("ratio {:.2}", ours / theirs);
+}
+
 fn main() {
     let random = &mut Random(12345);
     let of = |channels: usize| texts().map(|text| Requirement::new(&text, &SCALES[..channels]));
@@ -408,6 +416,7 @@ fn main() {
     cases.iter().flatten().flatten().for_each(Case::print);
     longs.iter().for_each(Long::print);
     groups.iter().zip(&cases).for_each(|(group, cases)| print_growth(group, cases));
+    print_together(&cases);
     let all = cases.iter().flatten().flatten();
     let largest = all.max_by(|a, b| a.ratio().total_cmp(&b.ratio())).expect("there are cases");
     println!("largest ratio to plain Rust: {:.2}, {}", largest.ratio(), largest.name);

@@ -9,7 +9,7 @@ use native.Mathlib.Omega.{arith}
 use native.Mathlib.Decide.{ℕ-discrete}
 use lib.Dec.{T, eqb, eqb→eq}
 use lib.ListN.{length, getD, set, length-set}
-use lib.Seq.{getD-set-same, getD-set-other}
+use lib.Seq.{getD-set-same, getD-set-other, set-getD}
 use lib.IntN.{ℤ, pos}
 use borrow.Author.Tests.{eq-eqb, ne-eqb}
 use Rattle.logic.specs.declared.Window.{Window}
@@ -61,6 +61,12 @@ module _ (cells : List ℤ) (k p q : ℕ) (x y : ℤ) where
 
   pub second-stored : HELD-AT + 3 * k + q < length cells → held-in stored k q ≡ y
   second-stored l = getD-set-same (set cells (HELD-AT + 3 * k + p) x) (HELD-AT + 3 * k + q) y (pos 0) (rw length-set l)
+
+  -- where the second is what it was, one is written
+  pub one-stored : (p ≡ q → ⊥) → y ≡ held-in cells k q → stored ≡ set cells (HELD-AT + 3 * k + p) x
+  one-stored h e =
+      rw (e ∙ sym (getD-set-other cells (HELD-AT + 3 * k + p) (HELD-AT + 3 * k + q) x (pos 0) (λ (z : HELD-AT + 3 * k + q ≡ HELD-AT + 3 * k + p). h (omega arith))))
+      (set-getD (set cells (HELD-AT + 3 * k + p) x) (HELD-AT + 3 * k + q) (pos 0))
 
   module _ (hp : p < 3) (hq : q < 3) where
     other-node : (j part : ℕ) → part < 3 → (j ≡ k → ⊥) → held-in stored j part ≡ held-in cells j part

@@ -201,10 +201,11 @@ fn take_leaf(
     ensures beyond { λ _. ⌜ SameBeyond (now (cells .entry)) (now (cells .exit)) ⌝ }
 {
     let leaf = leaf_value(numbers, cells, values, node);
-    let first = so_far(cells, opening, leaf, k, MARGIN);
     let at = HELD_AT + 3 * k;
     cells[at + NEWEST] = leaf;
-    cells[at + MARGIN] = first;
+    if opening {
+        cells[at + MARGIN] = leaf;
+    }
 }
 
 // "Not", "and" or "or" takes the row.
