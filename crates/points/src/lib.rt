@@ -14,7 +14,7 @@ use recordings::Range;
 use recordings::TOP;
 
 // No margin is further from zero than TOP.
-const BOTTOM: i64 = -TOP;
+pub const BOTTOM: i64 = -TOP;
 
 // The larger of two, or the smaller.
 pub fn extreme(e: Extremum, a: i64, b: i64) -> i64

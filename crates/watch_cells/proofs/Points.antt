@@ -1,24 +1,31 @@
--- What one node is worked out from. A window without end reaches everywhere, another as far as its high end; a kind without window is true, a predicate, "not", or "and" and "or".
+-- What one node is worked out from. A window without end reaches everywhere, another as far as its high end; true and a predicate have a value of their own.
 -- Assumes nothing.
 use mathlib.Core.Path.{_≡_, refl, sym, ap, _∙_, subst}
 use mathlib.Core.List.{List}
 use mathlib.Core.Bool.{Bool, true, false, cond, _&&_, _||_}
-use Prim.Native.Nat.{ℕ, zero, suc, _≤_, _<_}
+use Prim.Native.Nat.{ℕ, zero, suc, _+_, _≤_, _<_}
 use native.Mathlib.Omega.{arith}
 use lib.Dec.{T, leb, ltb, eqb, leb→le, le→leb, ltb→lt, lt→ltb}
-use lib.IntN.{ℤ, negℤ}
+use lib.ListN.{length}
+use lib.IntN.{ℤ, pos, negsuc, negℤ}
+use lib.Signed.{leZ}
+use mir.Syntax.{w64}
+use mir.Val.{SFits}
+use Rattle.numbers.specs.Order.{Within}
+use Rattle.numbers.proofs.Parts.{le-parts, nle-parts, holds, fails, abs-parts}
 use Rattle.lists.proofs.Below.{same-test}
 use Rattle.logic.specs.declared.Stop.the-variants.{Endless, Before}
 use Rattle.logic.specs.Window.{reaches, inside}
-use Rattle.logic.specs.Reading.{margin-extreme}
+use Rattle.logic.specs.declared.Extremum.{Extremum}
+use Rattle.logic.specs.Formula.{dual, future}
+use Rattle.logic.specs.Reading.{margin-nothing}
 use Rattle.recordings.specs.declared.Range.{Range}
 use Rattle.recordings.specs.Distance.{TOP, scaled-distance}
 use Rattle.tables.specs.declared.Node.{Node}
-use Rattle.tables.specs.Kind.{Operator, joined, operator, operator-extremum, not-kind}
-use Rattle.tables.specs.Tree.{NO-END, window}
-use Rattle.tables.specs.Rules.{is-child, left-use, right-use}
-use Rattle.tables.proofs.EveryKind.{operating, joined-form}
-use Rattle.watch_cells.specs.Taking.{point-of, Operand, PointAsks}
+use Rattle.tables.specs.Kind.{binary, unary, kinds, operator, predicate-kind}
+use Rattle.tables.specs.Tree.{NODES, NO-END, window}
+use Rattle.watch_cells.specs.State.{held-in}
+use Rattle.watch_cells.specs.Taking.{point-of, IsDistance, LeafValue, TimedAsks}
 
 pub clash : {b : Bool} → b ≡ true → b ≡ false → ⊥
 clash e f = subst T (sym e ∙ f) tt
@@ -30,30 +37,58 @@ reached false d hi = same-test (λ h. lt→ltb d (suc hi) (omega (arith, leb→l
 pub inside-is : (n : Node) (d : ℕ) → (leb (n .lo) d && (eqb (n .hi) NO-END || leb d (n .hi))) ≡ inside (window n) d
 inside-is n d = ap (λ (b : Bool). leb (n .lo) d && b) (reached (eqb (n .hi) NO-END) d (n .hi))
 
-module _ {cells : List ℤ} {n : Node} {k part : ℕ} {l r : ℤ} (leaf : ℤ) (a : PointAsks cells n k part l r) where
-  -- true and predicates come first
-  pub leaf-point : n .kind ≤ 1 → leaf ≡ point-of (operator (n .kind)) leaf l r
-  leaf-point h = go (n .kind) h
-    where
-      go : (x : ℕ) → x ≤ 1 → leaf ≡ point-of (operator x) leaf l r
-      go zero h = refl
-      go (suc zero) h = refl
-      go (suc (suc x)) h = absurd (omega arith)
+-- true and predicates come first
+pub leaf-point : (kind : ℕ) (leaf l r : ℤ) → kind ≤ 1 → leaf ≡ point-of (operator kind) leaf l r
+leaf-point zero leaf l r h = refl
+leaf-point (suc zero) leaf l r h = refl
+leaf-point (suc (suc kind)) leaf l r h = absurd (omega arith)
 
-  pub not-point : n .kind ≡ not-kind → {v : ℤ} → v ≡ negℤ l → v ≡ point-of (operator (n .kind)) leaf l r
-  not-point e h = rw e h
+-- a number that is none of the next four is past them
+pub past : (n x : ℕ) → n ≤ x → (x ≡ n → ⊥) → (x ≡ n + 1 → ⊥) → (x ≡ n + 2 → ⊥) → (x ≡ n + 3 → ⊥) → n + 4 ≤ x
+past n x h a b c d = omega arith
 
-  joined-is : 1 < n .kind → (n .kind ≡ not-kind → ⊥) → operator (n .kind) ≡ joined (operator-extremum (operator (n .kind)))
-  joined-is h other = joined-form (operator (n .kind)) (operating (n .kind) (a .known) (λ z. omega arith) (λ z. omega arith) other) (a .untimed)
+pub last : (x : ℕ) → x < length kinds → 8 ≤ x → x ≡ 8
+last x below h = omega arith
 
-  -- "and" and "or" have two operands
-  pub two : 1 < n .kind → (n .kind ≡ not-kind → ⊥) → Operand cells k part (n .left) l × Operand cells k part (n .right) r
-  two h other =
-      let j = sym (joined-is h other) in
-      (a .left (subst (λ (o : Operator). is-child (left-use o) ≡ true) j refl), a .right (subst (λ (o : Operator). is-child (right-use o) ≡ true) j refl))
+-- ---- what a leaf and a temporal operator are worked out from, by the kind
+pub true-leaf : {numbers : List ℕ} {cells values : List ℤ} {n : Node} → n .kind ≡ 0 → LeafValue numbers cells values n (pos TOP)
+true-leaf e = record { own = omega arith; true-is = λ z. refl; named-is = λ z. absurd (omega arith) }
 
-  pub joined-point : 1 < n .kind → (n .kind ≡ not-kind → ⊥) → {v : ℤ} → v ≡ margin-extreme (operator-extremum (operator (n .kind))) l r → v ≡ point-of (operator (n .kind)) leaf l r
-  joined-point h other {v} e = subst (λ (o : Operator). v ≡ point-of o leaf l r) (sym (joined-is h other)) e
+pub named-leaf : {numbers : List ℕ} {cells values : List ℤ} {n : Node} {v : ℤ} → n .kind ≡ predicate-kind → IsDistance numbers cells values n v → LeafValue numbers cells values n v
+named-leaf e h = record { own = omega arith; true-is = λ z. absurd (z e); named-is = λ z. h }
+
+module _ {cells : List ℤ} {n : Node} {e : Extremum} {l r : ℤ} where
+  pub binary-asks : operator (n .kind) ≡ binary future e → (n .left < NODES → l ≡ held-in cells (n .left) 0) → (n .right < NODES → r ≡ held-in cells (n .right) 0) → TimedAsks cells n e l r
+  binary-asks o hl hr = record {
+    windowed = rw o refl;
+    extremum-is = rw o refl;
+    left-two = λ z. hl;
+    left-one = λ z. absurd (clash (rw o refl) z);
+    right-two = λ z. hr;
+    right-one = λ z. absurd (clash (rw o refl) z);
+  }
+
+  pub unary-asks : operator (n .kind) ≡ unary future e → l ≡ margin-nothing TOP (dual e) → (n .left < NODES → r ≡ held-in cells (n .left) 0) → TimedAsks cells n e l r
+  unary-asks o hl hr = record {
+    windowed = rw o refl;
+    extremum-is = rw o refl;
+    left-two = λ z. absurd (clash z (rw o refl));
+    left-one = λ z. hl;
+    right-two = λ z. absurd (clash z (rw o refl));
+    right-one = λ z. hr;
+  }
 
 pub distance-same : {k s : ℕ} {r q : Range} {v x : ℤ} → s ≡ k → r ≡ q → x ≡ v → scaled-distance TOP s r x ≡ scaled-distance TOP k q v
 distance-same a b d = rw (a, b, d)
+
+-- ---- the least margin: what is not below it has a negative, and no margin is below it
+abbrev least : ℤ
+least = negsuc 3999999999999
+
+pub negative-fits : (a : ℤ) → SFits w64 a → leZ least a ≡ true → SFits w64 (negℤ a)
+negative-fits (pos zero) h e = record { sfits = omega arith }
+negative-fits (pos (suc n)) h e = record { sfits = omega (arith, h .sfits) }
+negative-fits (negsuc n) h e = record { sfits = omega (arith, le-parts least (negsuc n) (holds e)) }
+
+pub no-margin-below : (a : ℤ) → Within TOP a → leZ least a ≡ false → ⊥
+no-margin-below a w e = omega (arith, w .size, abs-parts a, nle-parts least a (fails e))

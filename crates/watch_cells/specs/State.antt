@@ -1,5 +1,5 @@
 -- How a watch lies in two slices. Numbers: its refusal, the count of nodes, whether a row was taken, the first and the last time, the count of channels; then eight
--- scales, two numbers for each of sixteen predicates, five for each of 64 nodes. Cells: each predicate's two ends, then three cells for each node.
+-- scales, two numbers for each of sixteen predicates, five for each of 64 nodes. Cells: each predicate's two ends, then three runs with a cell for each node.
 -- Assumes nothing.
 use mathlib.Core.Path.{_≡_}
 use mathlib.Core.List.{List}
@@ -60,9 +60,9 @@ predicate-in numbers cells p =
       range = range-from (getD numbers (RANGES-AT + 2 * p) 0) (getD cells (2 * p) (pos 0)) (getD cells (2 * p + 1) (pos 0));
     }
 
--- of node q, the value at the newest row (part 0), the margin at sample 0 so far (part 1), and what it carries (part 2)
+-- of node q, the value at the newest row (part 0), the margin at sample 0 so far (part 1), or what it carries (part 2)
 abbrev pub held-in : List ℤ → ℕ → ℕ → ℤ
-held-in cells q part = getD cells (HELD-AT + 3 * q + part) (pos 0)
+held-in cells q part = getD cells (HELD-AT + NODES * part + q) (pos 0)
 
 -- ---- the slices hold a table and a setup
 pub record Planned (numbers : List ℕ) (cells : List ℤ) (t : Table) (s : Setup) : Type 0 where

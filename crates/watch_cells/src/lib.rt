@@ -2,24 +2,21 @@
 // value there, and the margin at sample 0 comes from its operands'. A temporal operator takes in the new sample and carries left's extremum along.
 // Nothing is asked of what the slices hold. Numbers that no making left give some margin; no place outside the slices is read or written.
 ghost use mathlib.Core.Path.{_≡_};
-ghost use mathlib.Core.Bool.{true, false};
-ghost use Prim.Native.Nat.{suc, _≤_, _<_};
-ghost use lib.IntN.{pos, negℤ};
-ghost use lib.ListN.{length, getD};
+ghost use Prim.Native.Nat.{_≤_, _<_};
+ghost use lib.IntN.{negℤ};
+ghost use lib.ListN.{length};
 ghost use Rattle.numbers.specs.Order.{Within};
 ghost use Rattle.logic.specs.Window.{inside};
-ghost use Rattle.logic.specs.Reading.{margin-nothing};
-ghost use Rattle.recordings.specs.declared.Predicate.{Predicate};
-ghost use Rattle.recordings.specs.Distance.{TOP, scaled-distance};
+ghost use Rattle.logic.specs.Formula.{future};
+ghost use Rattle.recordings.specs.Distance.{TOP};
 ghost use Rattle.recordings.specs.Card.{Card};
 ghost use Rattle.recordings.specs.Accepted.{Values};
 ghost use Rattle.tables.specs.declared.Table.{Table};
-ghost use Rattle.tables.specs.Kind.{operator, predicate-kind};
+ghost use Rattle.tables.specs.Kind.{operator, negated, joined, binary, unary};
 ghost use Rattle.tables.specs.Tree.{NODES, window};
-ghost use Rattle.tables.specs.Rules.{is-child, right-use, timed};
 ghost use Rattle.arrivals.specs.Arrivals.{Row};
 ghost use Rattle.watch_cells.specs.State.{NUMBERS, CELLS, node-in, held-in};
-ghost use Rattle.watch_cells.specs.Taking.{point-of, PointAsks, LeafAsks, so-far, margin-after, SameBeyond, Arriving, Taking};
+ghost use Rattle.watch_cells.specs.Taking.{IsDistance, LeafValue, IsPoint, TimedAsks, so-far, margin-after, SameBeyond, Arriving, Taking, NodeTakes};
 use logic::Extremum;
 use recordings::TOP;
 use tables::Node;
@@ -33,7 +30,7 @@ pub const NODES_AT: usize = 46;
 
 pub const HELD_AT: usize = 32;
 
-// A node's three cells: its value at the newest row, its margin at sample 0 so far, and what it carries.
+// A node's cells, one in each of three runs: its value at the newest row, its margin at sample 0 so far, and what it carries.
 const NEWEST: usize = 0;
 
 const MARGIN: usize = 1;
@@ -54,24 +51,18 @@ fn node_of(numbers: &[u64], k: usize) -> Node
     }
 }
 
-// The distance of the row's value from a predicate; TOP of numbers that name none.
+// The distance of the row's value from a predicate. Numbers that no making left name some predicate and some scale; TOP where there is no distance.
 fn distance_of(numbers: &[u64], cells: &[i64], values: &[i64], node: Node) -> i64
     requires { ⌜ (NUMBERS ≤ length (now numbers)) × (CELLS ≤ length (now cells)) × Values (now values) ⌝ }
-    ensures { λ r. ⌜ ((p : Predicate) (k : _) → LeafAsks (now (numbers .entry)) (now (cells .entry)) (now (values .entry)) node p k → r ≡ scaled-distance TOP k (p .range) (getD (now (values .entry)) (p .channel) (pos 0))) ⌝ }
+    ensures { λ r. ⌜ IsDistance (now (numbers .entry)) (now (cells .entry)) (now (values .entry)) node r ⌝ }
 {
-    let named = node.left;
-    if 16 <= named {
-        return TOP;
-    }
+    let named = node.left % 16;
     let at = RANGES_AT + 2 * named;
     let channel = numbers[at + 1] as usize;
-    if recordings::MOST_CHANNELS <= channel {
-        return TOP;
-    }
     if values.len() <= channel {
         return TOP;
     }
-    let scale = numbers[SCALES_AT + channel];
+    let scale = numbers[SCALES_AT + channel % recordings::MOST_CHANNELS];
     if recordings::MOST_SCALE < scale {
         return TOP;
     }
@@ -82,53 +73,42 @@ fn distance_of(numbers: &[u64], cells: &[i64], values: &[i64], node: Node) -> i6
     points::scaled_distance(range, scale, values[channel])
 }
 
-// What a node without operands has at the row: a predicate its distance, true TOP.
-fn leaf_value(numbers: &[u64], cells: &[i64], values: &[i64], node: Node) -> i64
-    requires { ⌜ (NUMBERS ≤ length (now numbers)) × (CELLS ≤ length (now cells)) × Values (now values) ⌝ }
-    ensures other { λ r. ⌜ ((node .kind ≡ predicate-kind → ⊥) → r ≡ pos TOP) ⌝ }
-    ensures named { λ r. ⌜ (node .kind ≡ predicate-kind → (p : Predicate) (k : _) → LeafAsks (now (numbers .entry)) (now (cells .entry)) (now (values .entry)) node p k → r ≡ scaled-distance TOP k (p .range) (getD (now (values .entry)) (p .channel) (pos 0))) ⌝ }
+// A part of a node's cells. Numbers that no making left name some node.
+fn operand(cells: &[i64], child: usize, part: usize) -> i64
+    requires { ⌜ (CELLS ≤ length (now cells)) × (part < 3) ⌝ }
+    ensures { λ r. ⌜ (child < NODES → r ≡ held-in (now (cells .entry)) child part) ⌝ }
 {
-    if node.kind == tables::PREDICATE {
-        distance_of(numbers, cells, values, node)
-    } else {
-        TOP
-    }
+    cells[HELD_AT + tables::NODES * part + child % tables::NODES]
 }
 
-// A part of an earlier node's cells; TOP of numbers that name no earlier node.
-fn operand(cells: &[i64], k: usize, child: usize, part: usize) -> i64
-    requires { ⌜ (CELLS ≤ length (now cells)) × (k ≤ NODES) × (part < 3) ⌝ }
-    ensures { λ r. ⌜ (child < k → r ≡ held-in (now (cells .entry)) child part) ⌝ }
-{
-    if child < k {
-        cells[HELD_AT + 3 * child + part]
-    } else {
-        TOP
-    }
-}
-
-// Minus a margin. What is no margin isn't negated.
+// Minus a margin. What is below all margins isn't negated.
 fn opposite(a: i64) -> i64
     ensures { λ r. ⌜ (Within TOP a → r ≡ negℤ a) ⌝ }
 {
-    if (TOP as u64) < numbers::magnitude(a) {
-        return TOP;
+    if numbers::at_most(points::BOTTOM, a) {
+        numbers::negated(a)
+    } else {
+        TOP
     }
-    numbers::negated(a)
 }
 
-// "Not", "and" or "or", from one part of their operands' cells.
-fn point(cells: &[i64], node: Node, k: usize, part: usize) -> i64
-    requires { ⌜ (CELLS ≤ length (now cells)) × (k ≤ NODES) × (part < 3) ⌝ }
-    ensures { λ r. ⌜ ((leaf a b : _) → 1 < node .kind → PointAsks (now (cells .entry)) node k part a b → r ≡ point-of (operator (node .kind)) leaf a b) ⌝ }
+// "Not", from one part of its operand's cells.
+fn negation_at(cells: &[i64], node: Node, part: usize) -> i64
+    requires { ⌜ (CELLS ≤ length (now cells)) × (part < 3) ⌝ }
+    ensures { λ r. ⌜ ((k : _) → k ≤ NODES → operator (node .kind) ≡ negated → IsPoint (now (cells .entry)) node k part r) ⌝ }
 {
-    let kind = node.kind;
-    let left = operand(cells, k, node.left, part);
-    if kind == tables::NOT {
-        return opposite(left);
-    }
-    let right = operand(cells, k, node.right, part);
-    points::extreme(tables::extremum_of(kind), left, right)
+    let a = operand(cells, node.left, part);
+    opposite(a)
+}
+
+// "And" or "or", from one part of their operands' cells.
+fn junction_at(cells: &[i64], node: Node, e: Extremum, part: usize) -> i64
+    requires { ⌜ (CELLS ≤ length (now cells)) × (part < 3) ⌝ }
+    ensures { λ r. ⌜ ((k : _) → k ≤ NODES → operator (node .kind) ≡ joined e → IsPoint (now (cells .entry)) node k part r) ⌝ }
+{
+    let a = operand(cells, node.left, part);
+    let b = operand(cells, node.right, part);
+    points::extreme(e, a, b)
 }
 
 // Whether a sample so many seconds after the first is in the window of the first.
@@ -146,7 +126,7 @@ fn so_far(cells: &[i64], opening: bool, none: i64, k: usize, part: usize) -> i64
     if opening {
         none
     } else {
-        cells[HELD_AT + 3 * k + part]
+        cells[HELD_AT + tables::NODES * part + k]
     }
 }
 
@@ -161,87 +141,98 @@ fn margin_after(e: Extremum, margin: i64, carried: i64, right: i64, here: bool) 
     }
 }
 
-// The left operand at the row; eventually and always have none.
-fn left_operand(cells: &[i64], node: Node, e: Extremum, k: usize) -> i64
-    requires { ⌜ (CELLS ≤ length (now cells)) × (k ≤ NODES) ⌝ }
-    ensures two { λ r. ⌜ (is-child (right-use (operator (node .kind))) ≡ true → node .left < k → r ≡ held-in (now (cells .entry)) (node .left) 0) ⌝ }
-    ensures one { λ r. ⌜ (is-child (right-use (operator (node .kind))) ≡ false → r ≡ margin-nothing TOP e) ⌝ }
-{
-    if tables::has_right(node.kind) {
-        operand(cells, k, node.left, NEWEST)
-    } else {
-        points::over_nothing(e)
-    }
-}
-
-// The right operand at the row, or the only one.
-fn right_operand(cells: &[i64], node: Node, k: usize) -> i64
-    requires { ⌜ (CELLS ≤ length (now cells)) × (k ≤ NODES) ⌝ }
-    ensures two { λ r. ⌜ (is-child (right-use (operator (node .kind))) ≡ true → node .right < k → r ≡ held-in (now (cells .entry)) (node .right) 0) ⌝ }
-    ensures one { λ r. ⌜ (is-child (right-use (operator (node .kind))) ≡ false → node .left < k → r ≡ held-in (now (cells .entry)) (node .left) 0) ⌝ }
-{
-    if tables::has_right(node.kind) {
-        operand(cells, k, node.right, NEWEST)
-    } else {
-        operand(cells, k, node.left, NEWEST)
-    }
-}
-
 // True or a predicate takes the row: at sample 0 it keeps what it had at the first one.
-fn take_leaf(
-    numbers: &[u64],
+fn take_leaf(cells: &mut [i64], leaf: i64, opening: bool, k: usize)
+    requires { ⌜ (CELLS ≤ length (now cells)) × (k < NODES) ⌝ }
+    ensures taken { λ _. ⌜ ((numbers values : _) (since : _) (n : _) → n ≡ node-in numbers k → LeafValue numbers (now (cells .entry)) values n leaf → NodeTakes numbers (now (cells .entry)) (now (cells .exit)) values opening since k) ⌝ }
+    ensures beyond { λ _. ⌜ SameBeyond (now (cells .entry)) (now (cells .exit)) ⌝ }
+{
+    cells[HELD_AT + tables::NODES * NEWEST + k] = leaf;
+    if opening {
+        cells[HELD_AT + tables::NODES * MARGIN + k] = leaf;
+    }
+}
+
+// "Not", "and" or "or" takes the row: it has a value there, and one at sample 0.
+fn take_point(cells: &mut [i64], newest: i64, margin: i64, k: usize)
+    requires { ⌜ (CELLS ≤ length (now cells)) × (k < NODES) ⌝ }
+    ensures taken { λ _. ⌜ ((numbers values : _) (opening : _) (since : _) (n : _) → n ≡ node-in numbers k → IsPoint (now (cells .entry)) n k 0 newest → IsPoint (now (cells .entry)) n k 1 margin → NodeTakes numbers (now (cells .entry)) (now (cells .exit)) values opening since k) ⌝ }
+    ensures beyond { λ _. ⌜ SameBeyond (now (cells .entry)) (now (cells .exit)) ⌝ }
+{
+    cells[HELD_AT + tables::NODES * NEWEST + k] = newest;
+    cells[HELD_AT + tables::NODES * MARGIN + k] = margin;
+}
+
+// "Not" takes the row.
+fn take_not(cells: &mut [i64], node: Node, k: usize)
+    requires { ⌜ (CELLS ≤ length (now cells)) × (k < NODES) ⌝ }
+    ensures taken { λ _. ⌜ ((numbers values : _) (opening : _) (since : _) → node ≡ node-in numbers k → operator (node .kind) ≡ negated → NodeTakes numbers (now (cells .entry)) (now (cells .exit)) values opening since k) ⌝ }
+    ensures beyond { λ _. ⌜ SameBeyond (now (cells .entry)) (now (cells .exit)) ⌝ }
+{
+    let newest = negation_at(cells, node, NEWEST);
+    let margin = negation_at(cells, node, MARGIN);
+    take_point(cells, newest, margin, k)
+}
+
+// "And" or "or" takes the row.
+fn take_joined(cells: &mut [i64], node: Node, e: Extremum, k: usize)
+    requires { ⌜ (CELLS ≤ length (now cells)) × (k < NODES) ⌝ }
+    ensures taken { λ _. ⌜ ((numbers values : _) (opening : _) (since : _) → node ≡ node-in numbers k → operator (node .kind) ≡ joined e → NodeTakes numbers (now (cells .entry)) (now (cells .exit)) values opening since k) ⌝ }
+    ensures beyond { λ _. ⌜ SameBeyond (now (cells .entry)) (now (cells .exit)) ⌝ }
+{
+    let newest = junction_at(cells, node, e, NEWEST);
+    let margin = junction_at(cells, node, e, MARGIN);
+    take_point(cells, newest, margin, k)
+}
+
+// A temporal operator takes the row, given its operands there.
+fn take_timed(
     cells: &mut [i64],
-    values: &[i64],
     node: Node,
+    e: Extremum,
+    left: i64,
+    right: i64,
     opening: bool,
+    since: u64,
     k: usize,
 )
-    requires { ⌜ (NUMBERS ≤ length (now numbers)) × (CELLS ≤ length (now cells)) × (k < NODES) × Values (now values) ⌝ }
-    ensures taken { λ _. ⌜ ((since : _) (t : Table) (c : Card) (r : Row) → Arriving (now (values .entry)) opening since t c r → k < t .count → node ≡ node-in (now (numbers .entry)) k → node .kind ≤ 1 → Taking (now (numbers .entry)) (now (cells .entry)) t c r k → Taking (now (numbers .entry)) (now (cells .exit)) t c r (suc k)) ⌝ }
-    ensures beyond { λ _. ⌜ SameBeyond (now (cells .entry)) (now (cells .exit)) ⌝ }
-{
-    let leaf = leaf_value(numbers, cells, values, node);
-    let at = HELD_AT + 3 * k;
-    cells[at + NEWEST] = leaf;
-    if opening {
-        cells[at + MARGIN] = leaf;
-    }
-}
-
-// "Not", "and" or "or" takes the row.
-fn take_joined(cells: &mut [i64], node: Node, k: usize)
     requires { ⌜ (CELLS ≤ length (now cells)) × (k < NODES) ⌝ }
-    ensures taken { λ _. ⌜ ((numbers values : _) (opening : _) (since : _) (t : Table) (c : Card) (r : Row) → Arriving values opening since t c r → k < t .count → node ≡ node-in numbers k → 1 < node .kind → timed (operator (node .kind)) ≡ false → Taking numbers (now (cells .entry)) t c r k → Taking numbers (now (cells .exit)) t c r (suc k)) ⌝ }
+    ensures taken { λ _. ⌜ ((numbers values : _) → node ≡ node-in numbers k → TimedAsks (now (cells .entry)) node e left right → NodeTakes numbers (now (cells .entry)) (now (cells .exit)) values opening since k) ⌝ }
     ensures beyond { λ _. ⌜ SameBeyond (now (cells .entry)) (now (cells .exit)) ⌝ }
 {
-    let newest = point(cells, node, k, NEWEST);
-    let margin = point(cells, node, k, MARGIN);
-    let at = HELD_AT + 3 * k;
-    cells[at + NEWEST] = newest;
-    cells[at + MARGIN] = margin;
-}
-
-// A temporal operator takes the row.
-fn take_timed(cells: &mut [i64], node: Node, opening: bool, since: u64, k: usize)
-    requires { ⌜ (CELLS ≤ length (now cells)) × (k < NODES) ⌝ }
-    ensures taken { λ _. ⌜ ((numbers values : _) (t : Table) (c : Card) (r : Row) → Arriving values opening since t c r → k < t .count → node ≡ node-in numbers k → timed (operator (node .kind)) ≡ true → Taking numbers (now (cells .entry)) t c r k → Taking numbers (now (cells .exit)) t c r (suc k)) ⌝ }
-    ensures beyond { λ _. ⌜ SameBeyond (now (cells .entry)) (now (cells .exit)) ⌝ }
-{
-    let e = tables::extremum_of(node.kind);
     let other = logic::dual(e);
     let margin = so_far(cells, opening, points::over_nothing(e), k, MARGIN);
     let carried = so_far(cells, opening, points::over_nothing(other), k, CARRIED);
-    let left = left_operand(cells, node, other, k);
-    let right = right_operand(cells, node, k);
     let here = in_window(node, since);
     let next = points::extreme(other, carried, left);
     let best = margin_after(e, margin, carried, right, here);
-    let at = HELD_AT + 3 * k;
-    cells[at + MARGIN] = best;
-    cells[at + CARRIED] = next;
+    cells[HELD_AT + tables::NODES * MARGIN + k] = best;
+    cells[HELD_AT + tables::NODES * CARRIED + k] = next;
 }
 
-// Node k takes the row.
+// Until or release takes the row.
+fn take_binary(cells: &mut [i64], node: Node, e: Extremum, opening: bool, since: u64, k: usize)
+    requires { ⌜ (CELLS ≤ length (now cells)) × (k < NODES) ⌝ }
+    ensures taken { λ _. ⌜ ((numbers values : _) → node ≡ node-in numbers k → operator (node .kind) ≡ binary future e → NodeTakes numbers (now (cells .entry)) (now (cells .exit)) values opening since k) ⌝ }
+    ensures beyond { λ _. ⌜ SameBeyond (now (cells .entry)) (now (cells .exit)) ⌝ }
+{
+    let left = operand(cells, node.left, NEWEST);
+    let right = operand(cells, node.right, NEWEST);
+    take_timed(cells, node, e, left, right, opening, since, k)
+}
+
+// Eventually or always takes the row.
+fn take_unary(cells: &mut [i64], node: Node, e: Extremum, opening: bool, since: u64, k: usize)
+    requires { ⌜ (CELLS ≤ length (now cells)) × (k < NODES) ⌝ }
+    ensures taken { λ _. ⌜ ((numbers values : _) → node ≡ node-in numbers k → operator (node .kind) ≡ unary future e → NodeTakes numbers (now (cells .entry)) (now (cells .exit)) values opening since k) ⌝ }
+    ensures beyond { λ _. ⌜ SameBeyond (now (cells .entry)) (now (cells .exit)) ⌝ }
+{
+    let left = points::over_nothing(logic::dual(e));
+    let right = operand(cells, node.left, NEWEST);
+    take_timed(cells, node, e, left, right, opening, since, k)
+}
+
+// Node k takes the row. Kinds are told apart here alone, which is what a row costs least with.
 fn take_node(
     numbers: &[u64],
     cells: &mut [i64],
@@ -251,17 +242,24 @@ fn take_node(
     k: usize,
 )
     requires { ⌜ (NUMBERS ≤ length (now numbers)) × (CELLS ≤ length (now cells)) × (k < NODES) × Values (now values) ⌝ }
-    ensures taken { λ _. ⌜ ((t : Table) (c : Card) (r : Row) → Arriving (now (values .entry)) opening since t c r → k < t .count → Taking (now (numbers .entry)) (now (cells .entry)) t c r k → Taking (now (numbers .entry)) (now (cells .exit)) t c r (suc k)) ⌝ }
+    ensures taken { λ _. ⌜ NodeTakes (now (numbers .entry)) (now (cells .entry)) (now (cells .exit)) (now (values .entry)) opening since k ⌝ }
     ensures beyond { λ _. ⌜ SameBeyond (now (cells .entry)) (now (cells .exit)) ⌝ }
 {
     let node = node_of(numbers, k);
-    if node.kind <= tables::PREDICATE {
-        return take_leaf(numbers, cells, values, node, opening, k);
-    }
-    if tables::is_timed(node.kind) {
-        take_timed(cells, node, opening, since, k)
-    } else {
-        take_joined(cells, node, k)
+    let kind = node.kind;
+    match kind {
+        0 => take_leaf(cells, TOP, opening, k),
+        1 => {
+            let leaf = distance_of(numbers, cells, values, node);
+            take_leaf(cells, leaf, opening, k)
+        }
+        2 => take_not(cells, node, k),
+        3 => take_joined(cells, node, Extremum::Smallest, k),
+        4 => take_joined(cells, node, Extremum::Largest, k),
+        5 => take_binary(cells, node, Extremum::Largest, opening, since, k),
+        6 => take_binary(cells, node, Extremum::Smallest, opening, since, k),
+        7 => take_unary(cells, node, Extremum::Largest, opening, since, k),
+        _ => take_unary(cells, node, Extremum::Smallest, opening, since, k),
     }
 }
 

@@ -1,7 +1,7 @@
 // A margin while the card runs. A watch is made from a table, its predicates and scales, takes one row at a time and tells the margin of the rows that it has accepted, without
 // storing them: its size is fixed. It is a struct by value; `make`, `take` and `tell` are the same for a watch that a caller lends as two slices, and nothing is copied there.
 ghost use mathlib.Core.Path.{_≡_};
-ghost use Prim.Native.Nat.{_≤_, _<_, _+_, _-_, _*_, min};
+ghost use Prim.Native.Nat.{_≤_, _<_, _+_, _-_, min};
 ghost use mathlib.Core.Bool.{cond};
 ghost use lib.Dec.{eqb};
 ghost use lib.IntN.{pos};
@@ -260,15 +260,15 @@ pub fn take(numbers: &mut [u64], cells: &mut [i64], time: u64, values: &[i64]) -
     0
 }
 
-// Where the root's margin stands. Numbers that no making left have no root.
+// Where the root's margin stands: in the second of the nodes' runs. Numbers that no making left have no root.
 fn root_cell(count: u64) -> usize
-    ensures { λ r. ⌜ (r < CELLS) × (1 ≤ count → count ≤ NODES → r ≡ HELD-AT + 3 * (count - 1) + 1) ⌝ }
+    ensures { λ r. ⌜ (r < CELLS) × (1 ≤ count → count ≤ NODES → r ≡ HELD-AT + NODES + (count - 1)) ⌝ }
 {
     if count == 0 {
         return HELD_AT;
     }
     let nodes = node_count(count);
-    HELD_AT + 3 * (nodes - 1) + 1
+    HELD_AT + tables::NODES + (nodes - 1)
 }
 
 // The root's margin at sample 0.

@@ -3,7 +3,7 @@
 use mathlib.Core.Path.{_≡_, sym, ap, ap₂, _∙_, subst}
 use native.Mathlib.Omega.{arith}
 use borrow.Author.Tests.{not-true, not-false}
-use Prim.Native.Nat.{ℕ, _+_, _*_}
+use Prim.Native.Nat.{ℕ, _+_, _*_, _%_}
 use lib.Dec.{T}
 use lib.ListN.{getD}
 use lib.IntN.{pos}
@@ -16,6 +16,7 @@ use Rattle.predicates.specs.Predicates.{range-obeys}
 use Rattle.predicates.proofs.Predicates.{range-ends, ends-pass}
 use Rattle.refusals.proofs.First.{answers}
 use Rattle.flat.specs.Predicates.{range-from}
+use Rattle.watch_cells.specs.State.{predicate-in}
 use Rattle.watch_cells.specs.Taking.{LeafAsks}
 use Rattle.watch_cells.proofs.Points.{clash, distance-same}
 use borrow.Author.Needs.{needs}
@@ -26,21 +27,26 @@ use Rattle.watch_cells.proofs.distance_of.Tie as tie
 abbrev Asks : tie.Start → Predicate → ℕ → Type 0
 Asks s p k = LeafAsks (s .args .numbers .now) (s .args .cells .now) (s .args .values .now) (s .args .node) p k
 
-channel : (s : tie.Start) {p : Predicate} {k : ℕ} → Asks s p k → getD (s .args .numbers .now) (14 + 2 * s .args .node .left + 1) 0 ≡ p .channel
-channel s a = ap (λ (q : Predicate). q .channel) (a .predicate-is)
+named : (s : tie.Start) {p : Predicate} {k : ℕ} → Asks s p k → s .args .node .left % 16 ≡ s .args .node .left
+named s a = omega (arith, a .numbered)
 
-scale : (s : tie.Start) {p : Predicate} {k : ℕ} → Asks s p k → getD (s .args .numbers .now) (6 + getD (s .args .numbers .now) (14 + 2 * s .args .node .left + 1) 0) 0 ≡ k
-scale s a = ap (λ (n : ℕ). getD (s .args .numbers .now) (6 + n) 0) (channel s a) ∙ a .scale-is
+predicate : (s : tie.Start) {p : Predicate} {k : ℕ} → Asks s p k → predicate-in (s .args .numbers .now) (s .args .cells .now) (s .args .node .left % 16) ≡ p
+predicate s a = ap (predicate-in (s .args .numbers .now) (s .args .cells .now)) (named s a) ∙ a .predicate-is
 
-range : (c : tie.After-range-from) {p : Predicate} {k : ℕ} → Asks (c .before .before .before .before .before .before .before .before .before .before .before) p k → c .range-from .result ≡ p .range
+channel : (s : tie.Start) {p : Predicate} {k : ℕ} → Asks s p k → getD (s .args .numbers .now) (14 + 2 * (s .args .node .left % 16) + 1) 0 ≡ p .channel
+channel s a = ap (λ (q : Predicate). q .channel) (predicate s a)
+
+scale : (s : tie.Start) {p : Predicate} {k : ℕ} → Asks s p k → getD (s .args .numbers .now) (6 + getD (s .args .numbers .now) (14 + 2 * (s .args .node .left % 16) + 1) 0 % 8) 0 ≡ k
+scale s {p} a =
+    let e : p .channel % 8 ≡ p .channel = omega (arith, a .known) in
+    ap (λ (n : ℕ). getD (s .args .numbers .now) (6 + n % 8) 0) (channel s a) ∙ ap (λ (n : ℕ). getD (s .args .numbers .now) (6 + n) 0) e ∙ a .scale-is
+
+range : (c : tie.After-range-from) {p : Predicate} {k : ℕ} → Asks (c .before .before .before .before .before .before .before .before .before .before) p k → c .range-from .result ≡ p .range
 range c a =
-    let s = c .before .before .before .before .before .before .before .before .before .before .before in
+    let s = c .before .before .before .before .before .before .before .before .before .before in
     c .range-from .ensures
-    ∙ ap₂ (range-from (getD (s .args .numbers .now) (14 + 2 * s .args .node .left) 0)) (back-ok _ (c .before .before .range-from-arg .given)) (back-ok _ (c .before .range-from-arg2 .given))
-    ∙ ap (λ (q : Predicate). q .range) (a .predicate-is)
-
-returns : tie.Need-returns
-returns c = λ p k a. absurd (omega (arith, a .numbered, c .if1 .taken))
+    ∙ ap₂ (range-from (getD (s .args .numbers .now) (14 + 2 * (s .args .node .left % 16)) 0)) (back-ok _ (c .before .before .range-from-arg .given)) (back-ok _ (c .before .range-from-arg2 .given))
+    ∙ ap (λ (q : Predicate). q .range) (predicate s a)
 
 mul-at : tie.Need-mul-at
 mul-at c = search needs
@@ -57,11 +63,8 @@ mul-channel c = search needs
 shared-slice-read-channel : tie.Need-shared-slice-read-channel
 shared-slice-read-channel c = search needs
 
-returns-2 : tie.Need-returns-2
-returns-2 c = λ p k a. absurd (omega (arith, a .known, channel (c .before .before .before .before) a, c .if2 .taken))
-
-returns-3 : tie.Need-returns-3
-returns-3 c = λ p k a. absurd (omega (arith, a .here, channel (c .before .before .before .before .before) a, c .if3 .taken))
+returns : tie.Need-returns
+returns c = λ p k a. absurd (omega (arith, a .here, channel (c .before .before .before .before) a, c .if1 .taken))
 
 add-scale : tie.Need-add-scale
 add-scale c = search needs
@@ -72,8 +75,8 @@ mul-scale c = search needs
 shared-slice-read-scale : tie.Need-shared-slice-read-scale
 shared-slice-read-scale c = search needs
 
-returns-4 : tie.Need-returns-4
-returns-4 c = λ p k a. absurd (omega (arith, a .scaled .most, scale (c .before .before .before .before .before .before .before) a, c .if4 .taken))
+returns-2 : tie.Need-returns-2
+returns-2 c = λ p k a. absurd (omega (arith, a .scaled .most, scale (c .before .before .before .before .before .before) a, c .if2 .taken))
 
 mul-range-from : tie.Need-mul-range-from
 mul-range-from c = search needs
@@ -108,8 +111,8 @@ range-from-requires c κs = search needs
 range-obeys-requires : tie.Need-range-obeys-requires
 range-obeys-requires c κs = search needs
 
-returns-5 : tie.Need-returns-5
-returns-5 c = λ p k a. absurd (clash (answers (subst (λ (r : Range). T (range-obeys r)) (sym (range (c .before .before) a)) (ends-pass (p .range) (a .proper .ends)))) (sym (c .before .range-obeys .ensures) ∙ not-true (c .before .range-obeys .result) (c .if5 .taken)))
+returns-3 : tie.Need-returns-3
+returns-3 c = λ p k a. absurd (clash (answers (subst (λ (r : Range). T (range-obeys r)) (sym (range (c .before .before) a)) (ends-pass (p .range) (a .proper .ends)))) (sym (c .before .range-obeys .ensures) ∙ not-true (c .before .range-obeys .result) (c .if3 .taken)))
 
 mul-scaled-distance : tie.Need-mul-scaled-distance
 mul-scaled-distance c = search needs
@@ -119,13 +122,13 @@ shared-slice-copy-out-scaled-distance c = search needs
 
 scaled-distance-requires : tie.Need-scaled-distance-requires
 scaled-distance-requires c κs =
-    let s = c .before .before .before .before .before .before .before .before .before .before .before .before .before .before in
-    (in-back (s .pre .2 .each _ (c .before .before .before .before .before .before .before .before .before .if3 .left)), range-ends (c .before .before .before .range-from .result) (holds (sym (c .before .before .range-obeys .ensures) ∙ not-false _ (c .before .if5 .left))), c .before .before .before .before .before .before .before .if4 .left)
+    let s = c .before .before .before .before .before .before .before .before .before .before .before .before .before in
+    (in-back (s .pre .2 .each _ (c .before .before .before .before .before .before .before .before .before .if1 .left)), range-ends (c .before .before .before .range-from .result) (holds (sym (c .before .before .range-obeys .ensures) ∙ not-false _ (c .before .if3 .left))), c .before .before .before .before .before .before .before .if2 .left)
 
-returns-6 : tie.Need-returns-6
-returns-6 c =
+returns-4 : tie.Need-returns-4
+returns-4 c =
     λ p k a.
-    let s = c .before .before .before .before .before .before .before .before .before .before .before .before .before .before .before in
+    let s = c .before .before .before .before .before .before .before .before .before .before .before .before .before .before in
     let z = c .scaled-distance in
     back-ok (z .result) (z .ok) ∙ z .ensures ∙ distance-same (scale s a) (range (c .before .before .before .before) a) (ap back (ap (λ (n : ℕ). getD (s .args .values .now) n (pos 0)) (channel s a)) ∙ back-is (fit (a .in-range)))
 
@@ -133,18 +136,16 @@ pub distance-of-spec : {M : Type 1} → statement M
 distance-of-spec =
     tie.close
     (tie.spec
-    returns
     mul-at
     add-at
     add-channel
     mul-channel
     shared-slice-read-channel
-    returns-2
-    returns-3
+    returns
     add-scale
     mul-scale
     shared-slice-read-scale
-    returns-4
+    returns-2
     mul-range-from
     shared-slice-read-range-from
     mul-range-from-2
@@ -156,8 +157,8 @@ distance-of-spec =
     shared-slice-copy-out-range-from-2
     range-from-requires
     range-obeys-requires
-    returns-5
+    returns-3
     mul-scaled-distance
     shared-slice-copy-out-scaled-distance
     scaled-distance-requires
-    returns-6)
+    returns-4)
