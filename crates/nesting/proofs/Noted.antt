@@ -20,7 +20,8 @@ use Rattle.tables.specs.declared.Node.{Node}
 use Rattle.tables.specs.declared.Table.{Table}
 use Rattle.tables.specs.Kind.{Operator, constant, named, negated, unknown, joined, binary, unary, operator}
 use Rattle.tables.specs.Tree.{NODES, formula, node-at, tree}
-use Rattle.tables.specs.Rules.{Use, child, number, unused, Used, left-use, right-use, timed, NodeRules, TableRules}
+use Rattle.tables.specs.Rules.{Used, left-use, right-use, timed, NodeRules, TableRules}
+use Rattle.tables.proofs.Rules.{named-small}
 use Rattle.tables.proofs.Trees.{tree-node}
 use Rattle.nesting.specs.Nesting.{momentary, unnested}
 use Rattle.nesting.specs.Operands.{in-operands}
@@ -87,11 +88,6 @@ pub record Noted (t : Table) (k : ℕ) (notes : List Bool) (ok : Bool) : Type 0 
   pub long : length notes ≡ NODES
   pub each : (j : ℕ) → j < k → getD notes j false ≡ lasting (tree (t .nodes) j)
 
-small : (u : Use) (k x : ℕ) → Used u k x → k < NODES → x < NODES
-small child k x h l = omega arith
-small number k x h l = omega arith
-small unused k x h l = omega arith
-
 -- two tests that are the same where a third holds
 where-so : (a : Bool) {b c : Bool} → (T a → b ≡ c) → a && b ≡ a && c
 where-so true h = h tt
@@ -102,11 +98,8 @@ module _ (t : Table) (rules : TableRules t) (k : ℕ) (h : k < t .count) where
   node = node-at (t .nodes) k
 
   -- every number that a node may name has a place
-  pub left-small : node-at (t .nodes) k .left < NODES
-  left-small = small (left-use (operator (node .kind))) k (node .left) (rules .each k h .left) (omega (arith, rules .few-nodes))
-
-  pub right-small : node-at (t .nodes) k .right < NODES
-  right-small = small (right-use (operator (node .kind))) k (node .right) (rules .each k h .right) (omega (arith, rules .few-nodes))
+  pub places : (node-at (t .nodes) k .left < NODES) × (node-at (t .nodes) k .right < NODES)
+  places = named-small (rules .each k h) (omega (arith, rules .few-nodes))
 
   pub noted-next : (notes : List Bool) {ok a b : Bool} → Noted t k notes ok → a ≡ timed (operator (node-at (t .nodes) k .kind))
       → b ≡ in-operands (operator (node-at (t .nodes) k .kind)) (getD notes (node-at (t .nodes) k .left) false) (getD notes (node-at (t .nodes) k .right) false)

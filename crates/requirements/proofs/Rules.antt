@@ -16,7 +16,7 @@ use Rattle.tables.specs.declared.Node.{Node}
 use Rattle.tables.specs.Kind.{kinds, operator, true-kind, predicate-kind}
 use Rattle.tables.specs.Tree.{node-at, NODES}
 use Rattle.tables.specs.Rules.{Use, child, number, unused, is-child, left-use, right-use, timed, Used, WindowRules, EndsRules, NodeRules, TableRules, table-obeys}
-use Rattle.tables.proofs.Rules.{table-passes}
+use Rattle.tables.proofs.Rules.{child-is, table-passes}
 use Rattle.grammar.specs.declared.Span.{Span}
 use Rattle.grammar.specs.Operators.{binders, prefixes, _∈_}
 use Rattle.grammar.specs.Tree.{Tree, truth, predicate, one, two, size, no-span}
@@ -55,11 +55,6 @@ is-unused : Use → Bool
 is-unused child = false
 is-unused number = false
 is-unused unused = true
-
-child-is : (u : Use) → is-child u ≡ true → u ≡ child
-child-is child e = refl
-child-is number e = absurd (false-true e)
-child-is unused e = absurd (false-true e)
 
 unused-is : (u : Use) → is-unused u ≡ true → u ≡ unused
 unfolding is-unused

@@ -1,9 +1,10 @@
 -- Each test of the table's rules holds exactly where its sentence does. A test is taken apart into its parts and put together from them.
 -- Assumes nothing.
-use mathlib.Core.Path.{_≡_}
+use mathlib.Core.Path.{_≡_, refl, sym, subst}
 use mathlib.Core.Bool.{Bool, true, false, _&&_, _||_}
 use mathlib.Core.Logic.{inl, inr}
 use Prim.Native.Nat.{ℕ, _<_}
+use native.Mathlib.Omega.{arith}
 use lib.Dec.{T, leb, ltb, eqb, leb→le, le→leb, ltb→lt, lt→ltb, eqb→eq}
 use lib.ListN.{length}
 use mir.Facts.{and-yes, yes-and, or-yes, yes-eqb}
@@ -12,7 +13,7 @@ use Rattle.tables.specs.declared.Node.{Node}
 use Rattle.tables.specs.declared.Table.{Table}
 use Rattle.tables.specs.Kind.{kinds, operator}
 use Rattle.tables.specs.Tree.{NODES, LONGEST, NO-END, node-at}
-use Rattle.tables.specs.Rules.{Use, child, number, unused, left-use, right-use, timed, use-obeys, Used, window-obeys, WindowRules, ends-obey, EndsRules, node-obeys, NodeRules, nodes-obey, table-obeys, TableRules}
+use Rattle.tables.specs.Rules.{Use, child, number, unused, is-child, left-use, right-use, timed, use-obeys, Used, window-obeys, WindowRules, ends-obey, EndsRules, node-obeys, NodeRules, nodes-obey, table-obeys, TableRules}
 
 pub used : (u : Use) (k x : ℕ) → T (use-obeys u k x) → Used u k x
 used child k x t = ltb→lt x k t
@@ -25,8 +26,22 @@ use-passes number k x h = le→leb x 15 h
 use-passes unused k x h = yes-eqb h
 
 -- a child is an earlier node
+pub child-is : (u : Use) → is-child u ≡ true → u ≡ child
+child-is child e = refl
+child-is number e = absurd (subst T (sym e) tt)
+child-is unused e = absurd (subst T (sym e) tt)
+
 pub child-before : (u : Use) (k x : ℕ) → Used u k x → u ≡ child → x < k
 child-before u k x h e = rw e at h
+
+-- what a node may name is below the count of nodes
+use-small : (u : Use) (k x : ℕ) → Used u k x → k < NODES → x < NODES
+use-small child k x h l = omega arith
+use-small number k x h l = omega arith
+use-small unused k x h l = omega arith
+
+pub named-small : {n : Node} {k : ℕ} → NodeRules n k → k < NODES → (n .left < NODES) × (n .right < NODES)
+named-small {n} {k} r h = (use-small (left-use (operator (n .kind))) k (n .left) (r .left) h, use-small (right-use (operator (n .kind))) k (n .right) (r .right) h)
 
 pub window-rules : (lo hi : ℕ) → T (window-obeys lo hi) → WindowRules lo hi
 window-rules lo hi t =

@@ -17,7 +17,8 @@ use Rattle.tables.specs.declared.Node.{Node}
 use Rattle.tables.specs.declared.Table.{Table}
 use Rattle.tables.specs.Kind.{Operator, operator}
 use Rattle.tables.specs.Tree.{NODES, node-at}
-use Rattle.tables.specs.Rules.{Use, child, number, unused, Used, left-use, right-use, NodeRules}
+use Rattle.tables.specs.Rules.{left-use, right-use, NodeRules}
+use Rattle.tables.proofs.Rules.{named-small}
 use Rattle.nodes.specs.Values.{node-value}
 use Rattle.nodes.specs.Asks.{NodeAsks}
 use Rattle.nodes.proofs.Values.{value-same}
@@ -57,11 +58,6 @@ pub row-value-of : (c : Card) (step : ℕ) (ns : List Node) (b : Bool) (k i : �
 row-value-of c step ns b k i = rw (row-sign b k, row-node b k) refl
 
 -- ---- what row r asks of the cells before it
-use-small : (u : Use) (k x : ℕ) → Used u k x → k ≤ NODES → x ≤ NODES
-use-small child k x h l = omega arith
-use-small number k x h l = omega arith
-use-small unused k x h l = omega arith
-
 module _ {c : Card} {t : Table} {step : ℕ} {work : List ℤ} {r : ℕ} (f : Filled c t step work r) where
   abbrev k : ℕ
   k = r / 2
@@ -81,14 +77,14 @@ module _ {c : Card} {t : Table} {step : ℕ} {work : List ℤ} {r : ℕ} (f : Fi
   pub rules : NodeRules n k
   rules = f .ready .sound .ruled .each k node-inside
 
-  few : k ≤ NODES
-  few = omega (arith, node-inside, f .ready .sound .ruled .few-nodes)
+  named : (n .left < NODES) × (n .right < NODES)
+  named = named-small rules (omega (arith, node-inside, f .ready .sound .ruled .few-nodes))
 
   pub left-small : n .left ≤ NODES
-  left-small = use-small (left-use o) k (n .left) (rules .left) few
+  left-small = omega (arith, named .0)
 
   pub right-small : n .right ≤ NODES
-  right-small = use-small (right-use o) k (n .right) (rules .right) few
+  right-small = omega (arith, named .1)
 
   -- a filled row's cells are its node's values
   filled-cell : (s : Bool) (x : ℕ) → x < k → (i : ℕ) → i < rows c → cell work (rows c) (row-of s x) i ≡ strong c step (t .nodes) s x i

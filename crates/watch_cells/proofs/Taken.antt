@@ -29,7 +29,8 @@ use Rattle.tables.specs.declared.Node.{Node}
 use Rattle.tables.specs.declared.Table.{Table}
 use Rattle.tables.specs.Kind.{kinds, operator, predicate-kind}
 use Rattle.tables.specs.Tree.{NODES, node-at, window, formula, tree}
-use Rattle.tables.specs.Rules.{Use, child, number, unused, is-child, Used, left-use, right-use, timed, NodeRules}
+use Rattle.tables.specs.Rules.{Use, is-child, Used, left-use, right-use, timed, NodeRules}
+use Rattle.tables.proofs.Rules.{child-is, child-before}
 use Rattle.tables.proofs.Trees.{tree-node}
 use Rattle.flat.specs.Predicates.{range-from}
 use Rattle.nesting.specs.Nesting.{momentary, unnested}
@@ -105,9 +106,7 @@ module _ (cells : List ℤ) (k p q : ℕ) (x y : ℤ) where
 
 -- ---- the row and the node
 earlier : (u : Use) (k x : ℕ) → is-child u ≡ true → Used u k x → x < k
-earlier child k x e h = h
-earlier number k x e h = absurd (subst T (sym e) tt)
-earlier unused k x e h = absurd (subst T (sym e) tt)
+earlier u k x e h = child-before u k x h (child-is u e)
 
 opened : (n : ℕ) {b : Bool} → b ≡ eqb n 0 → b ≡ true → n ≡ 0
 opened n e f = eqb→eq n 0 (subst T (sym f ∙ e) tt)

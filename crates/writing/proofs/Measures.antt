@@ -12,8 +12,8 @@ use Rattle.text.proofs.Tests.{false-true}
 use Rattle.tables.specs.declared.Node.{Node}
 use Rattle.tables.specs.Kind.{operator}
 use Rattle.tables.specs.Tree.{NODES}
-use Rattle.tables.specs.Rules.{Use, child, number, unused, is-child, Used, left-use, right-use, NodeRules}
-use Rattle.tables.proofs.Rules.{child-before}
+use Rattle.tables.specs.Rules.{Use, child, number, unused, is-child, left-use, right-use, NodeRules}
+use Rattle.tables.proofs.Rules.{child-before, named-small}
 use Rattle.grammar.specs.declared.Span.{Span}
 use Rattle.grammar.specs.declared.Part.{Part}
 use Rattle.grammar.specs.declared.Part.the-variants.{Alternative as alternative, Unary as unary}
@@ -96,18 +96,10 @@ pub record Measured (at : ℕ → Node) (count k : ℕ) (ms : List Measure) : Ty
   pub long : length ms ≡ NODES
   pub each : (j : ℕ) → j < k → getD ms j none ≡ measure-of (unshared at j)
 
-small : (u : Use) (k x : ℕ) → Used u k x → k < NODES → x < NODES
-small child k x h l = omega arith
-small number k x h l = omega arith
-small unused k x h l = omega arith
-
 module _ (at : ℕ → Node) (count k : ℕ) (ruled : Ruled at (count - 1)) (h : k < count) where
   -- every number that a node may name has a place
-  pub left-small : at k .left < NODES
-  left-small = small (left-use (operator (at k .kind))) k (at k .left) (ruled .each k (omega arith) .left) (omega (arith, ruled .inside))
-
-  pub right-small : at k .right < NODES
-  right-small = small (right-use (operator (at k .kind))) k (at k .right) (ruled .each k (omega arith) .right) (omega (arith, ruled .inside))
+  pub places : (at k .left < NODES) × (at k .right < NODES)
+  places = named-small (ruled .each k (omega arith)) (omega (arith, ruled .inside))
 
   pub measured-next : (ms : List Measure) (m : Measure) → Measured at count k ms
       → m ≡ node-measure (left-use (operator (at k .kind))) (right-use (operator (at k .kind))) (part-of (at k .kind)) (getD ms (at k .left) none) (getD ms (at k .right) none)

@@ -5,7 +5,7 @@ use native.Mathlib.Omega.{arith}
 use borrow.Author.Needs.{needs}
 use Rattle.lists.proofs.Below.{tested-none, tested-all}
 use Rattle.nesting.specs.Nesting.{nodes-unnested}
-use Rattle.nesting.proofs.Noted.{Noted, left-small, right-small, noted-next}
+use Rattle.nesting.proofs.Noted.{Noted, places, noted-next}
 use Rattle.nesting.proofs.unnested.Statement.{statement}
 use Rattle.nesting.proofs.unnested.Tie as tie
 
@@ -28,10 +28,10 @@ is-timed-requires : tie.Need-is-timed-requires Inv-loop μ-loop
 is-timed-requires c κs = search needs
 
 array-read-operands-timed : tie.Need-array-read-operands-timed Inv-loop μ-loop
-array-read-operands-timed c = left-small _ (c .before .before .before .before .pre) _ (c .before .before .loop-test .taken)
+array-read-operands-timed c = places _ (c .before .before .before .before .pre) _ (c .before .before .loop-test .taken) .0
 
 array-read-operands-timed-2 : tie.Need-array-read-operands-timed-2 Inv-loop μ-loop
-array-read-operands-timed-2 c = right-small _ (c .before .before .before .before .pre) _ (c .before .before .loop-test .taken)
+array-read-operands-timed-2 c = places _ (c .before .before .before .before .pre) _ (c .before .before .loop-test .taken) .1
 
 operands-timed-requires : tie.Need-operands-timed-requires Inv-loop μ-loop
 operands-timed-requires c κs = search needs

@@ -3,7 +3,7 @@
 use Prim.Native.Nat.{_-_}
 use native.Mathlib.Omega.{arith}
 use Rattle.tables.specs.Tree.{node-at}
-use Rattle.writing.proofs.Measures.{Measured, left-small, right-small, measured-next}
+use Rattle.writing.proofs.Measures.{Measured, places, measured-next}
 use borrow.Author.Needs.{needs}
 use Rattle.writing.proofs.last_measure.Statement.{statement}
 use Rattle.writing.proofs.last_measure.Tie as tie
@@ -31,16 +31,16 @@ array-copy-out-node : tie.Need-array-copy-out-node Inv-loop μ-loop
 array-copy-out-node c = search needs
 
 mul-node-measure : tie.Need-mul-node-measure Inv-loop μ-loop
-mul-node-measure c = let l = left-small _ _ _ (c .before .before .before .before .pre .0) (c .before .loop-test .taken) in search needs
+mul-node-measure c = let l = places _ _ _ (c .before .before .before .before .pre .0) (c .before .loop-test .taken) .0 in search needs
 
 array-copy-out-node-measure : tie.Need-array-copy-out-node-measure Inv-loop μ-loop
-array-copy-out-node-measure c = left-small _ _ _ (c .before .before .before .before .pre .0) (c .before .loop-test .taken)
+array-copy-out-node-measure c = places _ _ _ (c .before .before .before .before .pre .0) (c .before .loop-test .taken) .0
 
 mul-node-measure-2 : tie.Need-mul-node-measure-2 Inv-loop μ-loop
-mul-node-measure-2 c = let l = right-small _ _ _ (c .before .before .before .before .before .pre .0) (c .before .before .loop-test .taken) in search needs
+mul-node-measure-2 c = let l = places _ _ _ (c .before .before .before .before .before .pre .0) (c .before .before .loop-test .taken) .1 in search needs
 
 array-copy-out-node-measure-2 : tie.Need-array-copy-out-node-measure-2 Inv-loop μ-loop
-array-copy-out-node-measure-2 c = right-small _ _ _ (c .before .before .before .before .before .pre .0) (c .before .before .loop-test .taken)
+array-copy-out-node-measure-2 c = places _ _ _ (c .before .before .before .before .before .pre .0) (c .before .before .loop-test .taken) .1
 
 node-measure-requires : tie.Need-node-measure-requires Inv-loop μ-loop
 node-measure-requires c κs = search needs
