@@ -1,4 +1,4 @@
-// The answer to each sheet that an argument names, so that one stored run shows every refusal and every verdict.
+// The answer to each sheet that an argument names, so that one stored run shows every refusal of the program, 1 to 13, and every verdict.
 fn answer_file(i: usize) {
     let mut path = io::buffer();
     let length = os::arg(i, &mut path);
