@@ -232,7 +232,7 @@ fn take_unary(cells: &mut [i64], node: Node, e: Extremum, opening: bool, since: 
     take_timed(cells, node, e, left, right, opening, since, k)
 }
 
-// Node k takes the row. Kinds are told apart here alone, which is what a row costs least with.
+// Node k takes the row. Its kind is asked for here alone, and once, because each question costs a row time.
 fn take_node(
     numbers: &[u64],
     cells: &mut [i64],
@@ -248,17 +248,17 @@ fn take_node(
     let node = node_of(numbers, k);
     let kind = node.kind;
     match kind {
-        0 => take_leaf(cells, TOP, opening, k),
-        1 => {
+        tables::TRUE => take_leaf(cells, TOP, opening, k),
+        tables::PREDICATE => {
             let leaf = distance_of(numbers, cells, values, node);
             take_leaf(cells, leaf, opening, k)
         }
-        2 => take_not(cells, node, k),
-        3 => take_joined(cells, node, Extremum::Smallest, k),
-        4 => take_joined(cells, node, Extremum::Largest, k),
-        5 => take_binary(cells, node, Extremum::Largest, opening, since, k),
-        6 => take_binary(cells, node, Extremum::Smallest, opening, since, k),
-        7 => take_unary(cells, node, Extremum::Largest, opening, since, k),
+        tables::NOT => take_not(cells, node, k),
+        tables::AND => take_joined(cells, node, Extremum::Smallest, k),
+        tables::OR => take_joined(cells, node, Extremum::Largest, k),
+        tables::UNTIL => take_binary(cells, node, Extremum::Largest, opening, since, k),
+        tables::RELEASE => take_binary(cells, node, Extremum::Smallest, opening, since, k),
+        tables::EVENTUALLY => take_unary(cells, node, Extremum::Largest, opening, since, k),
         _ => take_unary(cells, node, Extremum::Smallest, opening, since, k),
     }
 }
