@@ -47,8 +47,8 @@ leaf-point (suc (suc kind)) leaf l r h = absurd (omega arith)
 pub past : (n x : ℕ) → n ≤ x → (x ≡ n → ⊥) → (x ≡ n + 1 → ⊥) → (x ≡ n + 2 → ⊥) → (x ≡ n + 3 → ⊥) → n + 4 ≤ x
 past n x h a b c d = omega arith
 
-pub last : (x : ℕ) → x < length kinds → 8 ≤ x → x ≡ 8
-last x below h = omega arith
+pub last-kind : (x : ℕ) → x < length kinds → 8 ≤ x → x ≡ 8
+last-kind x below h = omega arith
 
 -- ---- what a leaf and a temporal operator are worked out from, by the kind
 pub true-leaf : {numbers : List ℕ} {cells values : List ℤ} {n : Node} → n .kind ≡ 0 → LeafValue numbers cells values n (pos TOP)
@@ -83,7 +83,7 @@ distance-same a b d = rw (a, b, d)
 
 -- ---- the least margin: what is not below it has a negative, and no margin is below it
 abbrev least : ℤ
-least = negsuc 3999999999999
+least = negℤ (pos TOP)
 
 pub negative-fits : (a : ℤ) → SFits w64 a → leZ least a ≡ true → SFits w64 (negℤ a)
 negative-fits (pos zero) h e = record { sfits = omega arith }

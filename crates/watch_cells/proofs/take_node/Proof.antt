@@ -3,7 +3,7 @@
 use mathlib.Core.Path.{refl, _∙_}
 use native.Mathlib.Omega.{arith}
 use Rattle.numbers.proofs.Bits.{back-ok}
-use Rattle.watch_cells.proofs.Points.{past, last, true-leaf, named-leaf}
+use Rattle.watch_cells.proofs.Points.{past, last-kind, true-leaf, named-leaf}
 use Rattle.watch_cells.proofs.Taken.{known}
 use borrow.Author.Needs.{needs}
 use Rattle.watch_cells.proofs.take_node.Statement.{statement}
@@ -118,7 +118,7 @@ returns-9 c = (
       let o = c .before .before .before .match .rest in
       let below = known A small (n .ensures ∙ K .planned .nodes (s .args .k) (s .pre .2)) K in
       let four = past 0 (n .result .kind) (omega arith) (o .0 .0 .0 .0 .0 .0 .0 .1) (o .0 .0 .0 .0 .0 .0 .1) (o .0 .0 .0 .0 .0 .1) (o .0 .0 .0 .0 .1) in
-      let always = last (n .result .kind) below (past 4 (n .result .kind) four (o .0 .0 .0 .1) (o .0 .0 .1) (o .0 .1) (o .1)) in
+      let always = last-kind (n .result .kind) below (past 4 (n .result .kind) four (o .0 .0 .0 .1) (o .0 .0 .1) (o .0 .1) (o .1)) in
       c .before .take-unary2 .ensures .0 (s .args .numbers .now) (s .args .values .now) (n .ensures) (rw always refl) t d r A small K,
   c .before .take-unary2 .ensures .1,
 )
