@@ -11,7 +11,7 @@ use flat::{flat_nodes, flat_predicates};
 use names::Call;
 use plain::{Card, Node, Predicate, Range, NO_END};
 use std::fmt;
-use timing::{best, seconds, times_as_long, Random};
+use timing::{best, seconds, times_as_long, Random, Times};
 
 const STEP: u64 = 3;
 /// Any two values obey it where the scales are 1.
@@ -112,14 +112,6 @@ impl fmt::Display for Values {
     }
 }
 
-/// Seconds, for each round the best of its turns.
-#[derive(Default)]
-struct Times {
-    proved: Vec<f64>,
-    plain: Vec<f64>,
-    afresh: Vec<f64>,
-}
-
 /// What is timed: a table's margin or its verdict over a recording of two channels, with scales of 1 unless said otherwise.
 struct Case {
     name: String,
@@ -131,6 +123,8 @@ struct Case {
     /// Whether the plain loop is timed too.
     beside_afresh: bool,
     seconds: Times,
+    /// Of the plain loop, for each round.
+    afresh: Vec<f64>,
 }
 
 impl Case {
@@ -145,6 +139,7 @@ impl Case {
             verdict: false,
             beside_afresh: false,
             seconds: Times::default(),
+            afresh: Vec::new(),
         }
     }
 
@@ -162,23 +157,18 @@ impl Case {
             theirs.push(seconds(|| y = plain(verdict, nodes, &card, &mut b)));
             assert!(x.is_some() && x == y && a == b, "results differ: {}", self.name);
         }
-        self.seconds.proved.push(best(&ours));
-        self.seconds.plain.push(best(&theirs));
+        self.seconds.round(&ours, &theirs);
         if self.beside_afresh {
             // once: it is slow
             let (mut y, mut b) = (None, vec![0; a.len()]);
-            self.seconds.afresh.push(seconds(|| y = afresh(verdict, nodes, &card, &mut b)));
+            self.afresh.push(seconds(|| y = afresh(verdict, nodes, &card, &mut b)));
             assert!(y == plain(verdict, nodes, &card, &mut a) && a == b, "results of the plain loop differ: {}", self.name);
         }
     }
 
-    fn ratio(&self) -> f64 {
-        times_as_long(&self.seconds.proved, &self.seconds.plain)
-    }
-
     fn print(&self) {
         let (ours, theirs) = (best(&self.seconds.proved) * 1e3, best(&self.seconds.plain) * 1e3);
-        println!("{:<44} {:>5} rows: {ours:>9.3} ms, plain Rust {theirs:>9.3} ms, ratio {:.2}", self.name, self.times.len(), self.ratio());
+        println!("{:<44} {:>5} rows: {ours:>9.3} ms, plain Rust {theirs:>9.3} ms, ratio {:.2}", self.name, self.times.len(), self.seconds.ratio());
     }
 }
 
@@ -297,9 +287,9 @@ fn print_growth_of_eventually(cases: &[Case]) {
 
 fn print_tables(cases: &[Case]) {
     for c in cases.iter().filter(|c| c.times.len() == 4_096) {
-        print!("{}, 4096 rows: {:.2} times plain Rust (at most 1.1 wanted)", c.name, c.ratio());
+        print!("{}, 4096 rows: {:.2} times plain Rust (at most 1.1 wanted)", c.name, c.seconds.ratio());
         if c.beside_afresh {
-            print!("; the plain loop takes {:.0} times as long as the library (at least 50 wanted)", times_as_long(&c.seconds.afresh, &c.seconds.proved));
+            print!("; the plain loop takes {:.0} times as long as the library (at least 50 wanted)", times_as_long(&c.afresh, &c.seconds.proved));
         }
         println!();
     }
@@ -321,6 +311,6 @@ fn main() {
     print_growth_of_until(&untils);
     print_growth_of_eventually(&eventuallies);
     print_tables(&tables);
-    let largest = all().max_by(|a, b| a.ratio().total_cmp(&b.ratio())).expect("there are cases");
-    println!("largest ratio to plain Rust: {:.2} (at most 1.1 wanted), {}, {} rows", largest.ratio(), largest.name, largest.times.len());
+    let largest = all().max_by(|a, b| a.seconds.ratio().total_cmp(&b.seconds.ratio())).expect("there are cases");
+    println!("largest ratio to plain Rust: {:.2} (at most 1.1 wanted), {}, {} rows", largest.seconds.ratio(), largest.name, largest.times.len());
 }

@@ -19,7 +19,7 @@ use flat::flat_nodes;
 use plain::{Node, NO_END};
 use plain_texts::LONGEST_TEXT;
 use std::hint::black_box;
-use timing::{best, seconds, times_as_long};
+use timing::{best, seconds, Times};
 
 /// The text's length, or the number of what refuses it.
 type Answer = Result<usize, u64>;
@@ -31,13 +31,6 @@ fn proved(nodes: &[u64], count: u64, text: &mut [u8]) -> Answer {
     } else {
         Err(written.number)
     }
-}
-
-/// Seconds, for each round the best of its turns.
-#[derive(Default)]
-struct Times {
-    proved: Vec<f64>,
-    plain: Vec<f64>,
 }
 
 /// What is timed: the writing of a table into a slice of so many bytes.
@@ -92,12 +85,7 @@ impl Case {
             assert!(x == y && a == b, "results differ: {}", self.name);
             assert!(x == due && a == left, "not what is due: {}", self.name);
         }
-        self.seconds.proved.push(best(&ours));
-        self.seconds.plain.push(best(&theirs));
-    }
-
-    fn ratio(&self) -> f64 {
-        times_as_long(&self.seconds.proved, &self.seconds.plain)
+        self.seconds.round(&ours, &theirs);
     }
 
     fn print(&self) {
@@ -107,7 +95,7 @@ impl Case {
         };
         let (ours, theirs) = (1.0 / best(&self.seconds.proved), 1.0 / best(&self.seconds.plain));
         print!("{:<44} {what:>13}: {ours:>9.0} {unit}, ", self.name);
-        println!("plain Rust {theirs:>9.0} {unit}, ratio {:.2}", self.ratio());
+        println!("plain Rust {theirs:>9.0} {unit}, ratio {:.2}", self.seconds.ratio());
     }
 }
 
@@ -209,7 +197,7 @@ fn main() {
     print_growth("plain Rust", &growing, |case| &case.seconds.plain);
     print_worst(&cases);
     let large = all().filter(|case| case.count == 64 && case.due.is_ok());
-    let largest = large.max_by(|a, b| a.ratio().total_cmp(&b.ratio())).expect("there are cases");
-    let (ratio, name) = (largest.ratio(), &largest.name);
+    let largest = large.max_by(|a, b| a.seconds.ratio().total_cmp(&b.seconds.ratio())).expect("there are cases");
+    let (ratio, name) = (largest.seconds.ratio(), &largest.name);
     println!("largest ratio of 64 nodes to plain Rust: {ratio:.2} (at most 1.5 wanted), {name}");
 }

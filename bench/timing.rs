@@ -42,3 +42,22 @@ pub fn times_as_long(one: &[f64], other: &[f64]) -> f64 {
     ratios.sort_by(f64::total_cmp);
     ratios[ratios.len() / 2]
 }
+
+/// Seconds of the library and of plain Rust, for each round the best of its turns.
+#[derive(Default)]
+pub struct Times {
+    pub proved: Vec<f64>,
+    pub plain: Vec<f64>,
+}
+
+impl Times {
+    /// A round's turns.
+    pub fn round(&mut self, ours: &[f64], theirs: &[f64]) {
+        self.proved.push(best(ours));
+        self.plain.push(best(theirs));
+    }
+
+    pub fn ratio(&self) -> f64 {
+        times_as_long(&self.proved, &self.plain)
+    }
+}

@@ -20,7 +20,7 @@ use std::fmt::Debug;
 use std::hint::black_box;
 use std::process::exit;
 use std::time::Instant;
-use timing::{best, seconds, times_as_long, Random};
+use timing::{best, seconds, times_as_long, Random, Times};
 
 /// Ends the benchmark where an answer is not the one that is due.
 fn check<T: PartialEq + Debug>(name: &str, who: &str, found: T, due: T) {
@@ -170,13 +170,6 @@ fn offer<W: Watch>(watch: &W, rows: &Rows, margins: bool, found: &mut [Answer]) 
     watch
 }
 
-/// Seconds, for each round the best of its turns.
-#[derive(Default)]
-struct Times {
-    proved: Vec<f64>,
-    plain: Vec<f64>,
-}
-
 /// What is timed: rows offered to a watch.
 struct Case {
     name: String,
@@ -210,12 +203,7 @@ impl Case {
             ours.push(self.turn(&self.start.proved));
             theirs.push(self.turn(&self.start.plain));
         }
-        self.seconds.proved.push(best(&ours));
-        self.seconds.plain.push(best(&theirs));
-    }
-
-    fn ratio(&self) -> f64 {
-        times_as_long(&self.seconds.proved, &self.seconds.plain)
+        self.seconds.round(&ours, &theirs);
     }
 
     /// Nanoseconds for each row, of the library and of plain Rust.
@@ -228,7 +216,7 @@ impl Case {
         let [ours, theirs] = self.each();
         print!("{:<40} {:>9.0} rows/s, {ours:>6.1} ns each; ", self.name, 1e9 / ours);
         print!("plain Rust {:>9.0} rows/s, {theirs:>5.1} ns; ", 1e9 / theirs);
-        println!("ratio {:.2}", self.ratio());
+        println!("ratio {:.2}", self.seconds.ratio());
     }
 }
 
@@ -418,6 +406,6 @@ fn main() {
     groups.iter().zip(&cases).for_each(|(group, cases)| print_growth(group, cases));
     print_together(&cases);
     let all = cases.iter().flatten().flatten();
-    let largest = all.max_by(|a, b| a.ratio().total_cmp(&b.ratio())).expect("there are cases");
-    println!("largest ratio to plain Rust: {:.2}, {}", largest.ratio(), largest.name);
+    let largest = all.max_by(|a, b| a.seconds.ratio().total_cmp(&b.seconds.ratio())).expect("there are cases");
+    println!("largest ratio to plain Rust: {:.2}, {}", largest.seconds.ratio(), largest.name);
 }
