@@ -20,7 +20,8 @@ pub fn flat_predicates(predicates: &[Predicate; 16]) -> ([u64; 32], [i64; 32]) {
             Range::AtMost(hi) => (3, 0, hi),
             Range::Between(lo, hi) => (4, lo, hi),
         };
-        (ranges[2 * p], ranges[2 * p + 1], ends[2 * p], ends[2 * p + 1]) = (range, predicate.channel as u64, lo, hi);
+        (ranges[2 * p], ranges[2 * p + 1], ends[2 * p], ends[2 * p + 1]) =
+            (range, predicate.channel as u64, lo, hi);
     }
     (ranges, ends)
 }

@@ -1,9 +1,9 @@
 //! Times the proved margin and verdict beside plain Rust of the same algorithm, checks that every result and every cell is equal, and prints the ratios.
 
+mod flat;
 #[path = "../rust/src/names.rs"]
 #[allow(dead_code)]
 mod names;
-mod flat;
 mod plain;
 mod timing;
 
@@ -49,7 +49,8 @@ fn proved(verdict: bool, f: &Flat, count: usize, card: &Card, work: &mut [i64]) 
     let call = call(f, count, card);
     let mut result = [0; 3];
     if verdict {
-        (names::verdict(&call, STEP, DRIFT, work, &mut result) == 0).then_some((result[1], result[2]))
+        (names::verdict(&call, STEP, DRIFT, work, &mut result) == 0)
+            .then_some((result[1], result[2]))
     } else {
         (names::margin(&call, work, &mut result) == 0).then_some((result[0], 0))
     }
@@ -146,7 +147,13 @@ impl Case {
     /// One round: the library and plain Rust in turn, several times. They must answer the same and leave the same cells.
     fn time(&mut self, predicates: &[Predicate; 16]) {
         let (nodes, f) = (&self.nodes[..], flat(&self.nodes, predicates));
-        let card = Card { predicates, channels: 2, scales: &self.scales, times: &self.times, values: &self.values };
+        let card = Card {
+            predicates,
+            channels: 2,
+            scales: &self.scales,
+            times: &self.times,
+            values: &self.values,
+        };
         let (n, verdict) = (nodes.len(), self.verdict);
         let mut a = vec![0; (1 + usize::from(verdict)) * n * card.times.len() + 3];
         let mut b = a.clone();
@@ -162,13 +169,22 @@ impl Case {
             // once: it is slow
             let (mut y, mut b) = (None, vec![0; a.len()]);
             self.afresh.push(seconds(|| y = afresh(verdict, nodes, &card, &mut b)));
-            assert!(y == plain(verdict, nodes, &card, &mut a) && a == b, "results of the plain loop differ: {}", self.name);
+            assert!(
+                y == plain(verdict, nodes, &card, &mut a) && a == b,
+                "results of the plain loop differ: {}",
+                self.name
+            );
         }
     }
 
     fn print(&self) {
         let (ours, theirs) = (best(&self.seconds.proved) * 1e3, best(&self.seconds.plain) * 1e3);
-        println!("{:<44} {:>5} rows: {ours:>9.3} ms, plain Rust {theirs:>9.3} ms, ratio {:.2}", self.name, self.times.len(), self.seconds.ratio());
+        println!(
+            "{:<44} {:>5} rows: {ours:>9.3} ms, plain Rust {theirs:>9.3} ms, ratio {:.2}",
+            self.name,
+            self.times.len(),
+            self.seconds.ratio()
+        );
     }
 }
 
@@ -185,14 +201,18 @@ fn one_operator(kind: u64, (lo, hi): (u64, u64)) -> (String, [Node; 3]) {
         _ => ("G", 1, 0),
     };
     let end = if hi == NO_END { "*".to_string() } else { hi.to_string() };
-    (format!("{letter}[{lo},{end}]p1"), [node(1, 0, 0, 0, 0), node(1, 1, 0, 0, 0), node(kind, left, right, lo, hi)])
+    (
+        format!("{letter}[{lo},{end}]p1"),
+        [node(1, 0, 0, 0, 0), node(1, 1, 0, 0, 0), node(kind, left, right, lo, hi)],
+    )
 }
 
 /// 64 nodes: four predicates, and over them every kind in turn with random children and short windows.
 fn mixed_table(random: &mut Random) -> Vec<Node> {
     let mut nodes: Vec<Node> = (0..4).map(|p| node(1, p, 0, 0, 0)).collect();
     for k in 4..64 {
-        let (kind, left, right) = (2 + k as u64 % 7, random.next(k as u64) as usize, random.next(k as u64) as usize);
+        let (kind, left, right) =
+            (2 + k as u64 % 7, random.next(k as u64) as usize, random.next(k as u64) as usize);
         let lo = random.next(20);
         nodes.push(match kind {
             2 => node(2, left, 0, 0, 0),
@@ -206,23 +226,34 @@ fn mixed_table(random: &mut Random) -> Vec<Node> {
 
 /// 64 nodes: a predicate, and over it by turns `F[0,*]` and `G[0,*]`. Each over the one before would be the same number everywhere from the third node on.
 fn endless_table() -> Vec<Node> {
-    (0..64).map(|k| if k == 0 { node(1, 0, 0, 0, 0) } else { node(7 + k % 2, 0, 0, 0, NO_END) }).collect()
+    (0..64)
+        .map(|k| if k == 0 { node(1, 0, 0, 0, 0) } else { node(7 + k % 2, 0, 0, 0, NO_END) })
+        .collect()
 }
 
-const UNTIL_WINDOWS: [(u64, u64); 5] = [(0, NO_END), (10, 600), (1_800, 3_600), (1_800, NO_END), (0, 0)];
+const UNTIL_WINDOWS: [(u64, u64); 5] =
+    [(0, NO_END), (10, 600), (1_800, 3_600), (1_800, NO_END), (0, 0)];
 const EVENTUALLY_WINDOWS: [(u64, u64); 4] = [(0, NO_END), (10, 600), (1_800, 3_600), (0, 0)];
 /// With 7 everywhere left is 5 and right is -1, so that until never settles and release at once; with 2 everywhere it is the other way round.
 const UNTIL_VALUES: [Values; 3] = [Values::Equal(7), Values::Equal(2), Values::Random];
-const EVENTUALLY_VALUES: [Values; 4] = [Values::Equal(7), Values::Rising, Values::Falling, Values::Random];
+const EVENTUALLY_VALUES: [Values; 4] =
+    [Values::Equal(7), Values::Rising, Values::Falling, Values::Random];
 
 /// One operator over 2,048 rows and then over 4,096.
-fn operator_cases(kinds: [u64; 2], windows: &[(u64, u64)], values: &[Values], random: &mut Random) -> Vec<Case> {
+fn operator_cases(
+    kinds: [u64; 2],
+    windows: &[(u64, u64)],
+    values: &[Values],
+    random: &mut Random,
+) -> Vec<Case> {
     let mut cases = Vec::new();
     for kind in kinds {
         for &window in windows {
             for &values in values {
                 let (what, nodes) = one_operator(kind, window);
-                cases.extend([2_048, 4_096].map(|rows| Case::new(&what, &nodes, rows, values, random)));
+                cases.extend(
+                    [2_048, 4_096].map(|rows| Case::new(&what, &nodes, rows, values, random)),
+                );
             }
         }
     }
@@ -236,16 +267,37 @@ fn table_cases(random: &mut Random) -> Vec<Case> {
     for verdict in [false, true] {
         let what = if verdict { "verdict" } else { "margin" };
         for rows in [2_048, 4_096] {
-            cases.push(Case { verdict, ..Case::new(&format!("64 mixed nodes, {what}"), &mixed, rows, Values::Random, random) });
+            cases.push(Case {
+                verdict,
+                ..Case::new(
+                    &format!("64 mixed nodes, {what}"),
+                    &mixed,
+                    rows,
+                    Values::Random,
+                    random,
+                )
+            });
         }
         // with random values the extremum up to the end would hardly change
-        let case = Case::new(&format!("64 endless nodes, {what}"), &endless, 4_096, Values::Narrowing, random);
+        let case = Case::new(
+            &format!("64 endless nodes, {what}"),
+            &endless,
+            4_096,
+            Values::Narrowing,
+            random,
+        );
         cases.push(Case { verdict, beside_afresh: true, ..case });
     }
     // behind the others, so that their random values are the same as without these
     for verdict in [false, true] {
         let what = if verdict { "verdict" } else { "margin" };
-        let case = Case::new(&format!("64 mixed nodes, two scales, {what}"), &mixed, 4_096, Values::Small, random);
+        let case = Case::new(
+            &format!("64 mixed nodes, two scales, {what}"),
+            &mixed,
+            4_096,
+            Values::Small,
+            random,
+        );
         cases.push(Case { verdict, scales: [7, 1_000], ..case });
     }
     cases
@@ -263,33 +315,56 @@ fn predicates() -> [Predicate; 16] {
 /// How many times as long 4,096 rows take as 2,048, by name.
 fn growths(cases: &[Case]) -> Vec<(&str, f64)> {
     let pairs = cases.chunks_exact(2);
-    pairs.map(|pair| (pair[0].name.as_str(), times_as_long(&pair[1].seconds.proved, &pair[0].seconds.proved))).collect()
+    pairs
+        .map(|pair| {
+            (pair[0].name.as_str(), times_as_long(&pair[1].seconds.proved, &pair[0].seconds.proved))
+        })
+        .collect()
 }
 
 fn print_growth_of_until(cases: &[Case]) {
     for (name, growth) in growths(cases) {
         if name.contains("[0,*]") && name.contains("all values") {
-            println!("{name}: 4096 rows take {growth:.2} times as long as 2048 (at most 6; 4.2 wanted)");
+            println!(
+                "{name}: 4096 rows take {growth:.2} times as long as 2048 (at most 6; 4.2 wanted)"
+            );
         }
     }
 }
 
 fn print_growth_of_eventually(cases: &[Case]) {
     let growths = growths(cases);
-    let largest = |of: &str| growths.iter().filter(|(name, _)| name.contains(of)).max_by(|a, b| a.1.total_cmp(&b.1)).expect("it is among the cases");
+    let largest = |of: &str| {
+        growths
+            .iter()
+            .filter(|(name, _)| name.contains(of))
+            .max_by(|a, b| a.1.total_cmp(&b.1))
+            .expect("it is among the cases")
+    };
     for window in ["[0,*]", "[10,600]", "[1800,3600]", "[0,0]"] {
         let (name, growth) = largest(window);
-        println!("F and G, {window}: 4096 rows take at most {growth:.2} times as long as 2048, {name}");
+        println!(
+            "F and G, {window}: 4096 rows take at most {growth:.2} times as long as 2048, {name}"
+        );
     }
     let (name, growth) = largest("");
-    println!("F and G: 4096 rows take at most {growth:.2} times as long as 2048 (2.4 wanted), {name}");
+    println!(
+        "F and G: 4096 rows take at most {growth:.2} times as long as 2048 (2.4 wanted), {name}"
+    );
 }
 
 fn print_tables(cases: &[Case]) {
     for c in cases.iter().filter(|c| c.times.len() == 4_096) {
-        print!("{}, 4096 rows: {:.2} times plain Rust (at most 1.1 wanted)", c.name, c.seconds.ratio());
+        print!(
+            "{}, 4096 rows: {:.2} times plain Rust (at most 1.1 wanted)",
+            c.name,
+            c.seconds.ratio()
+        );
         if c.beside_afresh {
-            print!("; the plain loop takes {:.0} times as long as the library (at least 50 wanted)", times_as_long(&c.afresh, &c.seconds.proved));
+            print!(
+                "; the plain loop takes {:.0} times as long as the library (at least 50 wanted)",
+                times_as_long(&c.afresh, &c.seconds.proved)
+            );
         }
         println!();
     }
@@ -311,6 +386,13 @@ fn main() {
     print_growth_of_until(&untils);
     print_growth_of_eventually(&eventuallies);
     print_tables(&tables);
-    let largest = all().max_by(|a, b| a.seconds.ratio().total_cmp(&b.seconds.ratio())).expect("there are cases");
-    println!("largest ratio to plain Rust: {:.2} (at most 1.1 wanted), {}, {} rows", largest.seconds.ratio(), largest.name, largest.times.len());
+    let largest = all()
+        .max_by(|a, b| a.seconds.ratio().total_cmp(&b.seconds.ratio()))
+        .expect("there are cases");
+    println!(
+        "largest ratio to plain Rust: {:.2} (at most 1.1 wanted), {}, {} rows",
+        largest.seconds.ratio(),
+        largest.name,
+        largest.times.len()
+    );
 }

@@ -28,7 +28,11 @@ pub struct Predicate {
 }
 
 fn clearance(a: i64, b: i64) -> i64 {
-    if a <= b { b - a + 1 } else { b - a }
+    if a <= b {
+        b - a + 1
+    } else {
+        b - a
+    }
 }
 
 /// In the scaled unit; free alone stays at TOP.
@@ -52,11 +56,19 @@ fn edge(times: &[u64], i: usize, at: usize, stop: Option<u64>) -> usize {
 }
 
 pub fn extreme(largest: bool, a: i64, b: i64) -> i64 {
-    if largest { a.max(b) } else { a.min(b) }
+    if largest {
+        a.max(b)
+    } else {
+        a.min(b)
+    }
 }
 
 pub fn nothing(largest: bool) -> i64 {
-    if largest { -TOP } else { TOP }
+    if largest {
+        -TOP
+    } else {
+        TOP
+    }
 }
 
 /// The extreme of a value and of those at some places.
@@ -145,7 +157,11 @@ fn temporal_row(before: &[i64], own: &mut [i64], times: &[u64], operator: Tempor
         end = edge(times, i, end, stop);
         let (low, high) = if left.is_some() { (i, first) } else { (first, end) };
         slide.advance(source, own, of_source, low, high);
-        own[i] = if left.is_some() { bound_at(source, r, largest, slide.value, first, end) } else { slide.value };
+        own[i] = if left.is_some() {
+            bound_at(source, r, largest, slide.value, first, end)
+        } else {
+            slide.value
+        };
     }
 }
 
@@ -159,7 +175,14 @@ fn temporal_row_afresh(before: &[i64], own: &mut [i64], times: &[u64], operator:
         first = edge(times, i, first, Some(from));
         end = edge(times, i, end, stop);
         own[i] = match left.map(row) {
-            Some(l) => bound_at(l, r, largest, joined(&l[i..first], !largest, nothing(!largest)), first, end),
+            Some(l) => bound_at(
+                l,
+                r,
+                largest,
+                joined(&l[i..first], !largest, nothing(!largest)),
+                first,
+                end,
+            ),
             None if first < end => joined(&r[first..end], largest, nothing(largest)),
             None => nothing(largest),
         };
@@ -223,7 +246,14 @@ struct Reading {
 }
 
 /// The row of any kind but "not", or of its negation, from the rows before it.
-fn node_row(card: &Card, node: &Node, reading: Reading, temporal: TemporalRow, before: &[i64], own: &mut [i64]) {
+fn node_row(
+    card: &Card,
+    node: &Node,
+    reading: Reading,
+    temporal: TemporalRow,
+    before: &[i64],
+    own: &mut [i64],
+) {
     let Reading { affirmed, window, left, right } = reading;
     let n = card.times.len();
     let row = |q: usize| &before[q * n..q * n + n];
@@ -245,8 +275,12 @@ fn node_row(card: &Card, node: &Node, reading: Reading, temporal: TemporalRow, b
                 own[i] = extreme(largest, l[i], r[i]);
             }
         }
-        5 | 6 => temporal(before, own, card.times, Temporal { largest, window, left: Some(left), right }),
-        _ => temporal(before, own, card.times, Temporal { largest, window, left: None, right: left }),
+        5 | 6 => {
+            temporal(before, own, card.times, Temporal { largest, window, left: Some(left), right })
+        }
+        _ => {
+            temporal(before, own, card.times, Temporal { largest, window, left: None, right: left })
+        }
     }
 }
 
@@ -281,9 +315,16 @@ fn margin_by(temporal: TemporalRow, nodes: &[Node], card: &Card, work: &mut [i64
         let (before, own) = work.split_at_mut(k * n);
         let own = &mut own[..n];
         if node.kind == 2 {
-            own.iter_mut().zip(&before[node.left * n..node.left * n + n]).for_each(|(o, &v)| *o = -v);
+            own.iter_mut()
+                .zip(&before[node.left * n..node.left * n + n])
+                .for_each(|(o, &v)| *o = -v);
         } else {
-            let reading = Reading { affirmed: true, window: window(node), left: node.left, right: node.right };
+            let reading = Reading {
+                affirmed: true,
+                window: window(node),
+                left: node.left,
+                right: node.right,
+            };
             node_row(card, node, reading, temporal, before, own);
         }
     }
@@ -295,20 +336,43 @@ fn sampled(card: &Card, step: u64, drift: u64) -> bool {
     (1..=1_000_000_000).contains(&step)
         && drift <= 1_000_000_000
         && card.times.windows(2).all(|t| t[1] - t[0] <= step)
-        && card.values.iter().zip(&card.values[card.channels..]).zip(card.scales.iter().cycle()).all(|((&a, &b), &scale)| near(a, b, scale))
+        && card
+            .values
+            .iter()
+            .zip(&card.values[card.channels..])
+            .zip(card.scales.iter().cycle())
+            .all(|((&a, &b), &scale)| near(a, b, scale))
 }
 
 /// Hold and fail.
-pub fn verdict(nodes: &[Node], card: &Card, step: u64, drift: u64, work: &mut [i64]) -> Option<(i64, i64)> {
+pub fn verdict(
+    nodes: &[Node],
+    card: &Card,
+    step: u64,
+    drift: u64,
+    work: &mut [i64],
+) -> Option<(i64, i64)> {
     verdict_by(temporal_row, nodes, card, (step, drift), work)
 }
 
 /// Hold and fail by the plain loop.
-pub fn verdict_afresh(nodes: &[Node], card: &Card, step: u64, drift: u64, work: &mut [i64]) -> Option<(i64, i64)> {
+pub fn verdict_afresh(
+    nodes: &[Node],
+    card: &Card,
+    step: u64,
+    drift: u64,
+    work: &mut [i64],
+) -> Option<(i64, i64)> {
     verdict_by(temporal_row_afresh, nodes, card, (step, drift), work)
 }
 
-fn verdict_by(temporal: TemporalRow, nodes: &[Node], card: &Card, (step, drift): (u64, u64), work: &mut [i64]) -> Option<(i64, i64)> {
+fn verdict_by(
+    temporal: TemporalRow,
+    nodes: &[Node],
+    card: &Card,
+    (step, drift): (u64, u64),
+    work: &mut [i64],
+) -> Option<(i64, i64)> {
     let n = card.times.len();
     if !accepted(nodes, card) || work.len() < 2 * nodes.len() * n || !sampled(card, step, drift) {
         return None;

@@ -31,7 +31,9 @@ fn number(text: &[u8], max: u64) -> Read<'_, u64> {
 
 fn signed(text: &[u8]) -> Read<'_, i64> {
     match text.strip_prefix(b"-") {
-        Some(text) => number(text, LARGEST_SIGNED).filter(|&(size, _)| size != 0).map(|(size, rest)| (-(size as i64), rest)),
+        Some(text) => number(text, LARGEST_SIGNED)
+            .filter(|&(size, _)| size != 0)
+            .map(|(size, rest)| (-(size as i64), rest)),
         None => number(text, LARGEST_SIGNED).map(|(size, rest)| (size as i64, rest)),
     }
 }
@@ -111,7 +113,8 @@ fn row(text: &[u8], channels: usize, mut each: impl FnMut(usize, i64)) -> Read<'
         return None;
     }
     for channel in 0..channels {
-        let (value, after) = signed(rest.strip_prefix(&[b' ', b'v', b'0' + channel as u8, b'='])?)?;
+        let (value, after) =
+            signed(rest.strip_prefix(&[b' ', b'v', b'0' + channel as u8, b'='])?)?;
         each(channel, value);
         rest = after;
     }
@@ -123,14 +126,23 @@ fn counted(mut text: &[u8], channels: usize) -> Option<(usize, usize)> {
     let (mut measured, mut filled) = (0, 0);
     while !text.is_empty() {
         let ((_, is_measured), rest) = row(text, channels, |_, _| ())?;
-        if is_measured { measured += 1 } else { filled += 1 }
+        if is_measured {
+            measured += 1
+        } else {
+            filled += 1
+        }
         text = rest;
     }
     Some((measured, filled))
 }
 
 /// Measured and filled rows, or the number of what refuses them. Nothing is stored under a refusal.
-pub fn rows(text: &[u8], channels: usize, times: &mut [u64], values: &mut [i64]) -> Result<(usize, usize), u64> {
+pub fn rows(
+    text: &[u8],
+    channels: usize,
+    times: &mut [u64],
+    values: &mut [i64],
+) -> Result<(usize, usize), u64> {
     if text.len() > LONGEST_TEXT {
         return Err(1);
     }
@@ -207,7 +219,11 @@ pub fn sheet(text: &[u8]) -> Result<Sheet<'_>, u64> {
     if (1..=8).contains(&sheet.channels) {
         counted(sheet.rows, sheet.channels).ok_or(1u64)?;
     }
-    if sheet.count > REQUIREMENTS { Err(12) } else { Ok(sheet) }
+    if sheet.count > REQUIREMENTS {
+        Err(12)
+    } else {
+        Ok(sheet)
+    }
 }
 
 /// Nodes while they are read: left, right, parent.
@@ -216,7 +232,13 @@ struct Builder {
 }
 
 impl Builder {
-    fn push(&mut self, kind: u64, left: usize, right: usize, (lo, hi): (u64, u64)) -> Option<usize> {
+    fn push(
+        &mut self,
+        kind: u64,
+        left: usize,
+        right: usize,
+        (lo, hi): (u64, u64),
+    ) -> Option<usize> {
         if self.nodes.len() == 64 {
             return None;
         }
@@ -315,7 +337,11 @@ fn refusal(nodes: &[Node], card: &Card, step: u64, drift: u64) -> u64 {
         (4, (1..=8).contains(&card.channels) && card.predicates.iter().all(kept)),
         (13, card.scales.iter().all(|scale| (1..=1_000).contains(scale))),
         (5, !card.times.is_empty()),
-        (6, card.times.windows(2).all(|t| t[0] < t[1]) && card.times.iter().all(|&t| t <= 2_000_000_000)),
+        (
+            6,
+            card.times.windows(2).all(|t| t[0] < t[1])
+                && card.times.iter().all(|&t| t <= 2_000_000_000),
+        ),
         (7, card.values.iter().all(|&v| fits(v))),
         (8, 2 * nodes.len() * card.times.len() <= CELLS),
         (9, (1..=1_000_000_000).contains(&step) && drift <= 1_000_000_000),
@@ -340,12 +366,19 @@ fn figures(text: &[u8], sheet: &Sheet, card: &Card, work: &mut Vec<i64>) -> Resu
         work.resize(cells, 0);
     }
     let judged = plain::verdict(&nodes, card, sheet.step, sheet.drift, work);
-    let Some((hold, fail)) = judged else { return Err(refusal(&nodes, card, sheet.step, sheet.drift)) };
+    let Some((hold, fail)) = judged else {
+        return Err(refusal(&nodes, card, sheet.step, sheet.drift));
+    };
     let margin = plain::margin(&nodes, card, work).ok_or(8u64)?;
     Ok(Figures { margin, hold, fail })
 }
 
-fn print(lines: &mut Vec<u8>, found: Result<Figures, u64>, (measured, filled): (usize, usize), drift: i64) {
+fn print(
+    lines: &mut Vec<u8>,
+    found: Result<Figures, u64>,
+    (measured, filled): (usize, usize),
+    drift: i64,
+) {
     match found {
         Err(number) => writeln!(lines, "refused={number}"),
         Ok(Figures { margin, hold, fail }) => {

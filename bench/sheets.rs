@@ -1,9 +1,9 @@
 //! Times the proved answer and the proved readers of sheets, requirements and rows beside plain Rust that does the same, checks that both give the same, and prints the ratios.
 
+mod flat;
 #[path = "../rust/src/names.rs"]
 #[allow(dead_code)]
 mod names;
-mod flat;
 #[allow(dead_code)]
 mod plain;
 mod plain_sheets;
@@ -17,11 +17,23 @@ use timing::{seconds, Random};
 /// Sheets, and what the answer to each begins with.
 const EXAMPLES: [(&str, &[u8], &str); 9] = [
     ("booster-turn-up", include_bytes!("../examples/booster-turn-up.sheet"), "rows="),
-    ("line-amplifier-gain-sag", include_bytes!("../examples/line-amplifier-gain-sag.sheet"), "rows="),
-    ("preamplifier-pump-ceiling", include_bytes!("../examples/preamplifier-pump-ceiling.sheet"), "rows="),
+    (
+        "line-amplifier-gain-sag",
+        include_bytes!("../examples/line-amplifier-gain-sag.sheet"),
+        "rows=",
+    ),
+    (
+        "preamplifier-pump-ceiling",
+        include_bytes!("../examples/preamplifier-pump-ceiling.sheet"),
+        "rows=",
+    ),
     ("collector-restart", include_bytes!("../examples/collector-restart.sheet"), "refused=10\n"),
     ("two-stage-turn-up", include_bytes!("../examples/two-stage-turn-up.sheet"), "rows="),
-    ("line-card-acceptance", include_bytes!("../examples/line-card-acceptance.sheet"), "req=3 rows="),
+    (
+        "line-card-acceptance",
+        include_bytes!("../examples/line-card-acceptance.sheet"),
+        "req=3 rows=",
+    ),
     ("standby-pump-start", include_bytes!("../examples/standby-pump-start.sheet"), "req=0 rows="),
     ("line-card-two-pumps", include_bytes!("../examples/line-card-two-pumps.sheet"), "req=0 rows="),
     ("booster-heat-run", include_bytes!("../examples/booster-heat-run.sheet"), "rows="),
@@ -29,7 +41,8 @@ const EXAMPLES: [(&str, &[u8], &str); 9] = [
 
 /// Requirements of one and two nodes, as many as 8,192 cells take over 2,048 rows. Their windows are short, so that reading the rows counts.
 const SIXTEEN: [&str; 16] = [
-    "p0", "T", "G[0,5]p0", "F[0,5]p1", "!p0", "G[1,8]p2", "F[3,10]p3", "!p4", "p5", "G[0,0]p6", "F[2,6]p7", "!T", "p8", "G[4,9]p9", "F[1,4]p0", "!p1",
+    "p0", "T", "G[0,5]p0", "F[0,5]p1", "!p0", "G[1,8]p2", "F[3,10]p3", "!p4", "p5", "G[0,0]p6",
+    "F[2,6]p7", "!T", "p8", "G[4,9]p9", "F[1,4]p0", "!p1",
 ];
 
 /// Unequal scales, for eight channels.
@@ -92,7 +105,9 @@ fn proved(what: What, text: &[u8], room: &mut Room) -> u64 {
             names::sheet(text, names::Sheet { numbers, places, scales, ranges, ends })
         }
         What::Requirement => names::requirement(text, &mut room.nodes, &mut room.count),
-        What::Rows(channels) => names::rows(text, channels as u64, &mut room.times, &mut room.values, &mut room.counts),
+        What::Rows(channels) => {
+            names::rows(text, channels as u64, &mut room.times, &mut room.values, &mut room.counts)
+        }
     }
 }
 
@@ -108,7 +123,10 @@ fn plain(what: What, text: &[u8], room: &mut PlainRoom) {
         What::Answer(_) => plain_sheets::answer(text, &mut room.lines),
         What::Sheet => drop(black_box(plain_sheets::sheet(text))),
         What::Requirement => drop(black_box(plain_sheets::requirement(text))),
-        What::Rows(channels) => drop(black_box(plain_sheets::rows(text, channels, &mut room.times, &mut room.values))),
+        What::Rows(channels) => {
+            let _ =
+                black_box(plain_sheets::rows(text, channels, &mut room.times, &mut room.values));
+        }
     }
 }
 
@@ -130,20 +148,28 @@ fn agree(what: What, text: &[u8], ours: &mut Room, theirs: &mut PlainRoom) -> bo
     match what {
         What::Answer(begins) => {
             plain_sheets::answer(text, &mut theirs.lines);
-            ours.lines[..number as usize] == theirs.lines[..] && theirs.lines.starts_with(begins.as_bytes())
+            ours.lines[..number as usize] == theirs.lines[..]
+                && theirs.lines.starts_with(begins.as_bytes())
         }
         What::Sheet => plain_sheets::sheet(text).is_ok_and(|sheet| {
             let (rows, count) = (text.len() - sheet.rows.len(), sheet.requirements().len());
-            let numbers = [sheet.channels as u64, sheet.step, sheet.drift, rows as u64, count as u64];
+            let numbers =
+                [sheet.channels as u64, sheet.step, sheet.drift, rows as u64, count as u64];
             let predicates = (ours.ranges, ours.ends) == flat_predicates(&sheet.predicates);
-            number == 0 && ours.numbers == numbers && ours.places == places(text, &sheet) && ours.scales == sheet.scales && predicates
+            number == 0
+                && ours.numbers == numbers
+                && ours.places == places(text, &sheet)
+                && ours.scales == sheet.scales
+                && predicates
         }),
-        What::Requirement => {
-            plain_sheets::requirement(text).is_some_and(|nodes| number == 0 && ours.count == [nodes.len() as u64] && ours.nodes == flat_nodes(&nodes))
-        }
+        What::Requirement => plain_sheets::requirement(text).is_some_and(|nodes| {
+            number == 0 && ours.count == [nodes.len() as u64] && ours.nodes == flat_nodes(&nodes)
+        }),
         What::Rows(channels) => {
             let counts = plain_sheets::rows(text, channels, &mut theirs.times, &mut theirs.values);
-            let same = counts.is_ok_and(|(measured, filled)| number == 0 && ours.counts == [measured as u64, filled as u64]);
+            let same = counts.is_ok_and(|(measured, filled)| {
+                number == 0 && ours.counts == [measured as u64, filled as u64]
+            });
             same && ours.times == theirs.times && ours.values == theirs.values
         }
     }
@@ -200,8 +226,21 @@ fn random_rows(random: &mut Random, rows: usize, scales: &[u64]) -> String {
 /// What stands before the rows: the scale of each channel, ten predicates, a drift that any two values obey where the scales are 1, and the requirement.
 fn front(scales: &[u64], requirement: &str) -> String {
     let channels = scales.len();
-    let scales: String = scales.iter().enumerate().map(|(channel, scale)| format!("c={channel} scale={scale}\n")).collect();
-    let predicates: String = (0..10).map(|p| format!("p={p} ch={} lo=-{}00000000 hi={}\n", p % channels, p + 1, ["*", "900000000"][p % 2])).collect();
+    let scales: String = scales
+        .iter()
+        .enumerate()
+        .map(|(channel, scale)| format!("c={channel} scale={scale}\n"))
+        .collect();
+    let predicates: String = (0..10)
+        .map(|p| {
+            format!(
+                "p={p} ch={} lo=-{}00000000 hi={}\n",
+                p % channels,
+                p + 1,
+                ["*", "900000000"][p % 2]
+            )
+        })
+        .collect();
     format!("chan={channels}\n{scales}{predicates}step=1\ndrift=1000000000\nreq={requirement}\n")
 }
 
@@ -225,9 +264,20 @@ fn cases() -> Vec<Case> {
         // from a seed of its own: the other cases have the same values as without it
         ("500 rows, 8 scales", &SCALES, random_rows(&mut Random(67890), 500, &SCALES)),
     ];
-    let broken = format!("{}{}t=9 src=m v0=-0\n", front(&[1], "G[0,600]p0"), random_rows(random, 1_000, &[1]));
+    let broken = format!(
+        "{}{}t=9 src=m v0=-0\n",
+        front(&[1], "G[0,600]p0"),
+        random_rows(random, 1_000, &[1])
+    );
     let mut cases = Vec::new();
-    let mut case = |what, name: &str, text: &[u8]| cases.push(Case { what, name: name.to_string(), text: text.to_vec(), best: (f64::MAX, f64::MAX) });
+    let mut case = |what, name: &str, text: &[u8]| {
+        cases.push(Case {
+            what,
+            name: name.to_string(),
+            text: text.to_vec(),
+            best: (f64::MAX, f64::MAX),
+        })
+    };
     for (name, text, begins) in EXAMPLES {
         case(What::Answer(begins), name, text);
     }
@@ -237,7 +287,11 @@ fn cases() -> Vec<Case> {
         case(What::Sheet, name, sheet.as_bytes());
         case(What::Rows(scales.len()), name, text.as_bytes());
     }
-    case(What::Answer("rows="), "63 nodes, 64 rows", (front(&[1], &broad()) + &random_rows(random, 64, &[1])).as_bytes());
+    case(
+        What::Answer("rows="),
+        "63 nodes, 64 rows",
+        (front(&[1], &broad()) + &random_rows(random, 64, &[1])).as_bytes(),
+    );
     case(What::Answer("refused=1\n"), "refused in the last row", broken.as_bytes());
     case(What::Requirement, "63 nodes", broad().as_bytes());
     case(What::Requirement, "32 enclosings", deep().as_bytes());
@@ -257,7 +311,12 @@ impl Sixteen {
     fn new() -> Sixteen {
         let rows = random_rows(&mut Random(54321), 2_048, &[1]);
         let text = (front(&[1], &SIXTEEN.join("\nreq=")) + &rows).into_bytes();
-        let together = Case { what: What::Answer("req="), name: "16 requirements, 2,048 rows".to_string(), text, best: (f64::MAX, f64::MAX) };
+        let together = Case {
+            what: What::Answer("req="),
+            name: "16 requirements, 2,048 rows".to_string(),
+            text,
+            best: (f64::MAX, f64::MAX),
+        };
         let apart = SIXTEEN.iter().map(|requirement| front(&[1], requirement) + &rows).collect();
         Sixteen { together, apart, best: (f64::MAX, f64::MAX) }
     }
@@ -265,19 +324,24 @@ impl Sixteen {
     fn time(&mut self, ours: &mut Room, theirs: &mut PlainRoom) {
         self.together.time(ours, theirs);
         let what = What::Answer("rows=");
-        assert!(self.apart.iter().all(|text| agree(what, text.as_bytes(), ours, theirs)), "results differ: a sheet of one requirement");
+        assert!(
+            self.apart.iter().all(|text| agree(what, text.as_bytes(), ours, theirs)),
+            "results differ: a sheet of one requirement"
+        );
         for _ in 0..9 {
             let texts = || self.apart.iter().map(|text| black_box(text.as_bytes()));
             self.best.0 = self.best.0.min(seconds(|| {
                 black_box(texts().map(|text| proved(what, text, ours)).sum::<u64>());
             }));
-            self.best.1 = self.best.1.min(seconds(|| texts().for_each(|text| plain(what, text, theirs))));
+            self.best.1 =
+                self.best.1.min(seconds(|| texts().for_each(|text| plain(what, text, theirs))));
         }
     }
 
     fn print(&self) {
         self.together.print();
-        let (ours, theirs) = (self.together.best.0 / self.best.0, self.together.best.1 / self.best.1);
+        let (ours, theirs) =
+            (self.together.best.0 / self.best.0, self.together.best.1 / self.best.1);
         println!("16 requirements in one sheet take {ours:.2} times as long as 16 sheets of one; in plain Rust {theirs:.2} times");
     }
 }
@@ -286,7 +350,8 @@ fn main() {
     let mut cases = cases();
     let mut sixteen = Sixteen::new();
     let mut ours = Room::new();
-    let mut theirs = PlainRoom { lines: Vec::new(), times: vec![0; 4_096], values: vec![0; 8 * 4_096] };
+    let mut theirs =
+        PlainRoom { lines: Vec::new(), times: vec![0; 4_096], values: vec![0; 8 * 4_096] };
     // rounds over all cases, so that a slow spell of the machine does not fall on one of them alone
     for _ in 0..5 {
         for case in &mut cases {
@@ -295,7 +360,13 @@ fn main() {
         sixteen.time(&mut ours, &mut theirs);
     }
     cases.iter().for_each(Case::print);
-    println!("largest ratio to plain Rust: {:.2}", cases.iter().map(Case::ratio).fold(0.0, f64::max));
+    println!(
+        "largest ratio to plain Rust: {:.2}",
+        cases.iter().map(Case::ratio).fold(0.0, f64::max)
+    );
     sixteen.print();
-    println!("ratio of 16 requirements to plain Rust: {:.2} (at most 1.1 wanted)", sixteen.together.ratio());
+    println!(
+        "ratio of 16 requirements to plain Rust: {:.2} (at most 1.1 wanted)",
+        sixteen.together.ratio()
+    );
 }

@@ -197,7 +197,9 @@ fn main() {
     print_growth("plain Rust", &growing, |case| &case.seconds.plain);
     print_worst(&cases);
     let large = all().filter(|case| case.count == 64 && case.due.is_ok());
-    let largest = large.max_by(|a, b| a.seconds.ratio().total_cmp(&b.seconds.ratio())).expect("there are cases");
+    let largest = large
+        .max_by(|a, b| a.seconds.ratio().total_cmp(&b.seconds.ratio()))
+        .expect("there are cases");
     let (ratio, name) = (largest.seconds.ratio(), &largest.name);
     println!("largest ratio of 64 nodes to plain Rust: {ratio:.2} (at most 1.5 wanted), {name}");
 }

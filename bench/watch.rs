@@ -406,6 +406,8 @@ fn main() {
     groups.iter().zip(&cases).for_each(|(group, cases)| print_growth(group, cases));
     print_together(&cases);
     let all = cases.iter().flatten().flatten();
-    let largest = all.max_by(|a, b| a.seconds.ratio().total_cmp(&b.seconds.ratio())).expect("there are cases");
+    let largest = all
+        .max_by(|a, b| a.seconds.ratio().total_cmp(&b.seconds.ratio()))
+        .expect("there are cases");
     println!("largest ratio to plain Rust: {:.2}, {}", largest.seconds.ratio(), largest.name);
 }
