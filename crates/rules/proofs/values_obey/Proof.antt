@@ -1,23 +1,25 @@
--- `ok` says of the values before place m whether every one is in range.
+-- Every value before place m is in range, so at the end all are; one that is out of range fails the test of the whole.
 -- Assumes nothing.
-use mathlib.Core.Path.{_≡_, ap, _∙_}
+use mathlib.Core.Path.{_≡_, ap, sym, _∙_}
+use mathlib.Core.Bool.{true}
 use Prim.Native.Nat.{_-_}
 use native.Mathlib.Omega.{arith}
 use borrow.Author.Needs.{needs}
+use borrow.Author.Tests.{not-true, not-false}
 use lib.ListN.{length, getD}
 use lib.IntN.{pos}
 use Rattle.numbers.proofs.Bits.{back-ok}
-use Rattle.lists.proofs.Below.{Tested, tested-none, tested-next, tested-all}
+use Rattle.lists.proofs.Below.{Tested, tested-none, tested-next, tested-all, same-test, all-at}
 use Rattle.predicates.specs.Predicates.{value-obeys}
 use Rattle.rules.specs.Recording.{values-obey}
 use Rattle.rules.proofs.values_obey.Statement.{statement}
 use Rattle.rules.proofs.values_obey.Tie as tie
 
 abbrev Inv-loop : tie.InvT-loop
-Inv-loop values ok₀ m₀ ok m = Tested (λ j. value-obeys (getD values j (pos 0))) (length values) m ok
+Inv-loop values m₀ m = Tested (λ j. value-obeys (getD values j (pos 0))) (length values) m true
 
 abbrev μ-loop : tie.MeasureT-loop
-μ-loop values ok₀ m₀ ok m = length values - m
+μ-loop values m₀ m = length values - m
 
 -- an element is read back as it stands
 obeys : (c : tie.After-value-obeys Inv-loop μ-loop) → c .value-obeys .result ≡ value-obeys (getD (c .before .before .before .before .args .values .now) (c .before .before .before .loop .m) (pos 0))
@@ -35,6 +37,12 @@ shared-slice-copy-out-value-obeys c = omega arith
 value-obeys-requires : tie.Need-value-obeys-requires Inv-loop μ-loop
 value-obeys-requires c κs = search needs
 
+returns : tie.Need-returns Inv-loop μ-loop
+unfolding values-obey
+returns c =
+    let l = c .before .before .before in
+    same-test (λ f. absurd f) (λ t. rw (sym (obeys (c .before)) ∙ not-true _ (c .if1 .taken)) at (all-at _ _ t (l .before .loop .m) (l .loop-test .taken)))
+
 add-m : tie.Need-add-m Inv-loop μ-loop
 add-m c = omega arith
 
@@ -42,11 +50,13 @@ loop-less : tie.Need-loop-less Inv-loop μ-loop
 loop-less c = omega arith
 
 loop-again : tie.Need-loop-again Inv-loop μ-loop
-loop-again c = tested-next (c .before .before .before .loop .inv) (c .before .before .loop-test .taken) (obeys c)
+loop-again c =
+    let l = c .before .before .before in
+    tested-next (l .before .loop .inv) (l .loop-test .taken) (sym (not-false _ (c .if1 .left)) ∙ obeys (c .before))
 
-returns : tie.Need-returns Inv-loop μ-loop
+returns-2 : tie.Need-returns-2 Inv-loop μ-loop
 unfolding values-obey
-returns c = tested-all (c .before .loop .inv) (c .loop-test .left)
+returns-2 c = tested-all (c .before .loop .inv) (c .loop-test .left)
 
 pub values-obey-spec : {M : Type 1} → statement M
 values-obey-spec =
@@ -58,7 +68,8 @@ values-obey-spec =
     mul-value-obeys
     shared-slice-copy-out-value-obeys
     value-obeys-requires
+    returns
     add-m
     loop-less
     loop-again
-    returns)
+    returns-2)
