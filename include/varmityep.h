@@ -39,7 +39,7 @@ extern "C" {
 /* text of a written requirement, in bytes: 64 nodes of at most 26, so none is longer */
 #define VARMITYEP_REQUIREMENT_BYTES 1664
 /* numbers and cells of a watch: shorter ones hold none, and are refused by 8 */
-#define VARMITYEP_WATCH_NUMBERS 366
+#define VARMITYEP_WATCH_NUMBERS 365
 #define VARMITYEP_WATCH_CELLS 224
 
 /* Limits of what is accepted. */

@@ -150,7 +150,7 @@ pub const LINES: usize = 2_688;
 /// No written requirement is longer, in bytes.
 pub const REQUIREMENT_BYTES: usize = 1_664;
 /// Numbers and cells that a watch stands in.
-pub const WATCH_NUMBERS: usize = 366;
+pub const WATCH_NUMBERS: usize = 365;
 pub const WATCH_CELLS: usize = 224;
 
 /// What a requirement's writing hands back: the refusal, 0 for none, and the length of the text.

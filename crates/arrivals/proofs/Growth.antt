@@ -2,7 +2,7 @@
 -- at sample 0 takes one place more: it joins right at the new sample with left's extremum before it, which is carried along.
 -- Assumes nothing.
 use mathlib.Core.Path.{_≡_, refl, sym, ap, ap₂, _∙_}
-use mathlib.Core.Bool.{cond}
+use mathlib.Core.Bool.{Bool, true, false, cond}
 use mathlib.Core.Logic.{inl, inr}
 use mathlib.Core.List.{List, [], _∷_, _++_}
 use Prim.Native.Nat.{ℕ, suc, _+_, _-_, _*_, _≤_, _<_}
@@ -13,12 +13,15 @@ use lib.ListN.{length, getD, length-append, List·getD-append}
 use lib.Seq.{getD-at}
 use lib.IntN.{ℤ, pos}
 use mir.Facts.{and-yes}
+use Rattle.numbers.specs.Order.{Within}
 use Rattle.logic.specs.declared.Window.{Window}
 use Rattle.logic.specs.Window.{inside}
 use Rattle.logic.specs.declared.Extremum.{Extremum}
 use Rattle.logic.specs.Formula.{dual, future, Formula, truth, atom, negation, junction, temporal}
 use Rattle.logic.specs.Reading.{Algebra, Places, offset, extremum, along, read, margins, margin-extreme, margin-nothing}
 use Rattle.logic.proofs.Steps.{same, extremum-step, along-cong}
+use Rattle.logic.proofs.Extremes.{extremes}
+use Rattle.logic.proofs.Beaten.{nothing-moves}
 use Rattle.recordings.specs.Card.{Card, rows, time, scale, value, predicate, samples}
 use Rattle.recordings.specs.Distance.{TOP, scaled-distance}
 use Rattle.recordings.specs.Margin.{distance-at, robustness, margin}
@@ -59,6 +62,19 @@ at-first c e w φ ψ =
 pub none-yet : (c : Card) (e : Extremum) (w : Window) (φ ψ : Formula ℕ) → rows c ≡ 0 → margin c (temporal future e w φ ψ) 0 ≡ margin-nothing TOP e
 unfolding along-to
 none-yet c e w φ ψ h = at-first c e w φ ψ ∙ rw h
+
+-- ---- at the last sample a temporal operator looks at that sample alone: it has right there, if its window starts now
+one-place : (e : Extremum) (here : Bool) (x : ℤ) → Within TOP x → margin-extreme e (margin-nothing TOP e) (cond here (margin-extreme (dual e) x (margin-nothing TOP (dual e))) (margin-nothing TOP e)) ≡ cond here x (margin-nothing TOP e)
+one-place e true x h = rw (nothing-moves TOP (dual e) x h) (extremes e .commutative (margin-nothing TOP e) x ∙ nothing-moves TOP e x h)
+one-place e false x h = extremes e .idempotent (margin-nothing TOP e)
+
+pub at-last : (c : Card) (e : Extremum) (w : Window) (φ ψ : Formula ℕ) (i : ℕ) → rows c ≡ suc i → Within TOP (margin c ψ i) → margin c (temporal future e w φ ψ) i ≡ cond (inside w 0) (margin c ψ i) (margin-nothing TOP e)
+unfolding robustness
+at-last c e w φ ψ i n h =
+    let one : rows c - i ≡ 1 = omega arith in
+    let z : i + 0 ≡ i = omega arith in
+    let now : time c i - time c i ≡ 0 = omega arith in
+    rw (one, z, now) (one-place e (inside w 0) (margin c ψ i) h)
 
 module _ (c : Card) (r : Row) where
   pub rows-next : rows (with-row c r) ≡ suc (rows c)

@@ -1,16 +1,17 @@
 -- Each test of the lists holds exactly where its sentence does, so a number is answered exactly when its condition applies and no earlier one does (`refused` and
 -- `first-is` of refusals).
 -- Assumes nothing.
-use mathlib.Core.Path.{_≡_, sym, _∙_}
-use mathlib.Core.Bool.{Bool, true, false, cond, _||_}
+use mathlib.Core.Path.{_≡_, sym, ap, _∙_}
+use mathlib.Core.Bool.{Bool, true, false, cond, _&&_, _||_}
 use mathlib.Core.Logic.{_⊎_, inl, inr}
 use mathlib.Core.List.{[], _∷_}
-use Prim.Native.Nat.{ℕ, _-_}
+use Prim.Native.Nat.{ℕ, suc, _-_, _≤_}
+use native.Mathlib.Omega.{arith}
 use lib.Dec.{T, leb, ltb, eqb, leb→le, le→leb, ltb→lt, lt→ltb, eqb→eq}
 use lib.ListN.{length}
 use borrow.Author.Tests.{eq-eqb, ne-eqb}
 use mir.Facts.{and-yes, yes-and, yes-eqb}
-use Rattle.lists.proofs.Below.{yes-or}
+use Rattle.lists.proofs.Below.{yes-or, same-test}
 use Rattle.recordings.specs.Card.{Card, rows, last-time}
 use Rattle.recordings.specs.Accepted.{LATEST}
 use Rattle.tables.specs.declared.Table.{Table}
@@ -22,6 +23,7 @@ use Rattle.rules.proofs.Recording.{values-are, values-pass}
 use Rattle.rules.proofs.Refusals.{table-exact}
 use Rattle.nesting.proofs.Nesting.{unnested-are, unnested-pass}
 use Rattle.arrivals.specs.Arrivals.{Row, nesting-check, making-checks, Later, follows, row-checks, offer-checks, some-row-check, asked-checks}
+use Rattle.arrivals.specs.Fits.{next-time, in-time}
 
 or-yes : (a b : Bool) → T (a || b) → T a ⊎ T b
 or-yes true b h = inl tt
@@ -55,12 +57,24 @@ module _ (c : Card) (t : Table) where
     pub offer-exact : AllExact (offer-checks c t r)
     offer-exact = exact-append (making-checks c t) (row-checks c r) making-exact (λ _. row-exact)
 
--- ---- a row's list, from what is known of the rows before it: whether there were any, and the time of the last
-module _ (c : Card) (r : Row) (taken : ℕ) {channels last : ℕ} (hc : channels ≡ c .setup .channels) (ht : eqb taken 0 ≡ eqb (rows c) 0) (hl : last ≡ last-time c) where
+-- ---- a row's list, from what is known of the rows before it: when the next one may come
+same-time : (none : Bool) (last t : ℕ) → in-time (cond none 0 (suc last)) t ≡ leb t LATEST && (none || ltb last t)
+same-time true last t = same-test (λ h. let b = and-yes (leb 0 t) (leb t LATEST) h in yes-and (leb t LATEST) true (b .1) tt) (λ h. let b = and-yes (leb t LATEST) true h in yes-and (leb 0 t) (leb t LATEST) (le→leb 0 t (omega arith)) (b .0))
+same-time false last t =
+    same-test
+    (λ h. let b = and-yes (leb (suc last) t) (leb t LATEST) h in yes-and (leb t LATEST) (ltb last t) (b .1) (lt→ltb last t (leb→le (suc last) t (b .0))))
+    (λ h. let b = and-yes (leb t LATEST) (ltb last t) h in yes-and (leb (suc last) t) (leb t LATEST) (le→leb (suc last) t (ltb→lt last t (b .1))) (b .0))
+
+pub time-early : (next t : ℕ) → T (in-time next t) → t ≤ LATEST
+time-early next t h = leb→le t LATEST (and-yes (leb next t) (leb t LATEST) h .1)
+
+module _ (c : Card) (r : Row) {channels : ℕ} (hc : channels ≡ c .setup .channels) where
   pub row-five : (length (r .values) ≡ channels → ⊥) → 5 ≡ first (row-checks c r)
   unfolding first
   row-five h = rw (ne-eqb (length (r .values)) (c .setup .channels) (λ e. h (e ∙ sym hc)))
 
-  pub row-later : length (r .values) ≡ channels → {a b : Bool} → a ≡ follows taken last (r .time) → b ≡ values-obey (r .values) → cond a (cond b 0 7) 6 ≡ first (row-checks c r)
+  pub row-later : {next : ℕ} → next ≡ next-time c → length (r .values) ≡ channels → {a b : Bool} → a ≡ in-time next (r .time) → b ≡ values-obey (r .values) → cond a (cond b 0 7) 6 ≡ first (row-checks c r)
   unfolding first
-  row-later h p q = rw (p, q, hl, ht, eq-eqb (length (r .values)) (c .setup .channels) (h ∙ hc))
+  row-later hn h {a} p q =
+      let e : a ≡ follows (rows c) (last-time c) (r .time) = p ∙ ap (λ (n : ℕ). in-time n (r .time)) hn ∙ same-time (eqb (rows c) 0) (last-time c) (r .time) in
+      rw (e, q, eq-eqb (length (r .values)) (c .setup .channels) (h ∙ hc))

@@ -29,7 +29,7 @@ use Rattle.flat.specs.Predicates.{range-number, lo-of, hi-of, pairs, ran
 use Rattle.flat.proofs.Padded.{same-nodes}
 
 -- a place of what was written, in a slice with room
-front-at : {X : Type 0} (new old : List X) (d : X) → length new ≤ length old → (j : ℕ) → j < length new → getD (written new old) j d ≡ getD new j d
+pub front-at : {X : Type 0} (new old : List X) (d : X) → length new ≤ length old → (j : ℕ) → j < length new → getD (written new old) j d ≡ getD new j d
 unfolding written
 front-at new old d r j h = rw (take-all (length old) new r) (List·getD-append new (drop (length new) old) d j h)
 

@@ -23,7 +23,7 @@ pub fn cell_at(rows: usize, work: &[i64], row: usize, i: usize) -> i64
 }
 
 // The first `rows` places of a part, all with one value.
-fn fill_same(rows: usize, value: i64, part: &mut [i64])
+pub fn fill_same(rows: usize, value: i64, part: &mut [i64])
     requires { ⌜ rows ≤ length (now part) ⌝ }
     ensures { λ _. ⌜ now (part .exit) ≡ fill 0 rows (λ i. value) (now (part .entry)) ⌝ }
 {

@@ -1,14 +1,16 @@
--- What one node is worked out from. A window without end reaches everywhere, another as far as its high end; true and a predicate have a value of their own.
+-- What one node is worked out from. A window without end reaches as far as a sample can be, another as far as its high end; true and a predicate have a value of their own.
 -- Assumes nothing.
 use mathlib.Core.Path.{_≡_, refl, sym, ap, _∙_, subst}
 use mathlib.Core.List.{List}
-use mathlib.Core.Bool.{Bool, true, false, cond, _&&_, _||_}
+use mathlib.Core.Bool.{Bool, true, false, cond, _&&_}
 use Prim.Native.Nat.{ℕ, zero, suc, _+_, _≤_, _<_}
 use native.Mathlib.Omega.{arith}
+use native.Mathlib.Decide.{ℕ-discrete}
 use lib.Dec.{T, leb, ltb, eqb, leb→le, le→leb, ltb→lt, lt→ltb}
 use lib.ListN.{length}
 use lib.IntN.{ℤ, pos, negsuc, negℤ}
 use lib.Signed.{leZ}
+use borrow.Author.Tests.{eq-eqb, ne-eqb, le-leb}
 use mir.Syntax.{w64}
 use mir.Val.{SFits}
 use Rattle.numbers.specs.Order.{Within}
@@ -30,12 +32,14 @@ use Rattle.watch_cells.specs.Taking.{point-of, IsDistance, LeafValue, Ti
 pub clash : {b : Bool} → b ≡ true → b ≡ false → ⊥
 clash e f = subst T (sym e ∙ f) tt
 
-reached : (no-end : Bool) (d hi : ℕ) → (no-end || leb d hi) ≡ reaches (cond no-end Endless (Before (suc hi))) d
-reached true d hi = refl
-reached false d hi = same-test (λ h. lt→ltb d (suc hi) (omega (arith, leb→le d hi h))) (λ h. le→leb d hi (omega (arith, ltb→lt d (suc hi) h)))
+reached : (d hi : ℕ) → d ≤ NO-END → leb d hi ≡ reaches (cond (eqb hi NO-END) Endless (Before (suc hi))) d
+reached d hi h = elim (ℕ-discrete hi NO-END) [
+  | yes e ↦ rw (eq-eqb hi NO-END e) (le-leb d hi (omega arith))
+  | no e ↦ rw (ne-eqb hi NO-END e) (same-test (λ h. lt→ltb d (suc hi) (omega (arith, leb→le d hi h))) (λ h. le→leb d hi (omega (arith, ltb→lt d (suc hi) h))))
+]
 
-pub inside-is : (n : Node) (d : ℕ) → (leb (n .lo) d && (eqb (n .hi) NO-END || leb d (n .hi))) ≡ inside (window n) d
-inside-is n d = ap (λ (b : Bool). leb (n .lo) d && b) (reached (eqb (n .hi) NO-END) d (n .hi))
+pub inside-is : (n : Node) (d : ℕ) → d ≤ NO-END → (leb (n .lo) d && leb d (n .hi)) ≡ inside (window n) d
+inside-is n d h = ap (λ (b : Bool). leb (n .lo) d && b) (reached d (n .hi) h)
 
 -- true and predicates come first
 pub leaf-point : (kind : ℕ) (leaf l r : ℤ) → kind ≤ 1 → leaf ≡ point-of (operator kind) leaf l r

@@ -8,18 +8,18 @@ use native.Mathlib.Omega.{arith}
 use lib.Dec.{T, eqb}
 use lib.ListN.{length}
 use lib.IntN.{ℤ, pos}
-use mir.Facts.{and-yes}
 use Rattle.numbers.specs.Order.{Within}
 use Rattle.logic.specs.declared.Window.{Window}
 use Rattle.logic.specs.Window.{inside}
 use Rattle.logic.specs.declared.Extremum.{Extremum}
 use Rattle.logic.specs.declared.Extremum.the-variants.{Largest, Smallest}
-use Rattle.logic.specs.Formula.{dual, future, Formula, truth, atom, negation, junction, temporal}
+use Rattle.logic.specs.Formula.{dual, future, Formula, temporal}
 use Rattle.logic.specs.Reading.{margin-extreme, margin-nothing}
 use Rattle.logic.proofs.Beaten.{nothing-moves}
 use Rattle.recordings.specs.Card.{Card, rows, time}
 use Rattle.recordings.specs.Distance.{TOP}
 use Rattle.recordings.specs.Margin.{distance-at, robustness, margin}
+use Rattle.recordings.specs.Accepted.{Measured}
 use Rattle.recordings.proofs.Margins.{margin-bounded}
 use Rattle.tables.specs.declared.Node.{Node}
 use Rattle.tables.specs.Kind.{Operator, constant, named, negated, unknown, joined, binary, unary, operator, operator-extremum, kinds, predicate-kind}
@@ -28,7 +28,8 @@ use Rattle.tables.specs.Rules.{is-child, left-use, right-use, timed}
 use Rattle.nesting.specs.Nesting.{momentary}
 use Rattle.arrivals.specs.Arrivals.{Row, with-row}
 use Rattle.arrivals.specs.Fits.{Fits, carried}
-use Rattle.arrivals.proofs.Growth.{none-yet, margin-next, carried-next}
+use Rattle.arrivals.proofs.Growth.{none-yet, at-last, rows-next, margin-next, carried-next}
+use Rattle.watch_cells.specs.State.{carried-by}
 use Rattle.watch_cells.specs.Taking.{point-of, margin-after}
 use Rattle.watch_cells.proofs.Points.{clash}
 
@@ -68,16 +69,6 @@ own-momentary zero n φ h = tt
 own-momentary (suc zero) n φ h = tt
 own-momentary (suc (suc k)) n φ h = absurd (omega arith)
 
--- no temporal operator stands in the operands either
-pub operands-momentary : (o : Operator) (n : Node) (φ : ℕ → Formula ℕ) → T (momentary (formula o n φ)) → (is-child (left-use o) ≡ true → T (momentary (φ (n .left)))) × (is-child (right-use o) ≡ true → T (momentary (φ (n .right))))
-operands-momentary constant n φ h = (λ e. untimed e refl, λ e. untimed e refl)
-operands-momentary named n φ h = (λ e. untimed e refl, λ e. untimed e refl)
-operands-momentary negated n φ h = (λ e. h, λ e. untimed e refl)
-operands-momentary unknown n φ h = (λ e. untimed e refl, λ e. untimed e refl)
-operands-momentary (joined e) n φ h = let b = and-yes (momentary (φ (n .left))) (momentary (φ (n .right))) h in (λ z. b .0, λ z. b .1)
-operands-momentary (binary x e) n φ h = absurd h
-operands-momentary (unary x e) n φ h = absurd h
-
 -- ---- with a window: two operands, or one, before which true or false stands
 abbrev pub left-of : Bool → Extremum → Node → (ℕ → Formula ℕ) → Formula ℕ
 left-of true e n φ = φ (n .left)
@@ -105,36 +96,21 @@ timed-left (joined e) h = untimed h refl
 timed-left (binary d e) h = refl
 timed-left (unary d e) h = refl
 
--- what a temporal operator carries, read off the requirement
-abbrev pub carried-by : Card → Formula ℕ → ℤ
-carried-by d truth = pos 0
-carried-by d (atom p) = pos 0
-carried-by d (negation φ) = pos 0
-carried-by d (junction e l r) = pos 0
-carried-by d (temporal x e w l r) = carried d e l
-
 -- true before until, false before release: what an extremum over nothing is
 pub unary-left-margin : (e : Extremum) (d : Card) (i : ℕ) → margin-nothing TOP (dual e) ≡ margin d (unary-left e) i
 unfolding robustness
 unary-left-margin Largest d i = refl
 unary-left-margin Smallest d i = refl
 
--- a node without window is no temporal operator
-abbrev temporal-on-top : Formula ℕ → Bool
-temporal-on-top truth = false
-temporal-on-top (atom p) = false
-temporal-on-top (negation φ) = false
-temporal-on-top (junction e l r) = false
-temporal-on-top (temporal d e w l r) = true
-
-pub never-temporal : (o : Operator) (n : Node) (φ : ℕ → Formula ℕ) → timed o ≡ false → (e : Extremum) (w : Window) (l r : Formula ℕ) → formula o n φ ≡ temporal future e w l r → ⊥
-never-temporal constant n φ u e w l r z = clash refl (ap temporal-on-top (sym z))
-never-temporal named n φ u e w l r z = clash refl (ap temporal-on-top (sym z))
-never-temporal negated n φ u e w l r z = clash refl (ap temporal-on-top (sym z))
-never-temporal unknown n φ u e w l r z = clash refl (ap temporal-on-top (sym z))
-never-temporal (joined x) n φ u e w l r z = clash refl (ap temporal-on-top (sym z))
-never-temporal (binary d x) n φ u e w l r z = clash refl u
-never-temporal (unary d x) n φ u e w l r z = clash refl u
+-- a node without window carries nothing
+pub carries-nothing : (o : Operator) (n : Node) (φ : ℕ → Formula ℕ) → timed o ≡ false → (d : Card) → carried-by d (formula o n φ) ≡ pos 0
+carries-nothing constant n φ u d = refl
+carries-nothing named n φ u d = refl
+carries-nothing negated n φ u d = refl
+carries-nothing unknown n φ u d = refl
+carries-nothing (joined e) n φ u d = refl
+carries-nothing (binary x e) n φ u d = untimed refl u
+carries-nothing (unary x e) n φ u d = untimed refl u
 
 taken-in : (e : Extremum) (here : Bool) (m x : ℤ) → Within TOP m → cond here (margin-extreme e m x) m ≡ margin-extreme e m (cond here x (margin-nothing TOP e))
 taken-in e true m x w = refl
@@ -148,6 +124,9 @@ module _ (c : Card) (r : Row) (ok : Fits c) (e : Extremum) (w : Window) (φ ψ :
 
   pub carried-taken : {x y : ℤ} → x ≡ carried c e φ → y ≡ margin (with-row c r) φ (rows c) → margin-extreme (dual e) x y ≡ carried (with-row c r) e φ
   carried-taken hx hy = rw (hx, hy) (sym (carried-next c r ok e w φ ψ hl hr))
+
+pub newest-taken : (c : Card) (r : Row) → Measured (with-row c r) → (e : Extremum) (w : Window) (φ ψ : Formula ℕ) {y : ℤ} → y ≡ margin (with-row c r) ψ (rows c) → cond (inside w 0) y (margin-nothing TOP e) ≡ margin (with-row c r) (temporal future e w φ ψ) (rows c)
+newest-taken c r ok e w φ ψ h = rw h (sym (at-last (with-row c r) e w φ ψ (rows c) (rows-next c r) (margin-bounded ok ψ (rows c))))
 
 -- before the first row both are extrema over nothing
 pub margin-before : (c : Card) (e : Extremum) (w : Window) (φ ψ : Formula ℕ) → rows c ≡ 0 → margin-nothing TOP e ≡ margin c (temporal future e w φ ψ) 0

@@ -1,17 +1,17 @@
 -- One node more has taken the row. Its own cells hold its values for the longer recording; no other node's cells, and nothing of the table and the setup, has moved.
 -- Assumes nothing.
 use mathlib.Core.Path.{_≡_, refl, sym, ap, ap₂, _∙_, subst}
-use mathlib.Core.Bool.{Bool, true, false}
-use mathlib.Core.Logic.{_⊎_, inl, inr}
+use mathlib.Core.Bool.{Bool, true, false, _&&_, cond}
+use mathlib.Core.Logic.{inl, inr}
 use mathlib.Core.List.{List}
 use Prim.Native.Nat.{ℕ, zero, suc, _+_, _-_, _*_, _≤_, _<_}
 use native.Mathlib.Omega.{arith}
 use native.Mathlib.Decide.{ℕ-discrete}
-use lib.Dec.{T, eqb, eqb→eq}
+use lib.Dec.{T, leb, ltb, eqb, eqb→eq}
 use lib.ListN.{length, getD, set, length-set}
-use lib.Seq.{getD-set-same, getD-set-other, set-getD}
+use lib.Seq.{getD-set-same, getD-set-other}
 use lib.IntN.{ℤ, pos}
-use borrow.Author.Tests.{eq-eqb, ne-eqb}
+use borrow.Author.Tests.{eq-eqb, ne-eqb, le-leb, lt-ltb}
 use Rattle.logic.specs.declared.Window.{Window}
 use Rattle.logic.specs.Window.{inside}
 use Rattle.logic.specs.declared.Extremum.{Extremum}
@@ -37,72 +37,115 @@ use Rattle.nesting.specs.Nesting.{momentary, unnested}
 use Rattle.nesting.proofs.Nesting.{inside-momentary}
 use Rattle.arrivals.specs.Arrivals.{Row, with-row}
 use Rattle.arrivals.specs.Fits.{carried}
-use Rattle.arrivals.proofs.Growth.{before, value-newest, newest-distance}
-use Rattle.watch_cells.specs.State.{HELD-AT, predicate-in, held-in, Planned, Held}
-use Rattle.watch_cells.specs.Taking.{point-of, Operand, PointAsks, IsPoint, LeafAsks, LeafValue, TimedAsks, so-far, margin-after, SameBeyond, Arriving, Done, Taking}
+use Rattle.arrivals.proofs.Growth.{rows-next, before, value-newest, newest-distance}
+use Rattle.watch_cells.specs.State.{HELD-AT, predicate-in, held-in, carried-by, part-of, cell-of, Planned, Held}
+use Rattle.watch_cells.specs.Taking.{point-of, Operand, PointAsks, IsPoint, LeafAsks, LeafValue, TimedAsks, so-far, margin-after, newest-of, SameBeyond, Arriving, Taking}
 use Rattle.watch_cells.proofs.Points.{leaf-point}
-use Rattle.watch_cells.proofs.Steps.{leaf-at, point-margin, own-untimed, own-momentary, operands-momentary, left-of, right-of, timed-form, timed-left, unary-left-margin, carried-by, never-temporal, margin-taken, carried-taken, margin-before, carried-before}
+use Rattle.watch_cells.proofs.Steps.{leaf-at, point-margin, own-untimed, own-momentary, left-of, right-of, timed-form, timed-left, unary-left-margin, carries-nothing, margin-taken, carried-taken, newest-taken, margin-before, carried-before}
 
--- ---- two of a node's three cells are written; the runs that they stand in do not meet
-module _ (cells : List ℤ) (k p q : ℕ) (x y : ℤ) where
-  abbrev pub stored : List ℤ
-  stored = set (set cells (HELD-AT + NODES * p + k) x) (HELD-AT + NODES * q + k) y
+-- ---- node k's own cells alone are written
+pub record Only (before after : List ℤ) (k : ℕ) : Type 0 where
+  pub long : length after ≡ length before
+  pub same : (i : ℕ) → ((part : ℕ) → part < 3 → i ≡ HELD-AT + NODES * part + k → ⊥) → getD after i (pos 0) ≡ getD before i (pos 0)
 
-  length-stored : length stored ≡ length cells
-  length-stored = rw (length-set, length-set)
+pub only-one : (cells : List ℤ) (k part : ℕ) (x : ℤ) → part < 3 → Only cells (set cells (HELD-AT + NODES * part + k) x) k
+only-one cells k part x h = record { long = rw length-set; same = λ i f. getD-set-other cells (HELD-AT + NODES * part + k) i x (pos 0) (f part h) }
 
-  elsewhere : (i : ℕ) → (i ≡ HELD-AT + NODES * p + k → ⊥) → (i ≡ HELD-AT + NODES * q + k → ⊥) → getD stored i (pos 0) ≡ getD cells i (pos 0)
-  elsewhere i a b = getD-set-other (set cells (HELD-AT + NODES * p + k) x) (HELD-AT + NODES * q + k) i y (pos 0) b ∙ getD-set-other cells (HELD-AT + NODES * p + k) i x (pos 0) a
+pub only-then : {a b c : List ℤ} {k : ℕ} → Only a b k → Only b c k → Only a c k
+only-then A B = record { long = B .long ∙ A .long; same = λ i f. B .same i f ∙ A .same i f }
 
-  pub first-stored : (p ≡ q → ⊥) → HELD-AT + NODES * p + k < length cells → held-in stored k p ≡ x
-  first-stored h l =
-      getD-set-other (set cells (HELD-AT + NODES * p + k) x) (HELD-AT + NODES * q + k) (HELD-AT + NODES * p + k) y (pos 0) (λ (e : HELD-AT + NODES * p + k ≡ HELD-AT + NODES * q + k). h (omega arith))
-      ∙ getD-set-same cells (HELD-AT + NODES * p + k) x (pos 0) l
+module _ (cells : List ℤ) (k part : ℕ) (x : ℤ) where
+  pub set-same : HELD-AT + NODES * part + k < length cells → held-in (set cells (HELD-AT + NODES * part + k) x) k part ≡ x
+  set-same l = getD-set-same cells (HELD-AT + NODES * part + k) x (pos 0) l
 
-  pub second-stored : HELD-AT + NODES * q + k < length cells → held-in stored k q ≡ y
-  second-stored l = getD-set-same (set cells (HELD-AT + NODES * p + k) x) (HELD-AT + NODES * q + k) y (pos 0) (rw length-set l)
+  pub set-other : (p : ℕ) → (p ≡ part → ⊥) → held-in (set cells (HELD-AT + NODES * part + k) x) k p ≡ held-in cells k p
+  set-other p h = getD-set-other cells (HELD-AT + NODES * part + k) (HELD-AT + NODES * p + k) x (pos 0) (λ (e : HELD-AT + NODES * p + k ≡ HELD-AT + NODES * part + k). h (omega arith))
 
-  -- where the second is what it was, one is written
-  pub one-stored : (p ≡ q → ⊥) → y ≡ held-in cells k q → stored ≡ set cells (HELD-AT + NODES * p + k) x
-  one-stored h e =
-      rw (e ∙ sym (getD-set-other cells (HELD-AT + NODES * p + k) (HELD-AT + NODES * q + k) x (pos 0) (λ (z : HELD-AT + NODES * q + k ≡ HELD-AT + NODES * p + k). h (omega arith))))
-      (set-getD (set cells (HELD-AT + NODES * p + k) x) (HELD-AT + NODES * q + k) (pos 0))
+-- the first two of its cells
+module _ (cells : List ℤ) (k : ℕ) (x y : ℤ) where
+  abbrev pub stored-two : List ℤ
+  stored-two = set (set cells (HELD-AT + NODES * 0 + k) x) (HELD-AT + NODES * 1 + k) y
 
-  module _ (hp : p < 3) (hq : q < 3) (hk : k < NODES) where
-    other-node : (j part : ℕ) → part < 3 → j < NODES → (j ≡ k → ⊥) → held-in stored j part ≡ held-in cells j part
-    other-node j part h b a =
-        elsewhere (HELD-AT + NODES * part + j) (λ (e : HELD-AT + NODES * part + j ≡ HELD-AT + NODES * p + k). a (omega arith)) (λ (e : HELD-AT + NODES * part + j ≡ HELD-AT + NODES * q + k). a (omega arith))
+  pub two-only : Only cells stored-two k
+  two-only = only-then (only-one cells k 0 x (omega arith)) (only-one (set cells (HELD-AT + NODES * 0 + k) x) k 1 y (omega arith))
 
-    end-kept : (i : ℕ) → i < 32 → getD stored i (pos 0) ≡ getD cells i (pos 0)
-    end-kept i h = elsewhere i (λ (e : i ≡ HELD-AT + NODES * p + k). omega arith) (λ (e : i ≡ HELD-AT + NODES * q + k). omega arith)
+  pub two-first : HELD-AT + NODES * 0 + k < length cells → held-in stored-two k 0 ≡ x
+  two-first l = set-other (set cells (HELD-AT + NODES * 0 + k) x) k 1 y 0 (λ (e : _≡_ {A = ℕ} 0 1). omega arith) ∙ set-same cells k 0 x l
 
-    pub beyond-kept : SameBeyond cells stored
-    beyond-kept = record { same = λ i l. elsewhere i (λ (e : i ≡ HELD-AT + NODES * p + k). omega arith) (λ (e : i ≡ HELD-AT + NODES * q + k). omega arith) }
+  pub two-second : HELD-AT + NODES * 1 + k < length cells → held-in stored-two k 1 ≡ y
+  two-second l = set-same (set cells (HELD-AT + NODES * 0 + k) x) k 1 y (rw length-set l)
 
-    held-kept : {t : Table} {d : Card} (j : ℕ) → j < NODES → (j ≡ k → ⊥) → Held cells t d j → Held stored t d j
-    held-kept j b a h = record { margin-is = other-node j 1 (omega arith) b a ∙ h .margin-is; carried-is = λ e w φ ψ z. other-node j 2 (omega arith) b a ∙ h .carried-is e w φ ψ z }
+  pub two-third : held-in stored-two k 2 ≡ held-in cells k 2
+  two-third = set-other (set cells (HELD-AT + NODES * 0 + k) x) k 1 y 2 (λ (e : _≡_ {A = ℕ} 2 1). omega arith) ∙ set-other cells k 0 x 2 (λ (e : _≡_ {A = ℕ} 2 0). omega arith)
 
-    planned-kept : {numbers : List ℕ} {t : Table} {s : Setup} → Planned numbers cells t s → Planned numbers stored t s
-    planned-kept {numbers} P = record {
-      long = P .long;
-      wide = rw length-stored (P .wide);
-      count = P .count;
-      channels = P .channels;
-      scales = P .scales;
-      predicates = λ i h. ap (λ (g : Range). record { channel = predicate-in numbers cells i .channel; range = g }) (ap₂ (range-from (getD numbers (14 + 2 * i) 0)) (end-kept (2 * i) (omega arith)) (end-kept (2 * i + 1) (omega arith))) ∙ P .predicates i h;
-      nodes = P .nodes;
-    }
+-- and all three
+module _ (cells : List ℤ) (k : ℕ) (x y z : ℤ) where
+  abbrev pub stored-three : List ℤ
+  stored-three = set (stored-two cells k x y) (HELD-AT + NODES * 2 + k) z
 
-    -- so the node's own values are all that is left to show
-    pub next : {numbers : List ℕ} {t : Table} {c : Card} {r : Row} → t .count ≤ NODES → Taking numbers cells t c r k → Done stored t c r k → Taking numbers stored t c r (suc k)
-    next {t = t} {c = c} {r = r} few K D = record {
-      planned = planned-kept (K .planned);
-      done = λ j h. elim (ℕ-discrete j k) [
-        | yes e ↦ subst (Done stored t c r) (sym e) D
-        | no e ↦ let b = K .done j (omega arith) in record { held = held-kept j (omega arith) e (b .held); newest = λ m. other-node j 0 (omega arith) (omega arith) e ∙ b .newest m }
-      ];
-      waiting = λ j a b some. held-kept j (omega arith) (λ (e : j ≡ k). omega arith) (K .waiting j (omega arith) b some);
-    }
+  pub three-only : Only cells stored-three k
+  three-only = only-then (two-only cells k x y) (only-one (stored-two cells k x y) k 2 z (omega arith))
+
+  pub three-first : HELD-AT + NODES * 0 + k < length cells → held-in stored-three k 0 ≡ x
+  three-first l = set-other (stored-two cells k x y) k 2 z 0 (λ (e : _≡_ {A = ℕ} 0 2). omega arith) ∙ two-first cells k x y l
+
+  pub three-second : HELD-AT + NODES * 1 + k < length cells → held-in stored-three k 1 ≡ y
+  three-second l = set-other (stored-two cells k x y) k 2 z 1 (λ (e : _≡_ {A = ℕ} 1 2). omega arith) ∙ two-second cells k x y l
+
+  pub three-third : HELD-AT + NODES * 2 + k < length cells → held-in stored-three k 2 ≡ z
+  three-third l = set-same (stored-two cells k x y) k 2 z (rw (length-set, length-set) l)
+
+module _ {cells after : List ℤ} {k : ℕ} (O : Only cells after k) (hk : k < NODES) where
+  other-node : (j part : ℕ) → part < 3 → j < NODES → (j ≡ k → ⊥) → held-in after j part ≡ held-in cells j part
+  other-node j part h b a = O .same (HELD-AT + NODES * part + j) (λ p l (e : HELD-AT + NODES * part + j ≡ HELD-AT + NODES * p + k). a (omega arith))
+
+  end-kept : (i : ℕ) → i < 32 → getD after i (pos 0) ≡ getD cells i (pos 0)
+  end-kept i h = O .same i (λ p l (e : i ≡ HELD-AT + NODES * p + k). omega arith)
+
+  pub beyond-kept : SameBeyond cells after
+  beyond-kept = record { same = λ i f. O .same i (λ p l (e : i ≡ HELD-AT + NODES * p + k). f (omega arith) (omega arith)) }
+
+  held-kept : {t : Table} {d : Card} (j : ℕ) → j < NODES → (j ≡ k → ⊥) → Held cells t d j → Held after t d j
+  held-kept j b a h = record { each = λ part p. other-node j part p b a ∙ h .each part p }
+
+  planned-kept : {numbers : List ℕ} {t : Table} {s : Setup} → Planned numbers cells t s → Planned numbers after t s
+  planned-kept {numbers} P = record {
+    long = P .long;
+    wide = rw (O .long) (P .wide);
+    count = P .count;
+    channels = P .channels;
+    scales = P .scales;
+    predicates = λ i h. ap (λ (g : Range). record { channel = predicate-in numbers cells i .channel; range = g }) (ap₂ (range-from (getD numbers (13 + 2 * i) 0)) (end-kept (2 * i) (omega arith)) (end-kept (2 * i + 1) (omega arith))) ∙ P .predicates i h;
+    nodes = P .nodes;
+  }
+
+  -- so the node's own values are all that is left to show
+  next : {numbers : List ℕ} {t : Table} {c : Card} {r : Row} → t .count ≤ NODES → k < t .count → Taking numbers cells t c r k → Held after t (with-row c r) k → Taking numbers after t c r (suc k)
+  next {t = t} {c = c} {r = r} few small K D = record {
+    planned = planned-kept (K .planned);
+    done = λ j h. elim (ℕ-discrete j k) [
+      | yes e ↦ subst (Held after t (with-row c r)) (sym e) D
+      | no e ↦ held-kept j (omega arith) e (K .done j (omega arith))
+    ];
+    waiting = λ j a b. held-kept j b (λ (e : j ≡ k). omega arith) (K .waiting j (omega arith) b);
+  }
+
+-- ---- what a node's cells are to hold
+pub cell-is : (t : Table) (d : Card) (part q : ℕ) → 1 ≤ rows d → q < t .count → cell-of t d part q ≡ part-of d (tree (t .nodes) q) part
+cell-is t d part q some few = rw (le-leb 1 (rows d) some, lt-ltb q (t .count) few)
+
+three-parts : {cells : List ℤ} {t : Table} {d : Card} {q : ℕ} → 1 ≤ rows d → q < t .count → held-in cells q 0 ≡ margin d (tree (t .nodes) q) (rows d - 1) → held-in cells q 1 ≡ margin d (tree (t .nodes) q) 0 → held-in cells q 2 ≡ carried-by d (tree (t .nodes) q) → Held cells t d q
+three-parts {cells} {t} {d} {q} some few a b e = record { each = go }
+  where
+    go : (part : ℕ) → part < 3 → held-in cells q part ≡ cell-of t d part q
+    go zero h = a ∙ sym (cell-is t d 0 q some few)
+    go (suc zero) h = b ∙ sym (cell-is t d 1 q some few)
+    go (suc (suc zero)) h = e ∙ sym (cell-is t d 2 q some few)
+    go (suc (suc (suc part))) h = absurd (omega arith)
+
+same-either : {X : Type 0} (b : Bool) (x : X) → cond b x x ≡ x
+same-either true x = refl
+same-either false x = refl
 
 -- ---- the row and the node
 earlier : (u : Use) (k x : ℕ) → is-child u ≡ true → Used u k x → x < k
@@ -134,8 +177,31 @@ module _ {numbers : List ℕ} {cells values : List ℤ} {opening : Bool} {since 
   tree-is : tree (t .nodes) k ≡ formula (operator (n .kind)) n φ
   tree-is = tree-node (t .nodes) k (A .ruled .each k small) ∙ ap (λ (m : Node). formula (operator (m .kind)) m φ) (sym n-is)
 
-  room : (part : ℕ) → part < 3 → HELD-AT + NODES * part + k < length cells
+  pub room : (part : ℕ) → part < 3 → HELD-AT + NODES * part + k < length cells
   room part h = omega (arith, K .planned .wide, few)
+
+  some-row : 1 ≤ rows longer
+  some-row = omega (arith, rows-next c r)
+
+  last-row : rows longer - 1 ≡ rows c
+  last-row = omega (arith, rows-next c r)
+
+  -- the longer recording's, of the nodes before; this recording's, of the node itself
+  done-part : (q : ℕ) → q < k → (part : ℕ) → part < 3 → held-in cells q part ≡ part-of longer (φ q) part
+  done-part q b part h = K .done q b .each part h ∙ cell-is t longer part q some-row (omega (arith, b, small))
+
+  waiting-part : (part : ℕ) → part < 3 → 1 ≤ rows c → held-in cells k part ≡ part-of c (φ k) part
+  waiting-part part h some = K .waiting k (omega arith) few .each part h ∙ cell-is t c part k some small
+
+  newest-held : (q : ℕ) → q < k → held-in cells q 0 ≡ margin longer (φ q) (rows c)
+  newest-held q b = done-part q b 0 (omega arith) ∙ ap (margin longer (φ q)) last-row
+
+  margin-held : (q : ℕ) → q < k → held-in cells q 1 ≡ margin longer (φ q) 0
+  margin-held q b = done-part q b 1 (omega arith)
+
+  -- so, given its own three, one node more has taken the row
+  taken : {after : List ℤ} → Only cells after k → held-in after k 0 ≡ margin longer (φ k) (rows c) → held-in after k 1 ≡ margin longer (φ k) 0 → held-in after k 2 ≡ carried-by longer (φ k) → Taking numbers after t c r (suc k)
+  taken O a b e = next O few (A .ruled .few-nodes) small K (three-parts some-row small (a ∙ ap (margin longer (φ k)) (sym last-row)) b e)
 
   -- what the node holds: `none` before the first row
   held-before : (none x : ℤ) (part : ℕ) → (rows c ≡ 0 → none ≡ x) → (1 ≤ rows c → held-in cells k part ≡ x) → so-far cells opening none k part ≡ x
@@ -180,18 +246,14 @@ module _ {numbers : List ℕ} {cells values : List ℤ} {opening : Bool} {since 
   ]
 
   -- operands, from a part of their cells that holds their margins at a sample of the longer recording
-  module _ (part i : ℕ) (values-held : (q : ℕ) → q < k → T (momentary (φ q)) ⊎ (part ≡ 1) → held-in cells q part ≡ margin longer (φ q) i) (inner : T (momentary (φ k)) ⊎ (part ≡ 1)) where
-    operand-of : (u : Use) (x : ℕ) → is-child u ≡ true → Used u k x → T (momentary (φ x)) ⊎ (part ≡ 1) → Operand cells k part x (margin longer (φ x) i)
-    operand-of u x e h m = let b = earlier u k x e h in record { earlier = b; value = values-held x b m }
-
-    within : T (momentary (φ k)) ⊎ (part ≡ 1) → (is-child (left-use (operator (n .kind))) ≡ true → T (momentary (φ (n .left))) ⊎ (part ≡ 1)) × (is-child (right-use (operator (n .kind))) ≡ true → T (momentary (φ (n .right))) ⊎ (part ≡ 1))
-    within (inl m) = let b = operands-momentary (operator (n .kind)) n φ (subst (λ (ψ : Formula ℕ). T (momentary ψ)) tree-is m) in (λ e. inl (b .0 e), λ e. inl (b .1 e))
-    within (inr m) = (λ e. inr m, λ e. inr m)
+  module _ (part i : ℕ) (values-held : (q : ℕ) → q < k → held-in cells q part ≡ margin longer (φ q) i) where
+    operand-of : (u : Use) (x : ℕ) → is-child u ≡ true → Used u k x → Operand cells k part x (margin longer (φ x) i)
+    operand-of u x e h = let b = earlier u k x e h in record { earlier = b; value = values-held x b }
 
     point-asks : PointAsks cells n k part (margin longer (φ (n .left)) i) (margin longer (φ (n .right)) i)
     point-asks = record {
-      left = λ e. operand-of (left-use (operator (n .kind))) (n .left) e (rules .left) (within inner .0 e);
-      right = λ e. operand-of (right-use (operator (n .kind))) (n .right) e (rules .right) (within inner .1 e);
+      left = λ e. operand-of (left-use (operator (n .kind))) (n .left) e (rules .left);
+      right = λ e. operand-of (right-use (operator (n .kind))) (n .right) e (rules .right);
       bounded = λ e. margin-bounded (A .fits-next .measured) (φ (n .left)) i;
     }
 
@@ -199,27 +261,19 @@ module _ {numbers : List ℕ} {cells values : List ℤ} {opening : Bool} {since 
   pointed : timed (operator (n .kind)) ≡ false → (i : ℕ) → point-of (operator (n .kind)) (leaf-at longer n i) (margin longer (φ (n .left)) i) (margin longer (φ (n .right)) i) ≡ margin longer (φ k) i
   pointed u i = sym (point-margin longer n φ i known u) ∙ ap (λ (ψ : Formula ℕ). margin longer ψ i) (sym tree-is)
 
-  newest-held : (q : ℕ) → q < k → T (momentary (φ q)) ⊎ (_≡_ {A = ℕ} 0 1) → held-in cells q 0 ≡ margin longer (φ q) (rows c)
-  newest-held q b (inl m) = K .done q b .newest m
-  newest-held q b (inr z) = absurd (omega arith)
+  -- a node without window carries nothing, so its third cell stays
+  module _ (u : timed (operator (n .kind)) ≡ false) {after : List ℤ} (O : Only cells after k) (kept : held-in after k 2 ≡ held-in cells k 2) where
+    nothing-carried : (d : Card) → carried-by d (φ k) ≡ pos 0
+    nothing-carried d = ap (carried-by d) tree-is ∙ carries-nothing (operator (n .kind)) n φ u d
 
-  margin-held : (q : ℕ) → q < k → T (momentary (φ q)) ⊎ (_≡_ {A = ℕ} 1 1) → held-in cells q 1 ≡ margin longer (φ q) 0
-  margin-held q b m = K .done q b .held .margin-is
+    third-empty : held-in cells k 2 ≡ pos 0
+    third-empty = K .waiting k (omega arith) few .each 2 (omega arith) ∙ rw (nothing-carried c) (same-either (leb 1 (rows c) && ltb k (t .count)) (pos 0))
 
-  -- the node's two cells
-  margins-taken : timed (operator (n .kind)) ≡ false → (x y : ℤ) → (T (momentary (φ k)) → x ≡ margin longer (φ k) (rows c)) → y ≡ margin longer (φ k) 0 → Taking numbers (stored cells k 0 1 x y) t c r (suc k)
-  margins-taken u x y hx hy =
-      next cells k 0 1 x y (omega arith) (omega arith) few (A .ruled .few-nodes) K
-      (record {
-        held = record {
-          margin-is = second-stored cells k 0 1 x y (room 1 (omega arith)) ∙ hy;
-          carried-is = λ e w a b z. absurd (never-temporal (operator (n .kind)) n φ u e w a b (sym tree-is ∙ z));
-        };
-        newest = λ m. first-stored cells k 0 1 x y (λ (e : _≡_ {A = ℕ} 0 1). omega arith) (room 0 (omega arith)) ∙ hx m;
-      })
+    untimed-taken : held-in after k 0 ≡ margin longer (φ k) (rows c) → held-in after k 1 ≡ margin longer (φ k) 0 → Taking numbers after t c r (suc k)
+    untimed-taken a b = taken O a b (kept ∙ third-empty ∙ sym (nothing-carried longer))
 
   -- a node without operands: at sample 0 it keeps what it had at the first row
-  module _ (leaf first : ℤ) (L : LeafValue numbers cells values n leaf) (f : first ≡ so-far cells opening leaf k 1) where
+  module _ (leaf : ℤ) (L : LeafValue numbers cells values n leaf) where
     no-window : timed (operator (n .kind)) ≡ false
     no-window = own-untimed (n .kind) (L .own)
 
@@ -229,18 +283,18 @@ module _ {numbers : List ℕ} {cells values : List ℤ} {opening : Bool} {since 
     own-newest : leaf ≡ margin longer (φ k) (rows c)
     own-newest = leaf-newest leaf L ∙ leaf-point (n .kind) _ _ _ (L .own) ∙ pointed no-window (rows c)
 
-    own-first : first ≡ margin longer (φ k) 0
-    own-first = f ∙ held-before leaf (margin longer (φ k) 0) 1 (λ z. rw z at own-newest) (λ some. K .waiting k (omega arith) small some .margin-is ∙ sym (before c r (A .fits) (φ k) inner 0 some))
+    own-first : so-far cells opening leaf k 1 ≡ margin longer (φ k) 0
+    own-first = held-before leaf (margin longer (φ k) 0) 1 (λ z. rw z at own-newest) (λ some. waiting-part 1 (omega arith) some ∙ sym (before c r (A .fits) (φ k) inner 0 some))
 
-    pub leaf-taken : Taking numbers (stored cells k 0 1 leaf first) t c r (suc k)
-    leaf-taken = margins-taken no-window leaf first (λ m. own-newest) own-first
+    pub leaf-taken : {after : List ℤ} → Only cells after k → held-in after k 0 ≡ leaf → held-in after k 1 ≡ so-far cells opening leaf k 1 → held-in after k 2 ≡ held-in cells k 2 → Taking numbers after t c r (suc k)
+    leaf-taken O a b kept = untimed-taken no-window O kept (a ∙ own-newest) (b ∙ own-first)
 
   -- "not", "and", "or"
-  pub point-taken : (x y : ℤ) → IsPoint cells n k 0 x → IsPoint cells n k 1 y → Taking numbers (stored cells k 0 1 x y) t c r (suc k)
-  point-taken x y hx hy =
-      margins-taken (hx .untimed) x y
-      (λ m. hx .value (leaf-at longer n (rows c)) _ _ (point-asks 0 (rows c) newest-held (inl m)) ∙ pointed (hx .untimed) (rows c))
-      (hy .value (leaf-at longer n 0) _ _ (point-asks 1 0 margin-held (inr refl)) ∙ pointed (hx .untimed) 0)
+  pub point-taken : (x y : ℤ) → IsPoint cells n k 0 x → IsPoint cells n k 1 y → {after : List ℤ} → Only cells after k → held-in after k 0 ≡ x → held-in after k 1 ≡ y → held-in after k 2 ≡ held-in cells k 2 → Taking numbers after t c r (suc k)
+  point-taken x y hx hy O a b kept =
+      untimed-taken (hx .untimed) O kept
+      (a ∙ hx .value (leaf-at longer n (rows c)) _ _ (point-asks 0 (rows c) newest-held) ∙ pointed (hx .untimed) (rows c))
+      (b ∙ hy .value (leaf-at longer n 0) _ _ (point-asks 1 0 margin-held) ∙ pointed (hx .untimed) 0)
 
   -- ---- with a window
   module _ {e : Extremum} {lv rv : ℤ} (a : TimedAsks cells n e lv rv) where
@@ -266,38 +320,33 @@ module _ {numbers : List ℕ} {cells values : List ℤ} {opening : Bool} {since 
     right-earlier z = earlier (right-use (operator (n .kind))) k (n .right) z (rules .right)
 
     -- the operands at the new sample
-    left-value : (b : Bool) → two ≡ b → T (momentary (left-of b e n φ)) → lv ≡ margin longer (left-of b e n φ) (rows c)
-    left-value true z m = a .left-two z (omega (arith, left-earlier, few)) ∙ newest-held (n .left) left-earlier (inl m)
-    left-value false z m = a .left-one z ∙ unary-left-margin e longer (rows c)
+    left-value : (b : Bool) → two ≡ b → lv ≡ margin longer (left-of b e n φ) (rows c)
+    left-value true z = a .left-two z (omega (arith, left-earlier, few)) ∙ newest-held (n .left) left-earlier
+    left-value false z = a .left-one z ∙ unary-left-margin e longer (rows c)
 
-    right-value : (b : Bool) → two ≡ b → T (momentary (right-of b n φ)) → rv ≡ margin longer (right-of b n φ) (rows c)
-    right-value true z m = a .right-two z (omega (arith, right-earlier z, few)) ∙ newest-held (n .right) (right-earlier z) (inl m)
-    right-value false z m = a .right-one z (omega (arith, left-earlier, few)) ∙ newest-held (n .left) left-earlier (inl m)
+    right-value : (b : Bool) → two ≡ b → rv ≡ margin longer (right-of b n φ) (rows c)
+    right-value true z = a .right-two z (omega (arith, right-earlier z, few)) ∙ newest-held (n .right) (right-earlier z)
+    right-value false z = a .right-one z (omega (arith, left-earlier, few)) ∙ newest-held (n .left) left-earlier
 
     module _ (m x : ℤ) (here : Bool) (hm : m ≡ so-far cells opening (margin-nothing TOP e) k 1) (hx : x ≡ so-far cells opening (margin-nothing TOP (dual e)) k 2) (hh : here ≡ inside (window n) since) where
       margin-was : m ≡ margin c (temporal future e (window n) left right) 0
-      margin-was = hm ∙ held-before (margin-nothing TOP e) _ 1 (margin-before c e (window n) left right) (λ some. K .waiting k (omega arith) small some .margin-is ∙ ap (λ (ψ : Formula ℕ). margin c ψ 0) temporal-is)
+      margin-was = hm ∙ held-before (margin-nothing TOP e) _ 1 (margin-before c e (window n) left right) (λ some. waiting-part 1 (omega arith) some ∙ ap (λ (ψ : Formula ℕ). margin c ψ 0) temporal-is)
 
       carried-was : x ≡ carried c e left
-      carried-was = hx ∙ held-before (margin-nothing TOP (dual e)) _ 2 (carried-before c e left) (λ some. K .waiting k (omega arith) small some .carried-is e (window n) left right temporal-is)
+      carried-was = hx ∙ held-before (margin-nothing TOP (dual e)) _ 2 (carried-before c e left) (λ some. waiting-part 2 (omega arith) some ∙ ap (carried-by c) temporal-is)
+
+      newest-now : newest-of n e rv ≡ margin longer (φ k) (rows c)
+      newest-now = newest-taken c r (A .fits-next .measured) e (window n) left right (right-value two refl) ∙ ap (λ (ψ : Formula ℕ). margin longer ψ (rows c)) (sym temporal-is)
 
       margin-now : margin-after e m x rv here ≡ margin longer (φ k) 0
       margin-now =
-          margin-taken c r (A .fits) e (window n) left right (both-momentary .0) (both-momentary .1) margin-was carried-was (right-value two refl (both-momentary .1)) (hh ∙ ap (inside (window n)) (A .since-is))
+          margin-taken c r (A .fits) e (window n) left right (both-momentary .0) (both-momentary .1) margin-was carried-was (right-value two refl) (hh ∙ ap (inside (window n)) (A .since-is))
           ∙ ap (λ (ψ : Formula ℕ). margin longer ψ 0) (sym temporal-is)
 
-      carried-now : (f : Extremum) (w : Window) (a b : Formula ℕ) → φ k ≡ temporal future f w a b → margin-extreme (dual e) x lv ≡ carried longer f a
-      carried-now f w a b z =
-          carried-taken c r (A .fits) e (window n) left right (both-momentary .0) (both-momentary .1) carried-was (left-value two refl (both-momentary .0))
-          ∙ ap (carried-by longer) (sym temporal-is ∙ z)
+      carried-now : margin-extreme (dual e) x lv ≡ carried-by longer (φ k)
+      carried-now =
+          carried-taken c r (A .fits) e (window n) left right (both-momentary .0) (both-momentary .1) carried-was (left-value two refl)
+          ∙ ap (carried-by longer) (sym temporal-is)
 
-      pub timed-taken : Taking numbers (stored cells k 1 2 (margin-after e m x rv here) (margin-extreme (dual e) x lv)) t c r (suc k)
-      timed-taken =
-          next cells k 1 2 _ _ (omega arith) (omega arith) few (A .ruled .few-nodes) K
-          (record {
-            held = record {
-              margin-is = first-stored cells k 1 2 _ _ (λ (z : _≡_ {A = ℕ} 1 2). omega arith) (room 1 (omega arith)) ∙ margin-now;
-              carried-is = λ f w a b z. second-stored cells k 1 2 (margin-after e m x rv here) _ (room 2 (omega arith)) ∙ carried-now f w a b z;
-            };
-            newest = λ z. absurd (subst (λ (ψ : Formula ℕ). T (momentary ψ)) temporal-is z);
-          })
+      pub timed-taken : {after : List ℤ} → Only cells after k → held-in after k 0 ≡ newest-of n e rv → held-in after k 1 ≡ margin-after e m x rv here → held-in after k 2 ≡ margin-extreme (dual e) x lv → Taking numbers after t c r (suc k)
+      timed-taken O p q s = taken O (p ∙ newest-now) (q ∙ margin-now) (s ∙ carried-now)

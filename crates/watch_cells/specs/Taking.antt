@@ -4,28 +4,28 @@ use mathlib.Core.Path.{_≡_}
 use mathlib.Core.Bool.{Bool, true, false, cond}
 use mathlib.Core.List.{List}
 use Prim.Native.Nat.{ℕ, suc, _+_, _-_, _≤_, _<_}
-use lib.Dec.{T, eqb}
+use lib.Dec.{eqb}
 use lib.ListN.{length, getD}
 use lib.IntN.{ℤ, pos, negℤ}
 use Rattle.numbers.specs.Order.{Within}
+use Rattle.logic.specs.Window.{inside}
 use Rattle.logic.specs.declared.Extremum.{Extremum}
 use Rattle.logic.specs.Formula.{dual}
 use Rattle.logic.specs.Reading.{margin-extreme, margin-nothing}
 use Rattle.recordings.specs.declared.Predicate.{Predicate}
 use Rattle.recordings.specs.Card.{Card, rows, time}
 use Rattle.recordings.specs.Distance.{TOP, scaled-distance}
-use Rattle.recordings.specs.Margin.{margin}
 use Rattle.recordings.specs.Accepted.{MOST-CHANNELS, ScaleInRange, InRange, Proper}
 use Rattle.tables.specs.declared.Node.{Node}
 use Rattle.tables.specs.declared.Table.{Table}
 use Rattle.tables.specs.Kind.{Operator, constant, named, negated, unknown, joined, binary, unary, operator, operator-extremum, predicate-kind}
-use Rattle.tables.specs.Tree.{NODES, tree}
+use Rattle.tables.specs.Tree.{NODES, window}
 use Rattle.tables.specs.Rules.{is-child, left-use, right-use, timed, TableRules}
 use Rattle.predicates.specs.Predicates.{Named}
-use Rattle.nesting.specs.Nesting.{momentary, Unnested}
+use Rattle.nesting.specs.Nesting.{Unnested}
 use Rattle.arrivals.specs.Arrivals.{Row, with-row}
 use Rattle.arrivals.specs.Fits.{Fits}
-use Rattle.watch_cells.specs.State.{CELLS, SCALES-AT, predicate-in, held-in, Planned, Held}
+use Rattle.watch_cells.specs.State.{CELLS, SCALES-AT, HELD-AT, predicate-in, held-in, Planned, Held}
 
 -- a node without window at one place, from its operands' values there; `leaf` is its own where it has none
 abbrev pub point-of : Operator → ℤ → ℤ → ℤ → ℤ
@@ -91,9 +91,13 @@ so-far cells opening none k part = cond opening none (held-in cells k part)
 abbrev pub margin-after : Extremum → ℤ → ℤ → ℤ → Bool → ℤ
 margin-after e margin carried r here = cond here (margin-extreme e margin (margin-extreme (dual e) r carried)) margin
 
--- places behind the nodes' cells keep their contents, whatever the slices hold
+-- a temporal operator at the row itself, behind which there is no sample yet: right there, if its window starts now
+abbrev pub newest-of : Node → Extremum → ℤ → ℤ
+newest-of n e r = cond (inside (window n) 0) r (margin-nothing TOP e)
+
+-- places outside the nodes' cells keep their contents, whatever the slices hold
 pub record SameBeyond (before after : List ℤ) : Type 0 where
-  pub same : (i : ℕ) → CELLS ≤ i → getD after i (pos 0) ≡ getD before i (pos 0)
+  pub same : (i : ℕ) → (HELD-AT ≤ i → i < CELLS → ⊥) → getD after i (pos 0) ≡ getD before i (pos 0)
 
 -- ---- a row that was accepted arrives
 pub record Arriving (values : List ℤ) (opening : Bool) (since : ℕ) (t : Table) (c : Card) (r : Row) : Type 0 where
@@ -107,16 +111,11 @@ pub record Arriving (values : List ℤ) (opening : Bool) (since : ℕ) (t : Tabl
   pub opening-is : opening ≡ eqb (rows c) 0
   pub since-is : since ≡ r .time - time (with-row c r) 0
 
--- node q has taken it
-pub record Done (cells : List ℤ) (t : Table) (c : Card) (r : Row) (q : ℕ) : Type 0 where
-  pub held : Held cells t (with-row c r) q
-  pub newest : T (momentary (tree (t .nodes) q)) → held-in cells q 0 ≡ margin (with-row c r) (tree (t .nodes) q) (rows c)
-
--- the first k nodes have; the others hold what they held before
+-- the first k nodes have taken it; the others hold what they held before
 pub record Taking (numbers : List ℕ) (cells : List ℤ) (t : Table) (c : Card) (r : Row) (k : ℕ) : Type 0 where
   pub planned : Planned numbers cells t (c .setup)
-  pub done : (q : ℕ) → q < k → Done cells t c r q
-  pub waiting : (q : ℕ) → k ≤ q → q < t .count → 1 ≤ rows c → Held cells t c q
+  pub done : (q : ℕ) → q < k → Held cells t (with-row c r) q
+  pub waiting : (q : ℕ) → k ≤ q → q < NODES → Held cells t c q
 
 -- node k takes the row
 abbrev pub NodeTakes : List ℕ → List ℤ → List ℤ → List ℤ → Bool → ℕ → ℕ → Type 0

@@ -13,29 +13,36 @@ ghost use Rattle.recordings.specs.Card.{Card};
 ghost use Rattle.recordings.specs.Accepted.{Values};
 ghost use Rattle.tables.specs.declared.Table.{Table};
 ghost use Rattle.tables.specs.Kind.{operator, negated, joined, binary, unary};
-ghost use Rattle.tables.specs.Tree.{NODES, window};
+ghost use Rattle.tables.specs.Tree.{NODES, NO-END, window};
 ghost use Rattle.arrivals.specs.Arrivals.{Row};
 ghost use Rattle.watch_cells.specs.State.{NUMBERS, CELLS, node-in, held-in};
-ghost use Rattle.watch_cells.specs.Taking.{IsDistance, LeafValue, IsPoint, TimedAsks, so-far, margin-after, SameBeyond, Arriving, Taking, NodeTakes};
+ghost use Rattle.watch_cells.specs.Taking.{IsDistance, LeafValue, IsPoint, TimedAsks, so-far, margin-after, newest-of, SameBeyond, Arriving, Taking, NodeTakes};
 use logic::Extremum;
 use recordings::TOP;
 use tables::Node;
 
 // Where the scales, the predicates' numbers and the nodes begin, and the nodes' cells.
-pub const SCALES_AT: usize = 6;
+pub const SCALES_AT: usize = 5;
 
-pub const RANGES_AT: usize = 14;
+pub const RANGES_AT: usize = 13;
 
-pub const NODES_AT: usize = 46;
+pub const NODES_AT: usize = 45;
 
 pub const HELD_AT: usize = 32;
 
-// A node's cells, one in each of three runs: its value at the newest row, its margin at sample 0 so far, and what it carries.
+// A node's cells, one in each of three runs: its margin at the newest row, its margin at sample 0, and what it carries.
 const NEWEST: usize = 0;
 
 const MARGIN: usize = 1;
 
 const CARRIED: usize = 2;
+
+fn kind_of(numbers: &[u64], k: usize) -> u64
+    requires { ⌜ (NUMBERS ≤ length (now numbers)) × (k < NODES) ⌝ }
+    ensures { λ r. ⌜ r ≡ node-in (now (numbers .entry)) k .kind ⌝ }
+{
+    numbers[NODES_AT + 5 * k]
+}
 
 fn node_of(numbers: &[u64], k: usize) -> Node
     requires { ⌜ (NUMBERS ≤ length (now numbers)) × (k < NODES) ⌝ }
@@ -111,11 +118,12 @@ fn junction_at(cells: &[i64], node: Node, e: Extremum, part: usize) -> i64
     points::extreme(e, a, b)
 }
 
-// Whether a sample so many seconds after the first is in the window of the first.
+// Whether a sample so many seconds after the first is in the window of the first. A window without end needs no test: no sample is so late.
 fn in_window(node: Node, since: u64) -> bool
+    requires { ⌜ since ≤ NO-END ⌝ }
     ensures { λ r. ⌜ r ≡ inside (window node) since ⌝ }
 {
-    (node.lo <= since) & ((node.hi == tables::NO_END) | (since <= node.hi))
+    (node.lo <= since) & (since <= node.hi)
 }
 
 // What a node holds before the row; `none` before the first.
@@ -138,6 +146,17 @@ fn margin_after(e: Extremum, margin: i64, carried: i64, right: i64, here: bool) 
         points::extreme(e, margin, points::extreme(logic::dual(e), right, carried))
     } else {
         margin
+    }
+}
+
+// A temporal operator at the row itself, behind which there is no sample yet: right there, if its window starts now.
+fn newest_of(node: Node, e: Extremum, right: i64) -> i64
+    ensures { λ r. ⌜ r ≡ newest-of node e right ⌝ }
+{
+    if in_window(node, 0) {
+        right
+    } else {
+        points::over_nothing(e)
     }
 }
 
@@ -196,7 +215,7 @@ fn take_timed(
     since: u64,
     k: usize,
 )
-    requires { ⌜ (CELLS ≤ length (now cells)) × (k < NODES) ⌝ }
+    requires { ⌜ (CELLS ≤ length (now cells)) × (k < NODES) × (since ≤ NO-END) ⌝ }
     ensures taken { λ _. ⌜ ((numbers values : _) → node ≡ node-in numbers k → TimedAsks (now (cells .entry)) node e left right → NodeTakes numbers (now (cells .entry)) (now (cells .exit)) values opening since k) ⌝ }
     ensures beyond { λ _. ⌜ SameBeyond (now (cells .entry)) (now (cells .exit)) ⌝ }
 {
@@ -206,13 +225,15 @@ fn take_timed(
     let here = in_window(node, since);
     let next = points::extreme(other, carried, left);
     let best = margin_after(e, margin, carried, right, here);
+    let newest = newest_of(node, e, right);
+    cells[HELD_AT + tables::NODES * NEWEST + k] = newest;
     cells[HELD_AT + tables::NODES * MARGIN + k] = best;
     cells[HELD_AT + tables::NODES * CARRIED + k] = next;
 }
 
 // Until or release takes the row.
 fn take_binary(cells: &mut [i64], node: Node, e: Extremum, opening: bool, since: u64, k: usize)
-    requires { ⌜ (CELLS ≤ length (now cells)) × (k < NODES) ⌝ }
+    requires { ⌜ (CELLS ≤ length (now cells)) × (k < NODES) × (since ≤ NO-END) ⌝ }
     ensures taken { λ _. ⌜ ((numbers values : _) → node ≡ node-in numbers k → operator (node .kind) ≡ binary future e → NodeTakes numbers (now (cells .entry)) (now (cells .exit)) values opening since k) ⌝ }
     ensures beyond { λ _. ⌜ SameBeyond (now (cells .entry)) (now (cells .exit)) ⌝ }
 {
@@ -223,7 +244,7 @@ fn take_binary(cells: &mut [i64], node: Node, e: Extremum, opening: bool, since:
 
 // Eventually or always takes the row.
 fn take_unary(cells: &mut [i64], node: Node, e: Extremum, opening: bool, since: u64, k: usize)
-    requires { ⌜ (CELLS ≤ length (now cells)) × (k < NODES) ⌝ }
+    requires { ⌜ (CELLS ≤ length (now cells)) × (k < NODES) × (since ≤ NO-END) ⌝ }
     ensures taken { λ _. ⌜ ((numbers values : _) → node ≡ node-in numbers k → operator (node .kind) ≡ unary future e → NodeTakes numbers (now (cells .entry)) (now (cells .exit)) values opening since k) ⌝ }
     ensures beyond { λ _. ⌜ SameBeyond (now (cells .entry)) (now (cells .exit)) ⌝ }
 {
@@ -232,7 +253,7 @@ fn take_unary(cells: &mut [i64], node: Node, e: Extremum, opening: bool, since: 
     take_timed(cells, node, e, left, right, opening, since, k)
 }
 
-// Node k takes the row. Its kind is asked for here alone, and once, because each question costs a row time.
+// Node k takes the row. Its kind is asked for here alone, and once, and its other numbers only where they count, because each question costs a row time.
 fn take_node(
     numbers: &[u64],
     cells: &mut [i64],
@@ -241,25 +262,52 @@ fn take_node(
     since: u64,
     k: usize,
 )
-    requires { ⌜ (NUMBERS ≤ length (now numbers)) × (CELLS ≤ length (now cells)) × (k < NODES) × Values (now values) ⌝ }
+    requires { ⌜ (NUMBERS ≤ length (now numbers)) × (CELLS ≤ length (now cells)) × (k < NODES) × Values (now values) × (since ≤ NO-END) ⌝ }
     ensures taken { λ _. ⌜ NodeTakes (now (numbers .entry)) (now (cells .entry)) (now (cells .exit)) (now (values .entry)) opening since k ⌝ }
     ensures beyond { λ _. ⌜ SameBeyond (now (cells .entry)) (now (cells .exit)) ⌝ }
 {
-    let node = node_of(numbers, k);
-    let kind = node.kind;
+    let kind = kind_of(numbers, k);
     match kind {
         tables::TRUE => take_leaf(cells, TOP, opening, k),
         tables::PREDICATE => {
-            let leaf = distance_of(numbers, cells, values, node);
+            let leaf = distance_of(numbers, cells, values, node_of(numbers, k));
             take_leaf(cells, leaf, opening, k)
         }
-        tables::NOT => take_not(cells, node, k),
-        tables::AND => take_joined(cells, node, Extremum::Smallest, k),
-        tables::OR => take_joined(cells, node, Extremum::Largest, k),
-        tables::UNTIL => take_binary(cells, node, Extremum::Largest, opening, since, k),
-        tables::RELEASE => take_binary(cells, node, Extremum::Smallest, opening, since, k),
-        tables::EVENTUALLY => take_unary(cells, node, Extremum::Largest, opening, since, k),
-        _ => take_unary(cells, node, Extremum::Smallest, opening, since, k),
+        tables::NOT => take_not(cells, node_of(numbers, k), k),
+        tables::AND => take_joined(cells, node_of(numbers, k), Extremum::Smallest, k),
+        tables::OR => take_joined(cells, node_of(numbers, k), Extremum::Largest, k),
+        tables::UNTIL => take_binary(
+            cells,
+            node_of(numbers, k),
+            Extremum::Largest,
+            opening,
+            since,
+            k,
+        ),
+        tables::RELEASE => take_binary(
+            cells,
+            node_of(numbers, k),
+            Extremum::Smallest,
+            opening,
+            since,
+            k,
+        ),
+        tables::EVENTUALLY => take_unary(
+            cells,
+            node_of(numbers, k),
+            Extremum::Largest,
+            opening,
+            since,
+            k,
+        ),
+        _ => take_unary(
+            cells,
+            node_of(numbers, k),
+            Extremum::Smallest,
+            opening,
+            since,
+            k,
+        ),
     }
 }
 
@@ -272,7 +320,7 @@ pub fn take_nodes(
     since: u64,
     count: usize,
 )
-    requires { ⌜ (NUMBERS ≤ length (now numbers)) × (CELLS ≤ length (now cells)) × (count ≤ NODES) × Values (now values) ⌝ }
+    requires { ⌜ (NUMBERS ≤ length (now numbers)) × (CELLS ≤ length (now cells)) × (count ≤ NODES) × Values (now values) × (since ≤ NO-END) ⌝ }
     ensures taken { λ _. ⌜ ((t : Table) (c : Card) (r : Row) → Arriving (now (values .entry)) opening since t c r → count ≡ t .count → Taking (now (numbers .entry)) (now (cells .entry)) t c r 0 → Taking (now (numbers .entry)) (now (cells .exit)) t c r count) ⌝ }
     ensures beyond { λ _. ⌜ SameBeyond (now (cells .entry)) (now (cells .exit)) ⌝ }
 {

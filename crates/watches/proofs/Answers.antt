@@ -26,6 +26,8 @@ use Rattle.margins.specs.Answers.{margin-outcome}
 use Rattle.arrivals.specs.Arrivals.{Row, no-rows, with-row, making-checks, row-checks, offer-refusal, accepted, some-row-check, asked-refusal, margin-so-far}
 use Rattle.arrivals.proofs.Fitting.{made}
 use Rattle.watch_cells.specs.State.{NUMBERS, CELLS, held-in}
+use Rattle.watch_cells.proofs.Taken.{cell-is}
+use Rattle.watches.proofs.Stands.{refused-is, kept-is, none-yet}
 use Rattle.watches.specs.Watches.{Kept, Watches, Roomy, room-check, lent-checks}
 
 -- ---- the slices' lengths
@@ -44,13 +46,13 @@ module _ {numbers : List ℕ} {cells : List ℤ} {t : Table} {c : Card} (W : Wat
 
   -- a refused making gives its number, whatever would come after it
   pub making-first : (ds : List Check) → (getD numbers 0 0 ≡ 0 → ⊥) → getD numbers 0 0 ≡ first (making-checks c t ++ ds)
-  making-first ds h = W .refused ∙ sym (first-stays (making-checks c t) ds (λ z. h (W .refused ∙ z)))
+  making-first ds h = refused-is W ∙ sym (first-stays (making-checks c t) ds (λ z. h (refused-is W ∙ z)))
 
   pub making-none : getD numbers 0 0 ≡ 0 → first (making-checks c t) ≡ 0
-  making-none e = sym (W .refused) ∙ e
+  making-none e = sym (refused-is W) ∙ e
 
   pub kept-now : getD numbers 0 0 ≡ 0 → Kept numbers cells t c
-  kept-now e = W .kept (making-none e)
+  kept-now e = kept-is W (making-none e)
 
   pub row-first : (r : Row) → getD numbers 0 0 ≡ 0 → first (row-checks c r) ≡ offer-refusal c t r
   row-first r e = sym (first-append (making-checks c t) (row-checks c r) tt (making-none e))
@@ -66,24 +68,24 @@ module _ {numbers : List ℕ} {cells : List ℤ} {t : Table} {c : Card} (W : Wat
       let e : getD numbers 0 0 ≡ asked-refusal c t = making-first (some-row-check c ∷ []) h in
       ap₂ (λ (x : ℕ) (y : ℤ). record { number = x; margin = y }) e (sym (unless-some _ _ _ (λ z. h (e ∙ z))))
 
-  pub told-none : getD numbers 0 0 ≡ 0 → getD numbers 2 0 ≡ 0 → margin-outcome (Refused 5) ≡ margin-so-far c t
+  pub told-none : getD numbers 0 0 ≡ 0 → getD numbers 3 0 ≡ 0 → margin-outcome (Refused 5) ≡ margin-so-far c t
   unfolding margin-so-far
   told-none e z =
-      let k = kept-now e .clock .taken in
-      let n : rows c ≡ 0 = eqb→eq (rows c) 0 (subst T (sym (eq-eqb (getD numbers 2 0) 0 z) ∙ k) tt) in
+      let k = none-yet (kept-now e) in
+      let n : rows c ≡ 0 = eqb→eq (rows c) 0 (subst T (sym (eq-eqb (getD numbers 3 0) 0 z) ∙ k) tt) in
       let f : asked-refusal c t ≡ 5 = first-here (making-checks c t) (some-row-check c) [] tt (making-none e) (lt-leb 1 (rows c) (omega (arith, n))) in
       ap₂ (λ (x : ℕ) (y : ℤ). record { number = x; margin = y }) (sym f) (sym (unless-some _ _ _ (λ (x : asked-refusal c t ≡ 0). omega (arith, f, x))))
 
-  some-row : getD numbers 0 0 ≡ 0 → (getD numbers 2 0 ≡ 0 → ⊥) → 1 ≤ rows c
+  some-row : getD numbers 0 0 ≡ 0 → (getD numbers 3 0 ≡ 0 → ⊥) → 1 ≤ rows c
   some-row e h = elim (ℕ-discrete (rows c) 0) [
-    | yes z ↦ absurd (subst T (sym (eq-eqb (rows c) 0 z) ∙ sym (kept-now e .clock .taken) ∙ ne-eqb (getD numbers 2 0) 0 h) tt)
+    | yes z ↦ absurd (subst T (sym (eq-eqb (rows c) 0 z) ∙ sym (none-yet (kept-now e)) ∙ ne-eqb (getD numbers 3 0) 0 h) tt)
     | no z ↦ omega arith
   ]
 
   ruled : getD numbers 0 0 ≡ 0 → TableRules t
   ruled e = made c t (making-none e) .each 0 (omega arith) .0
 
-  pub told-margin : getD numbers 0 0 ≡ 0 → (getD numbers 2 0 ≡ 0 → ⊥) → {m : ℤ} → ((k : Table) (d : Card) → Kept numbers cells k d → TableRules k → 1 ≤ rows d → m ≡ margin d (root k) 0) → margin-outcome (Margin m) ≡ margin-so-far c t
+  pub told-margin : getD numbers 0 0 ≡ 0 → (getD numbers 3 0 ≡ 0 → ⊥) → {m : ℤ} → ((k : Table) (d : Card) → Kept numbers cells k d → TableRules k → 1 ≤ rows d → m ≡ margin d (root k) 0) → margin-outcome (Margin m) ≡ margin-so-far c t
   unfolding margin-so-far first
   told-margin e h f =
       let some = some-row e h in
@@ -92,7 +94,7 @@ module _ {numbers : List ℕ} {cells : List ℤ} {t : Table} {c : Card} (W : Wat
 
 -- the root's cell
 pub root-held : {numbers : List ℕ} {cells : List ℤ} {t : Table} {c : Card} → Kept numbers cells t c → TableRules t → 1 ≤ rows c → held-in cells (getD numbers 1 0 - 1) 1 ≡ margin c (root t) 0
-root-held {cells = cells} {t} {c} K R some = rw (K .planned .count) (K .each (t .count - 1) (omega (arith, R .some-node)) some .margin-is)
+root-held {cells = cells} {t} {c} K R some = rw (K .planned .count) (K .each (t .count - 1) (omega (arith, R .some-node, R .few-nodes)) .each 1 (omega arith) ∙ cell-is t c 1 (t .count - 1) some (omega (arith, R .some-node)))
 
 -- with room for a watch, the making's number is the answer
 pub lent-first : (s : Setup) (t : Table) (n m : ℕ) → Roomy n m → first (lent-checks s t n m) ≡ first (making-checks (no-rows s) t)

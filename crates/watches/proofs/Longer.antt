@@ -1,63 +1,104 @@
 -- A row that was accepted: what the nodes are told of it is what the longer recording says, and the watch then is one of that recording. The times are all that moves in its numbers.
 -- Assumes nothing.
 use mathlib.Core.Path.{_≡_, refl, sym, ap, _∙_, subst}
-use mathlib.Core.Bool.{true, false, cond}
-use mathlib.Core.List.{List, [], _∷_}
+use mathlib.Core.Bool.{Bool, true, false, _&&_, cond}
+use mathlib.Core.List.{List}
 use Prim.Native.Nat.{ℕ, zero, suc, _+_, _-_, _*_, _≤_, _<_, min}
 use native.Mathlib.Omega.{arith}
-use lib.Dec.{eqb}
-use lib.ListN.{getD, set}
-use Rattle.lists.specs.Fill.{fill}
-use lib.IntN.{ℤ}
-use borrow.Author.Tests.{ne-eqb}
+use native.Mathlib.Decide.{decLt, ℕ-discrete}
+use lib.Dec.{leb, eqb}
+use lib.ListN.{length, getD, set, length-set}
+use lib.Seq.{getD-set-same, getD-set-other}
+use lib.IntN.{ℤ, pos}
+use borrow.Author.Tests.{eq-eqb, ne-eqb, le-ltb}
+use Rattle.recordings.specs.declared.Setup.{Setup}
 use Rattle.recordings.specs.Card.{Card, rows, time}
 use Rattle.tables.specs.declared.Table.{Table}
-use Rattle.tables.specs.Tree.{NODES}
+use Rattle.tables.specs.Tree.{NODES, tree}
 use Rattle.refusals.specs.First.{first}
 use Rattle.refusals.proofs.First.{first-of-whole}
 use Rattle.arrivals.specs.Arrivals.{Row, with-row, making-checks, row-checks, offer-refusal}
+use Rattle.arrivals.specs.Fits.{next-time}
 use Rattle.arrivals.proofs.Growth.{rows-next, time-before, time-newest}
 use Rattle.arrivals.proofs.Fitting.{made, offered, fits-next}
-use Rattle.watch_cells.specs.State.{Planned}
-use Rattle.watch_cells.specs.Taking.{Arriving, Taking}
-use Rattle.watches.specs.Watches.{Kept, Watches, put-at}
-use Rattle.watches.proofs.Fresh.{length-put, put-in, put-out}
-
--- three numbers, one after the other
-pub three-put : (numbers : List ℕ) (a b c : ℕ) → set (set (set numbers 2 a) 3 b) 4 c ≡ put-at 2 0 (a ∷ b ∷ c ∷ []) numbers
-unfolding fill
-three-put numbers a b c = refl
+use Rattle.watch_cells.specs.State.{NUMBERS, CELLS, HELD-AT, cell-of, part-of, Planned}
+use Rattle.watch_cells.specs.Taking.{Arriving, Taking, SameBeyond}
+use Rattle.watches.specs.Watches.{head-of, watch-numbers, watch-cells, Kept, Watches, begun}
+use Rattle.watches.proofs.Stands.{Run, run-of, head-at, plan-at, end-at, cell-at, kept-is, none-yet}
 
 -- what refuses a making looks at no sample
 making-same : (c : Card) (t : Table) (r : Row) → first (making-checks c t) ≡ first (making-checks (with-row c r) t)
 unfolding first
 making-same c t r = refl
 
+-- ---- the times in a watch's numbers
+module _ (numbers : List ℕ) (now : ℕ) where
+  pub begun-long : length (begun now numbers) ≡ length numbers
+  begun-long = go (eqb (getD numbers 3 0) 0)
+    where
+      go : (b : Bool) → length (cond b (set numbers 2 now) numbers) ≡ length numbers
+      go true = rw length-set
+      go false = refl
+
+  pub begun-other : (i : ℕ) → (i ≡ 2 → ⊥) → getD (begun now numbers) i 0 ≡ getD numbers i 0
+  begun-other i h = go (eqb (getD numbers 3 0) 0)
+    where
+      go : (b : Bool) → getD (cond b (set numbers 2 now) numbers) i 0 ≡ getD numbers i 0
+      go true = getD-set-other numbers 2 i now 0 h
+      go false = refl
+
+  begun-start : NUMBERS ≤ length numbers → getD (begun now numbers) 2 0 ≡ cond (eqb (getD numbers 3 0) 0) now (getD numbers 2 0)
+  begun-start l = go (eqb (getD numbers 3 0) 0)
+    where
+      go : (b : Bool) → getD (cond b (set numbers 2 now) numbers) 2 0 ≡ cond b now (getD numbers 2 0)
+      go true = getD-set-same numbers 2 now 0 (omega arith)
+      go false = refl
+
+-- nothing else of the plan is moved by them
+planned-same : {numbers moved : List ℕ} {cells : List ℤ} {t : Table} {s : Setup} → length moved ≡ length numbers → ((i : ℕ) → (i ≡ 2 → ⊥) → (i ≡ 3 → ⊥) → getD moved i 0 ≡ getD numbers i 0) → Planned numbers cells t s → Planned moved cells t s
+planned-same {numbers} {moved} l f P =
+    let g : (i : ℕ) → 4 ≤ i → getD moved i 0 ≡ getD numbers i 0 = λ i h. f i (λ (e : i ≡ 2). omega arith) (λ (e : i ≡ 3). omega arith) in
+    record {
+      long = omega (arith, l, P .long);
+      wide = P .wide;
+      count = f 1 (λ (e : _≡_ {A = ℕ} 1 2). omega arith) (λ (e : _≡_ {A = ℕ} 1 3). omega arith) ∙ P .count;
+      channels = g 4 (omega arith) ∙ P .channels;
+      scales = λ ch h. g (5 + ch) (omega arith) ∙ P .scales ch h;
+      predicates = λ p h. rw (g (13 + 2 * p + 1) (omega arith), g (13 + 2 * p) (omega arith)) (P .predicates p h);
+      nodes = λ k h. rw (g (45 + 5 * k) (omega arith), g (45 + 5 * k + 1) (omega arith), g (45 + 5 * k + 2) (omega arith), g (45 + 5 * k + 3) (omega arith), g (45 + 5 * k + 4) (omega arith)) (P .nodes k h);
+    }
+
 module _ {numbers : List ℕ} {cells : List ℤ} {t : Table} {c : Card} (r : Row) (W : Watches numbers cells t c) (e : offer-refusal c t r ≡ 0) where
   none : first (making-checks c t) ≡ 0
   none = first-of-whole (making-checks c t) (row-checks c r) tt e .0
 
   K : Kept numbers cells t c
-  K = W .kept none
+  K = kept-is W none
+
+  abbrev longer : Card
+  longer = with-row c r
+
+  abbrev pub opened : List ℕ
+  opened = begun (r .time) numbers
+
+  opening-is : eqb (getD numbers 3 0) 0 ≡ eqb (rows c) 0
+  opening-is = none-yet K
 
   -- the first time of the longer recording
-  abbrev pub start : ℕ
-  start = cond (eqb (getD numbers 2 0) 0) (r .time) (getD numbers 3 0)
-
-  start-is : start ≡ time (with-row c r) 0
-  start-is = go (rows c) refl
+  start-is : getD opened 2 0 ≡ time longer 0
+  start-is = begun-start numbers (r .time) (W .long) ∙ go (rows c) refl
     where
-      go : (n : ℕ) → n ≡ rows c → start ≡ time (with-row c r) 0
-      go zero z = let o : eqb (getD numbers 2 0) 0 ≡ true = K .clock .taken ∙ ap (λ (x : ℕ). eqb x 0) (sym z) in rw o (sym (rw (sym z) at (time-newest c r)))
-      go (suc n) z = let o : eqb (getD numbers 2 0) 0 ≡ false = K .clock .taken ∙ ne-eqb (rows c) 0 (λ (x : rows c ≡ 0). omega arith) in rw o (K .clock .start ∙ sym (time-before c r 0 (omega arith)))
+      go : (n : ℕ) → n ≡ rows c → cond (eqb (getD numbers 3 0) 0) (r .time) (getD numbers 2 0) ≡ time longer 0
+      go zero z = let o : eqb (getD numbers 3 0) 0 ≡ true = opening-is ∙ ap (λ (x : ℕ). eqb x 0) (sym z) in rw o (sym (rw (sym z) at (time-newest c r)))
+      go (suc n) z = let o : eqb (getD numbers 3 0) 0 ≡ false = opening-is ∙ ne-eqb (rows c) 0 (λ (x : rows c ≡ 0). omega arith) in rw o (K .clock .start ∙ sym (time-before c r 0 (omega arith)))
 
-  pub few : getD numbers 1 0 ≤ NODES
-  few = omega (arith, K .planned .count, made c t none .each 0 (omega arith) .0 .few-nodes)
+  few : t .count ≤ NODES
+  few = made c t none .each 0 (omega arith) .0 .few-nodes
 
-  pub counted : min (getD numbers 1 0) NODES ≡ t .count
-  counted = let k = K .planned .count in omega (arith, k, few)
+  pub counted : min (getD opened 1 0) NODES ≡ t .count
+  counted = let k = begun-other numbers (r .time) 1 (λ (x : _≡_ {A = ℕ} 1 2). omega arith) ∙ K .planned .count in omega (arith, k, few)
 
-  pub arriving : Arriving (r .values) (eqb (getD numbers 2 0) 0) (r .time - start) t c r
+  pub arriving : Arriving (r .values) (eqb (getD numbers 3 0) 0) (r .time - getD opened 2 0) t c r
   arriving =
       let m = made c t none in
       record {
@@ -68,60 +109,77 @@ module _ {numbers : List ℕ} {cells : List ℤ} {t : Table} {c : Card} (r : Row
         fits-next = fits-next c t r (K .fits) e;
         values-are = refl;
         fitting = offered c t r e .each 4 (omega arith);
-        opening-is = K .clock .taken;
+        opening-is = opening-is;
         since-is = ap (λ (x : ℕ). r .time - x) start-is;
       }
 
-  pub untaken : Taking numbers cells t c r 0
-  untaken = record { planned = K .planned; done = λ q h. absurd (omega arith); waiting = λ q a h some. K .each q h some }
+  pub untaken : Taking opened cells t c r 0
+  untaken = record { planned = planned-same (begun-long numbers (r .time)) (λ i a b. begun-other numbers (r .time) i a) (K .planned); done = λ q h. absurd (omega arith); waiting = λ q a h. K .each q h }
 
-  -- the watch afterwards
-  module _ {later : List ℤ} (D : Taking numbers later t c r (t .count)) where
-    abbrev clock : List ℕ
-    clock = 1 ∷ start ∷ r .time ∷ []
-
+  -- ---- the numbers afterwards
+  module _ (later : ℕ) (later-is : later ≡ r .time + 1) where
     abbrev moved : List ℕ
-    moved = put-at 2 0 clock numbers
+    moved = set opened 3 later
 
-    at : (i : ℕ) → i < 3 → getD moved (2 + i) 0 ≡ getD clock i 0
-    at i h = put-in 2 0 clock numbers i h (omega (arith, W .long))
+    moved-long : length moved ≡ length numbers
+    moved-long = length-set opened 3 later ∙ begun-long numbers (r .time)
 
-    other : (m : ℕ) → (2 ≤ m → m < 5 → ⊥) → getD moved m 0 ≡ getD numbers m 0
-    other m h = put-out 2 0 clock numbers m (λ a (b : m < 2 + 3). h a (omega arith))
+    next-is : later ≡ next-time longer
+    next-is =
+        let z : eqb (rows longer) 0 ≡ false = ne-eqb (rows longer) 0 (λ (x : rows longer ≡ 0). omega (arith, rows-next c r)) in
+        let n : rows longer - 1 ≡ rows c = omega (arith, rows-next c r) in
+        rw (z, n) (later-is ∙ rw (time-newest c r) (omega arith))
 
-    behind : (m : ℕ) → 5 ≤ m → getD moved m 0 ≡ getD numbers m 0
-    behind m h = other m (λ a b. omega arith)
+    head-is : (i : ℕ) → i < 5 → getD moved i 0 ≡ getD (head-of t longer) i 0
+    head-is zero h = getD-set-other opened 3 0 later 0 (λ (x : _≡_ {A = ℕ} 0 3). omega arith) ∙ begun-other numbers (r .time) 0 (λ (x : _≡_ {A = ℕ} 0 2). omega arith) ∙ W .numbers-are 0 (omega arith) ∙ head-at t c 0 (omega arith) ∙ making-same c t r
+    head-is (suc zero) h = getD-set-other opened 3 1 later 0 (λ (x : _≡_ {A = ℕ} 1 3). omega arith) ∙ begun-other numbers (r .time) 1 (λ (x : _≡_ {A = ℕ} 1 2). omega arith) ∙ K .planned .count
+    head-is (suc (suc zero)) h = getD-set-other opened 3 2 later 0 (λ (x : _≡_ {A = ℕ} 2 3). omega arith) ∙ start-is
+    head-is (suc (suc (suc zero))) h = getD-set-same opened 3 later 0 (omega (arith, begun-long numbers (r .time), W .long)) ∙ next-is
+    head-is (suc (suc (suc (suc zero)))) h = getD-set-other opened 3 4 later 0 (λ (x : _≡_ {A = ℕ} 4 3). omega arith) ∙ begun-other numbers (r .time) 4 (λ (x : _≡_ {A = ℕ} 4 2). omega arith) ∙ K .planned .channels
+    head-is (suc (suc (suc (suc (suc i))))) h = absurd (omega arith)
 
-    planned : Planned moved later t (c .setup)
-    planned = let P = D .planned in record {
-      long = omega (arith, length-put 2 0 clock numbers, P .long);
-      wide = P .wide;
-      count = other 1 (λ (a : 2 ≤ 1) b. omega arith) ∙ P .count;
-      channels = behind 5 (omega arith) ∙ P .channels;
-      scales = λ ch h. behind (6 + ch) (omega arith) ∙ P .scales ch h;
-      predicates = λ p h. rw (behind (14 + 2 * p + 1) (omega arith), behind (14 + 2 * p) (omega arith)) (P .predicates p h);
-      nodes = λ k h. rw (behind (46 + 5 * k) (omega arith), behind (46 + 5 * k + 1) (omega arith), behind (46 + 5 * k + 2) (omega arith), behind (46 + 5 * k + 3) (omega arith), behind (46 + 5 * k + 4) (omega arith)) (P .nodes k h);
-    }
+    numbers-moved : (i : ℕ) → i < NUMBERS → getD moved i 0 ≡ getD (watch-numbers t longer) i 0
+    numbers-moved i h = elim (decLt i 5) [
+      | yes a ↦ head-is i a ∙ sym (head-at t longer i a)
+      | no a ↦
+          let z : i ≡ 5 + (i - 5) = omega arith in
+          getD-set-other opened 3 i later 0 (λ (x : i ≡ 3). omega arith) ∙ begun-other numbers (r .time) i (λ (x : i ≡ 2). omega arith) ∙ W .numbers-are i h
+          ∙ ap (λ (m : ℕ). getD (watch-numbers t c) m 0) z ∙ plan-at t c (i - 5) ∙ sym (plan-at t longer (i - 5)) ∙ ap (λ (m : ℕ). getD (watch-numbers t longer) m 0) (sym z)
+    ]
 
-    last-is : getD moved 4 0 ≡ time (with-row c r) (rows (with-row c r) - 1)
-    last-is = let n : rows (with-row c r) - 1 ≡ rows c = omega (arith, rows-next c r) in rw n (at 2 (omega arith) ∙ sym (time-newest c r))
+    -- ---- the cells afterwards
+    module _ {after : List ℤ} (D : Taking opened after t c r (t .count)) (B : SameBeyond cells after) where
+      no-node : (d : Card) (part q : ℕ) → t .count ≤ q → cell-of t d part q ≡ pos 0
+      no-node d part q h = rw (le-ltb q (t .count) h) (never (leb 1 (rows d)) (part-of d (tree (t .nodes) q) part))
+        where
+          never : (b : Bool) (x : ℤ) → cond (b && false) x (pos 0) ≡ pos 0
+          never true x = refl
+          never false x = refl
 
-    moved-watches : Watches moved later t (with-row c r)
-    moved-watches = record {
-      long = planned .long;
-      wide = planned .wide;
-      refused = other 0 (λ (a : 2 ≤ 0) b. omega arith) ∙ W .refused ∙ making-same c t r;
-      kept = λ z. record {
-        planned = planned;
-        fits = fits-next c t r (K .fits) e;
-        clock = record {
-          taken = rw (at 0 (omega arith)) (sym (ne-eqb (rows (with-row c r)) 0 (λ (x : rows (with-row c r) ≡ 0). omega (arith, rows-next c r))));
-          start = at 1 (omega arith) ∙ start-is;
-          last = last-is;
-        };
-        each = λ q h some. D .done q h .held;
-      };
-    }
+      held-after : (part q : ℕ) → part < 3 → q < NODES → getD after (HELD-AT + NODES * part + q) (pos 0) ≡ cell-of t longer part q
+      held-after part q h l = elim (decLt q (t .count)) [
+        | yes a ↦ D .done q a .each part h
+        | no a ↦ D .waiting q (omega arith) l .each part h ∙ no-node c part q (omega arith) ∙ sym (no-node longer part q (omega arith))
+      ]
 
-    pub longer-watches : {new : List ℕ} → new ≡ put-at 2 0 clock numbers → Watches new later t (with-row c r)
-    longer-watches z = subst (λ (l : List ℕ). Watches l later t (with-row c r)) (sym z) moved-watches
+      cells-after : (i : ℕ) → i < CELLS → getD after i (pos 0) ≡ getD (watch-cells t longer) i (pos 0)
+      cells-after i h = elim (decLt i 32) [
+        | yes a ↦ B .same i (λ x y. omega arith) ∙ W .cells-are i h ∙ end-at t c (W .predicates-are) i a ∙ sym (end-at t longer (W .predicates-are) i a)
+        | no a ↦
+            let g = run-of i (omega arith) h in
+            ap (λ (m : ℕ). getD after m (pos 0)) (g .at)
+            ∙ held-after (g .part) (g .node) (g .few) (g .small)
+            ∙ sym (cell-at t longer (W .predicates-are) (g .part) (g .node) (g .few) (g .small))
+            ∙ ap (λ (m : ℕ). getD (watch-cells t longer) m (pos 0)) (sym (g .at))
+      ]
+
+      pub longer-watches : Watches moved after t longer
+      longer-watches = record {
+        long = omega (arith, moved-long, W .long);
+        wide = D .planned .wide;
+        numbers-are = numbers-moved;
+        cells-are = cells-after;
+        nodes-are = W .nodes-are;
+        predicates-are = W .predicates-are;
+        fits = λ z. fits-next c t r (K .fits) e;
+      }

@@ -2,7 +2,9 @@
 -- Assumes nothing.
 use mathlib.Core.Path.{_≡_, refl, sym, ap, _∙_, subst}
 use mathlib.Core.List.{List, [], _∷_}
-use Prim.Native.Nat.{ℕ}
+use Prim.Native.Nat.{ℕ, _<_}
+use lib.ListN.{getD}
+use lib.IntN.{pos}
 use Rattle.recordings.specs.declared.Predicate.{Predicate}
 use Rattle.recordings.specs.declared.Scales.{Scales}
 use Rattle.recordings.specs.declared.Setup.{Setup}
@@ -15,6 +17,7 @@ use Rattle.margins.specs.Answers.{MarginOutcome, margin-outcome}
 use Rattle.arrivals.specs.Arrivals.{Row, watch-setup, no-rows, making-checks, accepted, recorded, margin-so-far}
 use Rattle.arrivals.proofs.Refusals.{making-exact}
 use Rattle.arrivals.proofs.Promises.{making-refuses, making-silences}
+use Rattle.watch_cells.specs.State.{NUMBERS, CELLS}
 use Rattle.watches.specs.declared.Watch.{Watch}
 use Rattle.watches.specs.declared.Taken.{Taken}
 use Rattle.watches.specs.Watches.{room-check, lent-checks}
@@ -24,6 +27,10 @@ use Rattle.watches.specs.Run.{Watching, Took, Told, Run, rest, offer}
 pub run-watching : (t : Table) (c : Card) {w v : Watch} {rs : List Row} → Run w rs v → Watching w t c → Watching v t (recorded t c rs)
 run-watching t c (rest w) W = W
 run-watching t c (offer w v r rs a k q) W = run-watching t (accepted t c r) q (k .watch t c W)
+
+-- every number and every cell of a watch is fixed by its table, its setup and the rows that were accepted
+pub places-fixed : (t : Table) (c : Card) {w v : Watch} → Watching w t c → Watching v t c → ((i : ℕ) → i < NUMBERS → getD (w .numbers) i 0 ≡ getD (v .numbers) i 0) × ((i : ℕ) → i < CELLS → getD (w .cells) i (pos 0) ≡ getD (v .cells) i (pos 0))
+places-fixed t c W same = (λ i h. W .numbers-are i h ∙ sym (same .numbers-are i h), λ i h. W .cells-are i h ∙ sym (same .cells-are i h))
 
 -- the margin after any list of offered rows is the margin, by the definition, of the recording made of the accepted ones
 pub margin-while-running : (t : Table) (ps : List Predicate) (ks : Scales) {w v : Watch} {rs : List Row} (a : Answer) → Watching w t (no-rows (watch-setup ps ks)) → Run w rs v → Told v a → margin-outcome a ≡ margin-so-far (recorded t (no-rows (watch-setup ps ks)) rs) t

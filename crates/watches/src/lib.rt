@@ -1,8 +1,7 @@
 // A margin while the card runs. A watch is made from a table, its predicates and scales, takes one row at a time and tells the margin of the rows that it has accepted, without
 // storing them: its size is fixed. It is a struct by value; `make`, `take` and `tell` are the same for a watch that a caller lends as two slices, and nothing is copied there.
 ghost use mathlib.Core.Path.{_≡_};
-ghost use Prim.Native.Nat.{_≤_, _<_, _+_, _-_, min};
-ghost use mathlib.Core.Bool.{cond};
+ghost use Prim.Native.Nat.{_≤_, _<_, _+_, _-_, _*_, min};
 ghost use lib.Dec.{eqb};
 ghost use lib.IntN.{pos};
 ghost use lib.ListN.{length, getD};
@@ -11,7 +10,7 @@ ghost use Rattle.lists.specs.Front.{written};
 ghost use Rattle.flat.specs.Predicates.{ends-of};
 ghost use Rattle.recordings.specs.Card.{Card, rows};
 ghost use Rattle.recordings.specs.Margin.{margin};
-ghost use Rattle.recordings.specs.Accepted.{Values};
+ghost use Rattle.recordings.specs.Accepted.{LATEST, Values};
 ghost use Rattle.tables.specs.declared.Table.{Table};
 ghost use Rattle.tables.specs.Tree.{NODES, root};
 ghost use Rattle.tables.specs.Rules.{TableRules};
@@ -19,7 +18,7 @@ ghost use Rattle.refusals.specs.First.{first};
 ghost use Rattle.margins.specs.Answers.{margin-outcome};
 ghost use Rattle.arrivals.specs.Arrivals.{watch-setup, no-rows, with-row, offer-refusal, accepted, margin-so-far};
 ghost use Rattle.watch_cells.specs.State.{NUMBERS, CELLS, HELD-AT};
-ghost use Rattle.watches.specs.Watches.{Kept, Watches, Roomy, room-check, lent-checks, SameBehind, setup-numbers, fresh-numbers};
+ghost use Rattle.watches.specs.Watches.{Kept, Watches, Roomy, room-check, lent-checks, SameBehind, setup-numbers, fresh-numbers, fresh-cells, begun};
 ghost use Rattle.watches.specs.Run.{lent, Watching, Took, Told};
 use margins::Answer;
 use recordings::Predicate;
@@ -31,18 +30,17 @@ use watch_cells::NODES_AT;
 use watch_cells::RANGES_AT;
 use watch_cells::SCALES_AT;
 
-// The numbers in front: what the making was refused by, the count of nodes, whether a row was taken, the first and the last time, the count of channels.
+// The numbers in front: what the making was refused by, the count of nodes, the first time, the least time that the next row may have, 0 before the first,
+// and the count of channels.
 const REFUSAL: usize = 0;
 
 const COUNT: usize = 1;
 
-const TAKEN: usize = 2;
+const START: usize = 2;
 
-const START: usize = 3;
+const NEXT: usize = 3;
 
-const LAST: usize = 4;
-
-const CHANNELS: usize = 5;
+const CHANNELS: usize = 4;
 
 pub struct Watch {
     pub numbers: [u64; Watch::NUMBERS],
@@ -57,7 +55,7 @@ pub struct Taken {
 
 impl Watch {
     // A watch is so many numbers and cells long, whatever it has seen.
-    pub const NUMBERS: usize = 366;
+    pub const NUMBERS: usize = 365;
 
     pub const CELLS: usize = 224;
 
@@ -133,6 +131,15 @@ fn write_setup(predicates: [Predicate; 16], scales: Scales, numbers: &mut [u64],
     put_numbers(&each, numbers, SCALES_AT);
 }
 
+// The nodes hold nothing before the first row.
+fn clear_nodes(cells: &mut [i64])
+    requires { ⌜ CELLS ≤ length (now cells) ⌝ }
+    ensures { λ _. ⌜ now (cells .exit) ≡ fill HELD-AT (3 * NODES) (λ i. pos 0) (now (cells .entry)) ⌝ }
+{
+    let from = HELD_AT;
+    rows::fill_same(3 * tables::NODES, 0, &mut cells[from..]);
+}
+
 // A fresh watch, whatever its making was refused by.
 fn write_fresh(
     number: u64,
@@ -142,17 +149,18 @@ fn write_fresh(
     numbers: &mut [u64],
     cells: &mut [i64],
 )
-    requires { ⌜ NUMBERS ≤ length (now numbers) ⌝ }
+    requires { ⌜ (NUMBERS ≤ length (now numbers)) × (CELLS ≤ length (now cells)) ⌝ }
     ensures numbers { λ _. ⌜ now (numbers .exit) ≡ fresh-numbers number table predicates scales (now (numbers .entry)) ⌝ }
-    ensures cells { λ _. ⌜ now (cells .exit) ≡ written (ends-of predicates) (now (cells .entry)) ⌝ }
+    ensures cells { λ _. ⌜ now (cells .exit) ≡ fresh-cells predicates (now (cells .entry)) ⌝ }
     ensures arrays { λ _. ⌜ (length (table .nodes) ≡ NODES) × (length predicates ≡ 16) ⌝ }
 {
     let nodes = table.nodes;
     let places = building::cells_of(nodes);
     put_numbers(&places, numbers, NODES_AT);
     write_setup(predicates, scales, numbers, cells);
-    let head = [number, table.count as u64, 0, 0, 0, scales.count as u64];
+    let head = [number, table.count as u64, 0, 0, scales.count as u64];
     put_numbers(&head, numbers, 0);
+    clear_nodes(cells);
 }
 
 // A fresh watch in two slices. A refused making leaves a watch there that gives its number to every later call; slices too short for a watch are left as they are.
@@ -188,26 +196,27 @@ pub fn make(
 fn offer_refusal(numbers: &[u64], time: u64, values: &[i64]) -> u64
     requires { ⌜ NUMBERS ≤ length (now numbers) ⌝ }
     ensures number { λ r. ⌜ ((cells : _) (t : Table) (c : Card) → Watches (now (numbers .entry)) cells t c → r ≡ offer-refusal c t (record { time = time; values = now (values .entry) })) ⌝ }
+    ensures early { λ r. ⌜ (r ≡ 0 → time ≤ LATEST) ⌝ }
     ensures values { λ r. ⌜ (r ≡ 0 → Values (now (values .entry))) ⌝ }
 {
     let refusal = numbers[REFUSAL];
     if refusal != 0 {
         return refusal;
     }
-    arrivals::row_refusal(
-        numbers[CHANNELS],
-        numbers[TAKEN],
-        numbers[LAST],
-        time,
-        values,
-    )
+    arrivals::row_refusal(numbers[CHANNELS], numbers[NEXT], time, values)
 }
 
-// The first time, if this row is the first or another was.
-fn start_of(taken: u64, start: u64, time: u64) -> u64
-    ensures { λ r. ⌜ r ≡ cond (eqb taken 0) time start ⌝ }
+// Whether the row is the first; then its time is the first time.
+fn begin(numbers: &mut [u64], time: u64) -> bool
+    requires { ⌜ NUMBERS ≤ length (now numbers) ⌝ }
+    ensures first { λ r. ⌜ r ≡ eqb (getD (now (numbers .entry)) 3 0) 0 ⌝ }
+    ensures numbers { λ _. ⌜ now (numbers .exit) ≡ begun time (now (numbers .entry)) ⌝ }
 {
-    if taken == 0 { time } else { start }
+    let opening = numbers[NEXT] == 0;
+    if opening {
+        numbers[START] = time;
+    }
+    opening
 }
 
 fn seconds(start: u64, time: u64) -> u64
@@ -229,18 +238,15 @@ fn node_count(count: u64) -> usize
 
 // A row that was accepted.
 fn take_row(numbers: &mut [u64], cells: &mut [i64], time: u64, values: &[i64])
-    requires { ⌜ (NUMBERS ≤ length (now numbers)) × (CELLS ≤ length (now cells)) × Values (now values) ⌝ }
+    requires { ⌜ (NUMBERS ≤ length (now numbers)) × (CELLS ≤ length (now cells)) × (time ≤ LATEST) × Values (now values) ⌝ }
     ensures watch { λ _. ⌜ ((t : Table) (c : Card) → Watches (now (numbers .entry)) (now (cells .entry)) t c → offer-refusal c t (record { time = time; values = now (values .entry) }) ≡ 0 → Watches (now (numbers .exit)) (now (cells .exit)) t (with-row c (record { time = time; values = now (values .entry) }))) ⌝ }
     ensures behind { λ _. ⌜ SameBehind NUMBERS 0 (now (numbers .entry)) (now (numbers .exit)) × SameBehind CELLS (pos 0) (now (cells .entry)) (now (cells .exit)) ⌝ }
 {
-    let taken = numbers[TAKEN];
-    let start = start_of(taken, numbers[START], time);
-    let since = seconds(start, time);
+    let opening = begin(numbers, time);
+    let since = seconds(numbers[START], time);
     let count = node_count(numbers[COUNT]);
-    watch_cells::take_nodes(numbers, cells, values, taken == 0, since, count);
-    numbers[TAKEN] = 1;
-    numbers[START] = start;
-    numbers[LAST] = time;
+    watch_cells::take_nodes(numbers, cells, values, opening, since, count);
+    numbers[NEXT] = time + 1;
 }
 
 // One row more, in a watch that is lent. A refused one leaves it as it is.
@@ -260,15 +266,11 @@ pub fn take(numbers: &mut [u64], cells: &mut [i64], time: u64, values: &[i64]) -
     0
 }
 
-// Where the root's margin stands: in the second of the nodes' runs. Numbers that no making left have no root.
+// Where the root's margin stands: in the second of the nodes' runs, at the last node. The remainder gives numbers that no making left some node, too.
 fn root_cell(count: u64) -> usize
     ensures { λ r. ⌜ (r < CELLS) × (1 ≤ count → count ≤ NODES → r ≡ HELD-AT + NODES + (count - 1)) ⌝ }
 {
-    if count == 0 {
-        return HELD_AT;
-    }
-    let nodes = node_count(count);
-    HELD_AT + tables::NODES + (nodes - 1)
+    HELD_AT + tables::NODES + (count as usize % tables::NODES + 63) % tables::NODES
 }
 
 // The root's margin at sample 0.
@@ -292,7 +294,7 @@ pub fn tell(numbers: &[u64], cells: &[i64]) -> Answer
     if refusal != 0 {
         return Answer::Refused(refusal);
     }
-    if numbers[TAKEN] == 0 {
+    if numbers[NEXT] == 0 {
         return Answer::Refused(5);
     }
     let margin = root_margin(numbers, cells);

@@ -3,10 +3,10 @@
 use crate::flat::{flat_nodes, flat_predicates, Peer};
 use crate::library::{Library, COUNTS, ENDS, NODES, NUMBERS, PLACES, RANGES, RESULT, SCALES};
 use crate::names::{self, Written, LINES};
-use crate::play::{play, unlike, Plan, Step};
+use crate::play::{left_by, play, unlike, Plan, State, Step};
 use crate::program::Program;
 use peer::generate::calls::Call;
-use peer::generate::watches::Watching;
+use peer::generate::watches::{Offer, Watching};
 use peer::limits::MOST_SCALE;
 use peer::predicate::Predicates;
 use peer::table::Table;
@@ -271,6 +271,25 @@ pub fn watches(
         if let Some(k) = unlike(&ours, &theirs) {
             return Err(differ(&format!("step {k} of a watch"), ours[k], theirs[k]));
         }
+        // The peer in the library's place numbers its states, so its slices differ.
+        if plan.remade && cfg!(feature = "proved") {
+            every_place_is_fixed(library.as_ref(), making, &watching.offers, &plan.blank)?;
+        }
     }
     Ok(ours)
+}
+
+/// What the slices held before the making must not count, at any place of the watch.
+fn every_place_is_fixed(
+    library: &dyn Library,
+    making: &names::Making,
+    offers: &[Offer],
+    noisy: &State,
+) -> Result<(), String> {
+    let left = left_by(library, making, offers, noisy.clone())?;
+    let clear = left_by(library, making, offers, noisy.cleared())?;
+    match left.unlike_at(&clear) {
+        None => Ok(()),
+        Some(at) => Err(format!("the library: what the slices held before counts at {at}")),
+    }
 }

@@ -33,6 +33,22 @@ impl State {
         }
     }
 
+    /// As much room, with 0 everywhere.
+    pub fn cleared(&self) -> State {
+        State {
+            numbers: vec![0; self.numbers.len()],
+            cells: vec![0; self.cells.len()],
+            lent: self.lent,
+        }
+    }
+
+    /// The first place at which the watches in both differ.
+    pub fn unlike_at(&self, other: &State) -> Option<String> {
+        let number = (0..WATCH_NUMBERS).find(|&i| self.numbers[i] != other.numbers[i]);
+        let cell = (0..WATCH_CELLS).find(|&i| self.cells[i] != other.cells[i]);
+        number.map(|i| format!("number {i}")).or(cell.map(|i| format!("cell {i}")))
+    }
+
     fn slices(&mut self) -> (&mut [u64], &mut [i64]) {
         (&mut self.numbers[..self.lent[0]], &mut self.cells[..self.lent[1]])
     }
@@ -134,6 +150,20 @@ pub fn play(
         }
     }
     Ok(steps)
+}
+
+/// The slices when the list is done.
+pub fn left_by(
+    library: &dyn Library,
+    making: &Making,
+    offers: &[Offer],
+    mut state: State,
+) -> Result<State, String> {
+    state.fresh(library, making)?;
+    for offer in offers {
+        state.row(library, offer)?;
+    }
+    Ok(state)
 }
 
 fn play_in(

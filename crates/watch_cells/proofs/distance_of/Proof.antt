@@ -33,19 +33,19 @@ named s a = omega (arith, a .numbered)
 predicate : (s : tie.Start) {p : Predicate} {k : ℕ} → Asks s p k → predicate-in (s .args .numbers .now) (s .args .cells .now) (s .args .node .left % 16) ≡ p
 predicate s a = ap (predicate-in (s .args .numbers .now) (s .args .cells .now)) (named s a) ∙ a .predicate-is
 
-channel : (s : tie.Start) {p : Predicate} {k : ℕ} → Asks s p k → getD (s .args .numbers .now) (14 + 2 * (s .args .node .left % 16) + 1) 0 ≡ p .channel
+channel : (s : tie.Start) {p : Predicate} {k : ℕ} → Asks s p k → getD (s .args .numbers .now) (13 + 2 * (s .args .node .left % 16) + 1) 0 ≡ p .channel
 channel s a = ap (λ (q : Predicate). q .channel) (predicate s a)
 
-scale : (s : tie.Start) {p : Predicate} {k : ℕ} → Asks s p k → getD (s .args .numbers .now) (6 + getD (s .args .numbers .now) (14 + 2 * (s .args .node .left % 16) + 1) 0 % 8) 0 ≡ k
+scale : (s : tie.Start) {p : Predicate} {k : ℕ} → Asks s p k → getD (s .args .numbers .now) (5 + getD (s .args .numbers .now) (13 + 2 * (s .args .node .left % 16) + 1) 0 % 8) 0 ≡ k
 scale s {p} a =
     let e : p .channel % 8 ≡ p .channel = omega (arith, a .known) in
-    ap (λ (n : ℕ). getD (s .args .numbers .now) (6 + n % 8) 0) (channel s a) ∙ ap (λ (n : ℕ). getD (s .args .numbers .now) (6 + n) 0) e ∙ a .scale-is
+    ap (λ (n : ℕ). getD (s .args .numbers .now) (5 + n % 8) 0) (channel s a) ∙ ap (λ (n : ℕ). getD (s .args .numbers .now) (5 + n) 0) e ∙ a .scale-is
 
 range : (c : tie.After-range-from) {p : Predicate} {k : ℕ} → Asks (c .before .before .before .before .before .before .before .before .before .before) p k → c .range-from .result ≡ p .range
 range c a =
     let s = c .before .before .before .before .before .before .before .before .before .before in
     c .range-from .ensures
-    ∙ ap₂ (range-from (getD (s .args .numbers .now) (14 + 2 * (s .args .node .left % 16)) 0)) (back-ok _ (c .before .before .range-from-arg .given)) (back-ok _ (c .before .range-from-arg2 .given))
+    ∙ ap₂ (range-from (getD (s .args .numbers .now) (13 + 2 * (s .args .node .left % 16)) 0)) (back-ok _ (c .before .before .range-from-arg .given)) (back-ok _ (c .before .range-from-arg2 .given))
     ∙ ap (λ (q : Predicate). q .range) (predicate s a)
 
 mul-at : tie.Need-mul-at

@@ -1,15 +1,11 @@
 -- The value at the row, and at sample 0 what it was at the first.
 -- Assumes nothing.
-use mathlib.Core.Path.{_≡_, refl, _∙_, subst}
-use mathlib.Core.List.{List}
-use Prim.Native.Nat.{ℕ, suc}
+use mathlib.Core.Path.{_≡_, refl, _∙_}
+use Prim.Native.Nat.{ℕ}
 use native.Mathlib.Omega.{arith}
 use lib.ListN.{length-set}
-use lib.IntN.{ℤ}
 use Rattle.numbers.proofs.Bits.{back-is}
-use Rattle.watch_cells.specs.State.{held-in}
-use Rattle.watch_cells.specs.Taking.{SameBeyond, Taking}
-use Rattle.watch_cells.proofs.Taken.{one-stored, beyond-kept, leaf-taken}
+use Rattle.watch_cells.proofs.Taken.{only-one, set-same, set-other, two-only, two-first, two-second, two-third, room, beyond-kept, leaf-taken}
 use borrow.Author.Needs.{needs}
 use Rattle.watch_cells.proofs.take_leaf.Statement.{statement}
 use Rattle.watch_cells.proofs.take_leaf.Tie as tie
@@ -49,10 +45,16 @@ same-length c = search needs
 
 returns : tie.Need-returns
 returns c =
-    let s = c .before in (
+    let s = c .before in
+    let l = s .args .cells .now in
+    let k = s .args .k in
+    let f = s .args .leaf in
+    let O = two-only l k f f in (
       λ numbers values since n n-is L t d r A small K.
-          rw (back-is (s .fits .leaf)) (leaf-taken A small (n-is ∙ K .planned .nodes (s .args .k) (s .pre .1)) K (s .args .leaf) (s .args .leaf) L (rw (c .if1 .taken) refl)),
-      beyond-kept (s .args .cells .now) (s .args .k) 0 1 _ _ (omega arith) (omega arith) (s .pre .1),
+          let m = room A small (n-is ∙ K .planned .nodes k (s .pre .1)) K in
+          rw (back-is (s .fits .leaf))
+          (leaf-taken A small (n-is ∙ K .planned .nodes k (s .pre .1)) K f L O (two-first l k f f (m 0 (omega arith))) (two-second l k f f (m 1 (omega arith)) ∙ rw (c .if1 .taken) refl) (two-third l k f f)),
+      rw (back-is (s .fits .leaf)) (beyond-kept O (s .pre .1)),
     )
 
 same-length-2 : tie.Need-same-length-2
@@ -62,12 +64,14 @@ returns-2 : tie.Need-returns-2
 returns-2 c =
     let s = c .before in
     let l = s .args .cells .now in
+    let k = s .args .k in
     let f = s .args .leaf in
-    let old = held-in l (s .args .k) 1 in
-    let one = one-stored l (s .args .k) 0 1 f old (λ (z : _≡_ {A = ℕ} 0 1). omega arith) refl in (
+    let O = only-one l k 0 f (omega arith) in (
       λ numbers values since n n-is L t d r A small K.
-          rw (back-is (s .fits .leaf)) (subst (λ (x : List ℤ). Taking numbers x t d r (suc (s .args .k))) one (leaf-taken A small (n-is ∙ K .planned .nodes (s .args .k) (s .pre .1)) K f old L (rw (c .if1 .left) refl))),
-      rw (back-is (s .fits .leaf)) (subst (SameBeyond l) one (beyond-kept l (s .args .k) 0 1 f old (omega arith) (omega arith) (s .pre .1))),
+          let m = room A small (n-is ∙ K .planned .nodes k (s .pre .1)) K in
+          rw (back-is (s .fits .leaf))
+          (leaf-taken A small (n-is ∙ K .planned .nodes k (s .pre .1)) K f L O (set-same l k 0 f (m 0 (omega arith))) (set-other l k 0 f 1 (λ (z : _≡_ {A = ℕ} 1 0). omega arith) ∙ rw (c .if1 .left) refl) (set-other l k 0 f 2 (λ (z : _≡_ {A = ℕ} 2 0). omega arith))),
+      rw (back-is (s .fits .leaf)) (beyond-kept O (s .pre .1)),
     )
 
 pub take-leaf-spec : {M : Type 1} → statement M

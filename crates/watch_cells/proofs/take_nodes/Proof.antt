@@ -28,7 +28,7 @@ take-node-requires : tie.Need-take-node-requires Inv-loop μ-loop
 take-node-requires c κs =
     let s = c .before .before .before .before in
     let l = c .before .before .loop .inv .2 in
-    (s .pre .0, omega (arith, l, s .pre .1), omega (arith, s .pre .2, c .before .loop-test .taken), s .pre .3)
+    (s .pre .0, omega (arith, l, s .pre .1), omega (arith, s .pre .2, c .before .loop-test .taken), s .pre .3, s .pre .4)
 
 add-k : tie.Need-add-k Inv-loop μ-loop
 add-k c = omega arith

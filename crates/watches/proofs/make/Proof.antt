@@ -7,7 +7,7 @@ use lib.ListN.{length}
 use Rattle.refusals.proofs.First.{first-stays, first-here}
 use Rattle.arrivals.specs.Arrivals.{watch-setup, no-rows, making-checks}
 use Rattle.watches.specs.Watches.{Roomy, room-check}
-use Rattle.watches.proofs.Fresh.{fresh-watches, fresh-behind, ends-behind}
+use Rattle.watches.proofs.Fresh.{fresh-watches, fresh-behind, cells-behind}
 use Rattle.watches.proofs.Answers.{roomy, cramped, lent-first}
 use borrow.Author.Needs.{needs}
 use Rattle.watches.proofs.make.Statement.{statement}
@@ -38,7 +38,7 @@ returns-2 c =
     (sym (first-here (making-checks (no-rows (watch-setup (s .predicates) (s .scales))) (s .table)) (room-check (length (s .numbers .now)) (length (s .cells .now))) [] tt (sym m ∙ c .if2 .left) (sym (c .before .before .is-roomy .ensures) ∙ not-true (c .before .before .is-roomy .result) (c .before .if1 .taken))), (λ z. absurd (short (c .before) z), (λ z. (refl, refl), (record { same = λ i h. refl }, record { same = λ i h. refl }))))
 
 write-fresh-requires : tie.Need-write-fresh-requires
-write-fresh-requires c κs = room (c .before .before) .long
+write-fresh-requires c κs = let m = room (c .before .before) in (m .long, m .wide)
 
 same-length : tie.Need-same-length
 same-length c = search needs
@@ -59,7 +59,7 @@ returns-3 c =
         λ z. rw (f .0, f .1 .0) (fresh-watches (c .before .before .before .before .before .before .before .before .making-refusal .result) (s .table) (s .predicates) (s .scales) (s .numbers .now) (s .cells .now) n p (o .long) (o .wide) m),
         (
           λ z. absurd (z o),
-          (rw (f .0) (fresh-behind (c .before .before .before .before .before .before .before .before .making-refusal .result) (s .table) (s .predicates) (s .scales) (s .numbers .now) (s .cells .now) n p (o .long) (o .wide)), rw (f .1 .0) (ends-behind (c .before .before .before .before .before .before .before .before .making-refusal .result) (s .table) (s .predicates) (s .scales) (s .numbers .now) (s .cells .now) n p (o .long) (o .wide))),
+          (rw (f .0) (fresh-behind (c .before .before .before .before .before .before .before .before .making-refusal .result) (s .table) (s .predicates) (s .scales) (s .numbers .now) (s .cells .now) n p (o .long) (o .wide)), rw (f .1 .0) (cells-behind (c .before .before .before .before .before .before .before .before .making-refusal .result) (s .table) (s .predicates) (s .scales) (s .numbers .now) (s .cells .now) n p (o .long) (o .wide))),
         ),
       ),
     )

@@ -14,7 +14,7 @@ shared-slice-read-refusal : tie.Need-shared-slice-read-refusal
 shared-slice-read-refusal c = search needs
 
 returns : tie.Need-returns
-returns c = (λ cells t k W. making-first W (row-checks k (row-of (c .before .before .before))) (c .if1 .taken), λ z. absurd (c .if1 .taken z))
+returns c = (λ cells t k W. making-first W (row-checks k (row-of (c .before .before .before))) (c .if1 .taken), (λ z. absurd (c .if1 .taken z), λ z. absurd (c .if1 .taken z)))
 
 shared-slice-read-row-refusal : tie.Need-shared-slice-read-row-refusal
 shared-slice-read-row-refusal c = search needs
@@ -22,18 +22,15 @@ shared-slice-read-row-refusal c = search needs
 shared-slice-read-row-refusal-2 : tie.Need-shared-slice-read-row-refusal-2
 shared-slice-read-row-refusal-2 c = search needs
 
-shared-slice-read-row-refusal-3 : tie.Need-shared-slice-read-row-refusal-3
-shared-slice-read-row-refusal-3 c = search needs
-
 row-refusal-requires : tie.Need-row-refusal-requires
 row-refusal-requires c κs = search needs
 
 returns-2 : tie.Need-returns-2
 returns-2 c = (
   λ cells t k W.
-      let e = c .before .before .before .before .if1 .left in
+      let e = c .before .before .before .if1 .left in
       let K = kept-now W e in
-      c .row-refusal .ensures .0 k (K .planned .channels) (K .clock .taken) (K .clock .last) ∙ row-first W (row-of (c .before .before .before .before .before .before .before)) e,
+      c .row-refusal .ensures .0 k (K .planned .channels) (K .clock .next) ∙ row-first W (row-of (c .before .before .before .before .before .before)) e,
   c .row-refusal .ensures .1,
 )
 
@@ -45,6 +42,5 @@ offer-refusal-spec =
     returns
     shared-slice-read-row-refusal
     shared-slice-read-row-refusal-2
-    shared-slice-read-row-refusal-3
     row-refusal-requires
     returns-2)

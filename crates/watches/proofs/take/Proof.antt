@@ -43,7 +43,7 @@ returns-2 c =
     (record { equal = λ z. refl; number = o (s .args .cells .now); watch = λ t k W. refused-watches W (row-of s) (λ z. c .if2 .taken (o (s .args .cells .now) t k W ∙ z)) }, (λ z. absurd (z (room (c .before .before .before))), (record { same = λ i h. refl }, record { same = λ i h. refl })))
 
 take-row-requires : tie.Need-take-row-requires
-take-row-requires c κs = let m = room (c .before .before .before .before .before) in (m .long, m .wide, c .before .before .before .offer-refusal .ensures .1 (c .before .before .if2 .left))
+take-row-requires c κs = let m = room (c .before .before .before .before .before) in let o = c .before .before .before .offer-refusal .ensures .1 in let n = c .before .before .if2 .left in (m .long, m .wide, o .0 n, o .1 n)
 
 same-length-2 : tie.Need-same-length-2
 same-length-2 c = search needs

@@ -1,16 +1,15 @@
 -- The nodes take the row, then the times move.
 -- Assumes nothing.
-use mathlib.Core.Path.{sym, ap, _∙_, subst}
+use mathlib.Core.Path.{_≡_, refl, ap, _∙_}
+use mathlib.Core.List.{List}
+use Prim.Native.Nat.{ℕ, _+_, min}
 use native.Mathlib.Omega.{arith}
-use mathlib.Core.List.{List, [], _∷_}
-use Prim.Native.Nat.{ℕ, _+_, _-_, _<_}
-use lib.Dec.{eqb}
-use lib.ListN.{getD, length-set}
+use lib.ListN.{getD}
+use lib.Seq.{getD-set-other}
+use Rattle.tables.specs.Tree.{NODES}
 use Rattle.arrivals.specs.Arrivals.{Row}
-use Rattle.watch_cells.specs.Taking.{Arriving, Taking}
-use Rattle.watches.specs.Watches.{put-at}
-use Rattle.watches.proofs.Fresh.{put-out}
-use Rattle.watches.proofs.Longer.{three-put, counted, arriving, untaken, longer-watches}
+use Rattle.watches.specs.Watches.{begun}
+use Rattle.watches.proofs.Longer.{begun-other, counted, arriving, untaken, longer-watches}
 use borrow.Author.Needs.{needs}
 use Rattle.watches.proofs.take_row.Statement.{statement}
 use Rattle.watches.proofs.take_row.Tie as tie
@@ -18,14 +17,11 @@ use Rattle.watches.proofs.take_row.Tie as tie
 abbrev row-of : tie.Start → Row
 row-of s = record { time = s .args .time; values = s .args .values .now }
 
-slice-read-taken : tie.Need-slice-read-taken
-slice-read-taken c = search needs
+begin-requires : tie.Need-begin-requires
+begin-requires c κs = search needs
 
-slice-read-start-of : tie.Need-slice-read-start-of
-slice-read-start-of c = search needs
-
-start-of-requires : tie.Need-start-of-requires
-start-of-requires c κs = search needs
+slice-read-seconds : tie.Need-slice-read-seconds
+slice-read-seconds c = search needs
 
 seconds-requires : tie.Need-seconds-requires
 seconds-requires c κs = search needs
@@ -39,14 +35,11 @@ node-count-requires c κs = search needs
 take-nodes-requires : tie.Need-take-nodes-requires
 take-nodes-requires c κs = search needs
 
+add-numbers : tie.Need-add-numbers
+add-numbers c = search needs
+
 slice-write-numbers : tie.Need-slice-write-numbers
 slice-write-numbers c = search needs
-
-slice-write-numbers-2 : tie.Need-slice-write-numbers-2
-slice-write-numbers-2 c = rw length-set (omega (arith, c .before .before .before .before .before .before .before .before .before .before .before .pre .0))
-
-slice-write-numbers-3 : tie.Need-slice-write-numbers-3
-slice-write-numbers-3 c = rw (length-set, length-set) (omega (arith, c .before .before .before .before .before .before .before .before .before .before .before .pre .0))
 
 same-length : tie.Need-same-length
 same-length c = search needs
@@ -56,36 +49,31 @@ same-length-2 c = search needs
 
 returns : tie.Need-returns
 returns c =
-    let s = c .before .before .before .before .before .before .before .before .before .before .before in
-    let st = c .before .before .before .before .before .before .before .start-of .ensures in
+    let s = c .before .before .before .before .before .before .before .before .before .before .before .before .before in
+    let bg = c .before .before .before .before .before .before .before .before .before .before .begin .ensures in
     let se = c .before .before .before .before .before .before .seconds .ensures in
     let nc = c .before .before .before .before .node-count .ensures in
-    let tn = c .before .take-nodes .ensures in
-    let new = three-put (s .args .numbers .now) 1 (c .before .before .before .before .before .before .before .start-of .result) (s .args .time) in (
+    let tn = c .before .take-nodes .ensures in (
       λ t k W e.
           let r = row-of s in
-          let since = se ∙ ap (λ (x : ℕ). s .args .time - x) st in
-          let count = nc ∙ counted r W e in
-          let A = subst (λ (x : ℕ). Arriving (s .args .values .now) (eqb (getD (s .args .numbers .now) 2 0) 0) x t k r) (sym since) (arriving r W e) in
-          let D = subst (Taking (s .args .numbers .now) _ t k r) count (tn .0 t k r A count (untaken r W e)) in
-          longer-watches r W e D (new ∙ ap (λ (x : ℕ). put-at 2 0 (1 ∷ x ∷ s .args .time ∷ []) (s .args .numbers .now)) st),
-      (record { same = λ i h. ap (λ (l : List ℕ). getD l i 0) new ∙ put-out 2 0 (1 ∷ c .before .before .before .before .before .before .before .start-of .result ∷ s .args .time ∷ []) (s .args .numbers .now) i (λ a (z : i < 2 + 3). omega arith) }, record { same = tn .1 .same }),
+          let count = nc ∙ ap (λ (l : List ℕ). min (getD l 1 0) NODES) (bg .1) ∙ counted r W e in
+          let D = tn .0 t k r (rw (bg .0, se, bg .1) (arriving r W e)) count (rw (bg .1) (untaken r W e)) in
+          rw (bg .1) (longer-watches r W e (s .args .time + 1) refl (rw (bg .1, count) at D) (tn .1)),
+      (rw (bg .1) (record { same = λ i h. getD-set-other (begun (s .args .time) (s .args .numbers .now)) 3 i (s .args .time + 1) 0 (λ (z : i ≡ 3). omega arith) ∙ begun-other (s .args .numbers .now) (s .args .time) i (λ (z : i ≡ 2). omega arith) }), record { same = λ i h. tn .1 .same i (λ x y. omega arith) }),
     )
 
 pub take-row-spec : {M : Type 1} → statement M
 take-row-spec =
     tie.close
     (tie.spec
-    slice-read-taken
-    slice-read-start-of
-    start-of-requires
+    begin-requires
+    slice-read-seconds
     seconds-requires
     slice-read-node-count
     node-count-requires
     take-nodes-requires
+    add-numbers
     slice-write-numbers
-    slice-write-numbers-2
-    slice-write-numbers-3
     same-length
     same-length-2
     returns)
