@@ -1,7 +1,7 @@
 -- What a row adds to one node, by its kind. Without window: at every sample the node is worked out from its operands there. With one: the margin at sample 0 takes in right at
 -- the new sample with what left was before it, and what is carried takes in left.
 -- Assumes nothing.
-use mathlib.Core.Path.{_≡_, refl, sym, ap, _∙_}
+use mathlib.Core.Path.{_≡_, refl, sym, _∙_}
 use mathlib.Core.Bool.{Bool, true, false, cond}
 use Prim.Native.Nat.{ℕ, zero, suc, _-_, _≤_, _<_}
 use native.Mathlib.Omega.{arith}

@@ -183,22 +183,24 @@ fn take_point(cells: &mut [i64], newest: i64, margin: i64, k: usize)
 }
 
 // "Not" takes the row.
-fn take_not(cells: &mut [i64], node: Node, k: usize)
-    requires { ⌜ (CELLS ≤ length (now cells)) × (k < NODES) ⌝ }
-    ensures taken { λ _. ⌜ ((numbers values : _) (opening : _) (since : _) → node ≡ node-in numbers k → operator (node .kind) ≡ negated → NodeTakes numbers (now (cells .entry)) (now (cells .exit)) values opening since k) ⌝ }
+fn take_not(numbers: &[u64], cells: &mut [i64], k: usize)
+    requires { ⌜ (NUMBERS ≤ length (now numbers)) × (CELLS ≤ length (now cells)) × (k < NODES) ⌝ }
+    ensures taken { λ _. ⌜ ((values : _) (opening : _) (since : _) → operator (node-in (now (numbers .entry)) k .kind) ≡ negated → NodeTakes (now (numbers .entry)) (now (cells .entry)) (now (cells .exit)) values opening since k) ⌝ }
     ensures beyond { λ _. ⌜ SameBeyond (now (cells .entry)) (now (cells .exit)) ⌝ }
 {
+    let node = node_of(numbers, k);
     let newest = negation_at(cells, node, NEWEST);
     let margin = negation_at(cells, node, MARGIN);
     take_point(cells, newest, margin, k)
 }
 
 // "And" or "or" takes the row.
-fn take_joined(cells: &mut [i64], node: Node, e: Extremum, k: usize)
-    requires { ⌜ (CELLS ≤ length (now cells)) × (k < NODES) ⌝ }
-    ensures taken { λ _. ⌜ ((numbers values : _) (opening : _) (since : _) → node ≡ node-in numbers k → operator (node .kind) ≡ joined e → NodeTakes numbers (now (cells .entry)) (now (cells .exit)) values opening since k) ⌝ }
+fn take_joined(numbers: &[u64], cells: &mut [i64], e: Extremum, k: usize)
+    requires { ⌜ (NUMBERS ≤ length (now numbers)) × (CELLS ≤ length (now cells)) × (k < NODES) ⌝ }
+    ensures taken { λ _. ⌜ ((values : _) (opening : _) (since : _) → operator (node-in (now (numbers .entry)) k .kind) ≡ joined e → NodeTakes (now (numbers .entry)) (now (cells .entry)) (now (cells .exit)) values opening since k) ⌝ }
     ensures beyond { λ _. ⌜ SameBeyond (now (cells .entry)) (now (cells .exit)) ⌝ }
 {
+    let node = node_of(numbers, k);
     let newest = junction_at(cells, node, e, NEWEST);
     let margin = junction_at(cells, node, e, MARGIN);
     take_point(cells, newest, margin, k)
@@ -232,28 +234,30 @@ fn take_timed(
 }
 
 // Until or release takes the row.
-fn take_binary(cells: &mut [i64], node: Node, e: Extremum, opening: bool, since: u64, k: usize)
-    requires { ⌜ (CELLS ≤ length (now cells)) × (k < NODES) × (since ≤ NO-END) ⌝ }
-    ensures taken { λ _. ⌜ ((numbers values : _) → node ≡ node-in numbers k → operator (node .kind) ≡ binary future e → NodeTakes numbers (now (cells .entry)) (now (cells .exit)) values opening since k) ⌝ }
+fn take_binary(numbers: &[u64], cells: &mut [i64], e: Extremum, opening: bool, since: u64, k: usize)
+    requires { ⌜ (NUMBERS ≤ length (now numbers)) × (CELLS ≤ length (now cells)) × (k < NODES) × (since ≤ NO-END) ⌝ }
+    ensures taken { λ _. ⌜ ((values : _) → operator (node-in (now (numbers .entry)) k .kind) ≡ binary future e → NodeTakes (now (numbers .entry)) (now (cells .entry)) (now (cells .exit)) values opening since k) ⌝ }
     ensures beyond { λ _. ⌜ SameBeyond (now (cells .entry)) (now (cells .exit)) ⌝ }
 {
+    let node = node_of(numbers, k);
     let left = operand(cells, node.left, NEWEST);
     let right = operand(cells, node.right, NEWEST);
     take_timed(cells, node, e, left, right, opening, since, k)
 }
 
 // Eventually or always takes the row.
-fn take_unary(cells: &mut [i64], node: Node, e: Extremum, opening: bool, since: u64, k: usize)
-    requires { ⌜ (CELLS ≤ length (now cells)) × (k < NODES) × (since ≤ NO-END) ⌝ }
-    ensures taken { λ _. ⌜ ((numbers values : _) → node ≡ node-in numbers k → operator (node .kind) ≡ unary future e → NodeTakes numbers (now (cells .entry)) (now (cells .exit)) values opening since k) ⌝ }
+fn take_unary(numbers: &[u64], cells: &mut [i64], e: Extremum, opening: bool, since: u64, k: usize)
+    requires { ⌜ (NUMBERS ≤ length (now numbers)) × (CELLS ≤ length (now cells)) × (k < NODES) × (since ≤ NO-END) ⌝ }
+    ensures taken { λ _. ⌜ ((values : _) → operator (node-in (now (numbers .entry)) k .kind) ≡ unary future e → NodeTakes (now (numbers .entry)) (now (cells .entry)) (now (cells .exit)) values opening since k) ⌝ }
     ensures beyond { λ _. ⌜ SameBeyond (now (cells .entry)) (now (cells .exit)) ⌝ }
 {
+    let node = node_of(numbers, k);
     let left = points::over_nothing(logic::dual(e));
     let right = operand(cells, node.left, NEWEST);
     take_timed(cells, node, e, left, right, opening, since, k)
 }
 
-// Node k takes the row. Its kind is asked for here alone, and once, and its other numbers only where they count, because each question costs a row time.
+// Node k takes the row. Its kind is asked for here alone, and once, and its other numbers in the arm that they count in: each question costs a row time.
 fn take_node(
     numbers: &[u64],
     cells: &mut [i64],
@@ -273,41 +277,13 @@ fn take_node(
             let leaf = distance_of(numbers, cells, values, node_of(numbers, k));
             take_leaf(cells, leaf, opening, k)
         }
-        tables::NOT => take_not(cells, node_of(numbers, k), k),
-        tables::AND => take_joined(cells, node_of(numbers, k), Extremum::Smallest, k),
-        tables::OR => take_joined(cells, node_of(numbers, k), Extremum::Largest, k),
-        tables::UNTIL => take_binary(
-            cells,
-            node_of(numbers, k),
-            Extremum::Largest,
-            opening,
-            since,
-            k,
-        ),
-        tables::RELEASE => take_binary(
-            cells,
-            node_of(numbers, k),
-            Extremum::Smallest,
-            opening,
-            since,
-            k,
-        ),
-        tables::EVENTUALLY => take_unary(
-            cells,
-            node_of(numbers, k),
-            Extremum::Largest,
-            opening,
-            since,
-            k,
-        ),
-        _ => take_unary(
-            cells,
-            node_of(numbers, k),
-            Extremum::Smallest,
-            opening,
-            since,
-            k,
-        ),
+        tables::NOT => take_not(numbers, cells, k),
+        tables::AND => take_joined(numbers, cells, Extremum::Smallest, k),
+        tables::OR => take_joined(numbers, cells, Extremum::Largest, k),
+        tables::UNTIL => take_binary(numbers, cells, Extremum::Largest, opening, since, k),
+        tables::RELEASE => take_binary(numbers, cells, Extremum::Smallest, opening, since, k),
+        tables::EVENTUALLY => take_unary(numbers, cells, Extremum::Largest, opening, since, k),
+        _ => take_unary(numbers, cells, Extremum::Smallest, opening, since, k),
     }
 }
 

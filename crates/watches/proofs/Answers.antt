@@ -27,7 +27,7 @@ use Rattle.arrivals.specs.Arrivals.{Row, no-rows, with-row, making-checks, row-
 use Rattle.arrivals.proofs.Fitting.{made}
 use Rattle.watch_cells.specs.State.{NUMBERS, CELLS, held-in}
 use Rattle.watch_cells.proofs.Taken.{cell-is}
-use Rattle.watches.proofs.Stands.{refused-is, kept-is, none-yet}
+use Rattle.watches.proofs.Places.{refused-is, kept-is, none-yet}
 use Rattle.watches.specs.Watches.{Kept, Watches, Roomy, room-check, lent-checks}
 
 -- ---- the slices' lengths

@@ -27,7 +27,7 @@ use Rattle.arrivals.proofs.Growth.{getD-behind}
 use Rattle.arrivals.proofs.Fitting.{fits-none}
 use Rattle.watch_cells.specs.State.{NUMBERS, CELLS, SCALES-AT, RANGES-AT, NODES-AT, HELD-AT}
 use Rattle.watches.specs.Watches.{plan-of, watch-numbers, watch-cells, Watches, SameBehind, put-at, fresh-numbers, fresh-cells}
-use Rattle.watches.proofs.Stands.{length-written, run-of, ends-long, head-at, plan-at, scale-at, range-at, node-number, end-at, cell-at}
+use Rattle.watches.proofs.Places.{length-written, of-node, ends-long, head-at, plan-at, scale-at, range-at, node-number, end-at, cell-at}
 
 module _ {X : Type 0} (at : ℕ) (none : X) (new old : List X) where
   pub length-put : length (put-at at none new old) ≡ length old
@@ -145,7 +145,7 @@ module _ (number : ℕ) (t : Table) (ps : List Predicate) (ks : Scales) (old : L
         ∙ front-at (ends-of ps) ends (pos 0) (omega (arith, ends-long ps hp, wide)) i (omega (arith, ends-long ps hp))
         ∙ sym (end-at t none hp i a)
     | no a ↦
-        let g = run-of i (omega arith) h in
+        let g = of-node i (omega arith) h in
         let z : HELD-AT + (i - HELD-AT) ≡ i = omega arith in
         ap (λ (m : ℕ). getD (fresh-cells ps ends) m (pos 0)) (sym z)
         ∙ fill-in HELD-AT (3 * NODES) (λ j. pos 0) (written (ends-of ps) ends) (i - HELD-AT) (pos 0) (omega arith) (omega (arith, length-written (ends-of ps) ends, wide))

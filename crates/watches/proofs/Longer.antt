@@ -1,16 +1,16 @@
 -- A row that was accepted: what the nodes are told of it is what the longer recording says, and the watch then is one of that recording. The times are all that moves in its numbers.
 -- Assumes nothing.
-use mathlib.Core.Path.{_≡_, refl, sym, ap, _∙_, subst}
+use mathlib.Core.Path.{_≡_, refl, sym, ap, _∙_}
 use mathlib.Core.Bool.{Bool, true, false, _&&_, cond}
 use mathlib.Core.List.{List}
 use Prim.Native.Nat.{ℕ, zero, suc, _+_, _-_, _*_, _≤_, _<_, min}
 use native.Mathlib.Omega.{arith}
-use native.Mathlib.Decide.{decLt, ℕ-discrete}
+use native.Mathlib.Decide.{decLt}
 use lib.Dec.{leb, eqb}
 use lib.ListN.{length, getD, set, length-set}
 use lib.Seq.{getD-set-same, getD-set-other}
 use lib.IntN.{ℤ, pos}
-use borrow.Author.Tests.{eq-eqb, ne-eqb, le-ltb}
+use borrow.Author.Tests.{ne-eqb, le-ltb}
 use Rattle.recordings.specs.declared.Setup.{Setup}
 use Rattle.recordings.specs.Card.{Card, rows, time}
 use Rattle.tables.specs.declared.Table.{Table}
@@ -24,7 +24,7 @@ use Rattle.arrivals.proofs.Fitting.{made, offered, fits-next}
 use Rattle.watch_cells.specs.State.{NUMBERS, CELLS, HELD-AT, cell-of, part-of, Planned}
 use Rattle.watch_cells.specs.Taking.{Arriving, Taking, SameBeyond}
 use Rattle.watches.specs.Watches.{head-of, watch-numbers, watch-cells, Kept, Watches, begun}
-use Rattle.watches.proofs.Stands.{Run, run-of, head-at, plan-at, end-at, cell-at, kept-is, none-yet}
+use Rattle.watches.proofs.Places.{of-node, head-at, plan-at, end-at, cell-at, kept-is, none-yet}
 
 -- what refuses a making looks at no sample
 making-same : (c : Card) (t : Table) (r : Row) → first (making-checks c t) ≡ first (making-checks (with-row c r) t)
@@ -166,7 +166,7 @@ module _ {numbers : List ℕ} {cells : List ℤ} {t : Table} {c : Card} (r : Row
       cells-after i h = elim (decLt i 32) [
         | yes a ↦ B .same i (λ x y. omega arith) ∙ W .cells-are i h ∙ end-at t c (W .predicates-are) i a ∙ sym (end-at t longer (W .predicates-are) i a)
         | no a ↦
-            let g = run-of i (omega arith) h in
+            let g = of-node i (omega arith) h in
             ap (λ (m : ℕ). getD after m (pos 0)) (g .at)
             ∙ held-after (g .part) (g .node) (g .few) (g .small)
             ∙ sym (cell-at t longer (W .predicates-are) (g .part) (g .node) (g .few) (g .small))

@@ -8,6 +8,9 @@ use borrow.Author.Needs.{needs}
 use Rattle.watch_cells.proofs.take_joined.Statement.{statement}
 use Rattle.watch_cells.proofs.take_joined.Tie as tie
 
+node-of-requires : tie.Need-node-of-requires
+node-of-requires c κs = search needs
+
 junction-at-requires : tie.Need-junction-at-requires
 junction-at-requires c κs = search needs
 
@@ -22,16 +25,23 @@ same-length c = search needs
 
 returns : tie.Need-returns
 returns c =
-    let s = c .before .before .before .before .before .before .before in
+    let s = c .before .before .before .before .before .before .before .before .before in
+    let n = c .before .before .before .before .before .before .before .node-of in
     let x = c .before .before .before .before .before .junction-at in
     let y = c .before .before .before .junction-at2 in
-    let few : s .args .k ≤ NODES = omega (arith, s .pre .1) in (
-      λ numbers values opening since n-is e.
-          c .before .take-point .ensures .0 numbers values opening since _ n-is (rw (back-ok (x .result) (x .ok)) (x .ensures (s .args .k) few e)) (rw (back-ok (y .result) (y .ok)) (y .ensures (s .args .k) few e)),
+    let few : s .args .k ≤ NODES = omega (arith, s .pre .2) in (
+      λ values opening since e.
+          c .before .take-point .ensures .0 (s .args .numbers .now) values opening since _ (n .ensures) (rw (back-ok (x .result) (x .ok)) (x .ensures (s .args .k) few (rw (n .ensures) e))) (rw (back-ok (y .result) (y .ok)) (y .ensures (s .args .k) few (rw (n .ensures) e))),
       c .before .take-point .ensures .1,
     )
 
 pub take-joined-spec : {M : Type 1} → statement M
 take-joined-spec =
     tie.close
-    (tie.spec junction-at-requires junction-at-requires-2 take-point-requires same-length returns)
+    (tie.spec
+    node-of-requires
+    junction-at-requires
+    junction-at-requires-2
+    take-point-requires
+    same-length
+    returns)

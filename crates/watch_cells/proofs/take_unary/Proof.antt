@@ -9,6 +9,9 @@ use borrow.Author.Needs.{needs}
 use Rattle.watch_cells.proofs.take_unary.Statement.{statement}
 use Rattle.watch_cells.proofs.take_unary.Tie as tie
 
+node-of-requires : tie.Need-node-of-requires
+node-of-requires c κs = search needs
+
 dual-requires : tie.Need-dual-requires
 dual-requires c κs = search needs
 
@@ -26,12 +29,14 @@ same-length c = search needs
 
 returns : tie.Need-returns
 returns c =
+    let s = c .before .before .before .before .before .before .before .before .before in
+    let n = c .before .before .before .before .before .before .before .node-of in
     let u = c .before .before .before .before .before .before .dual in
     let l = c .before .before .before .before .before .over-nothing in
     let r = c .before .before .before .operand in (
-      λ numbers values n-is e.
-          c .before .take-timed .ensures .0 numbers values n-is
-          (unary-asks e (back-ok (l .result) (l .ok) ∙ l .ensures ∙ ap (margin-nothing TOP) (u .ensures)) (λ h. back-ok (r .result) (r .ok) ∙ r .ensures h)),
+      λ values e.
+          c .before .take-timed .ensures .0 (s .args .numbers .now) values (n .ensures)
+          (unary-asks (rw (n .ensures) e) (back-ok (l .result) (l .ok) ∙ l .ensures ∙ ap (margin-nothing TOP) (u .ensures)) (λ h. back-ok (r .result) (r .ok) ∙ r .ensures h)),
       c .before .take-timed .ensures .1,
     )
 
@@ -39,6 +44,7 @@ pub take-unary-spec : {M : Type 1} → statement M
 take-unary-spec =
     tie.close
     (tie.spec
+    node-of-requires
     dual-requires
     over-nothing-requires
     operand-requires

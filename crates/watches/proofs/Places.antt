@@ -1,10 +1,10 @@
 -- What stands at which place of a watch: each run of numbers behind those before it, each node's cell in its run. So a watch reads back as its table, its setup, its times and
 -- what its nodes are to hold.
 -- Assumes nothing.
-use mathlib.Core.Path.{_≡_, refl, sym, ap, ap₂, _∙_}
+use mathlib.Core.Path.{_≡_, refl, sym, ap, _∙_}
 use mathlib.Core.Bool.{Bool, true, false, cond}
 use mathlib.Core.List.{List, [], _++_, append-nil}
-use Prim.Native.Nat.{ℕ, zero, suc, _+_, _-_, _*_, _≤_, _<_}
+use Prim.Native.Nat.{ℕ, suc, _+_, _-_, _*_, _≤_, _<_}
 use native.Mathlib.Omega.{arith}
 use native.Mathlib.Decide.{decLt}
 use lib.Dec.{eqb}
@@ -14,14 +14,13 @@ use lib.IntN.{ℤ, pos}
 use Rattle.lists.specs.Front.{written}
 use Rattle.lists.proofs.Filled.{rows-in}
 use Rattle.recordings.specs.declared.Predicate.{Predicate}
-use Rattle.recordings.specs.declared.Range.{Range}
 use Rattle.recordings.specs.Card.{Card, rows, predicate-at}
 use Rattle.tables.specs.declared.Table.{Table}
 use Rattle.tables.specs.Tree.{NODES, node-at}
 use Rattle.refusals.specs.First.{first}
 use Rattle.building.specs.Storing.{cells-of}
-use Rattle.building.proofs.Cells.{length-cells, node-back}
-use Rattle.flat.specs.Predicates.{range-from, lo-of, hi-of, ranges-of, ends-of}
+use Rattle.building.proofs.Cells.{node-back}
+use Rattle.flat.specs.Predicates.{lo-of, hi-of, ranges-of, ends-of}
 use Rattle.flat.proofs.Padded.{padded-at}
 use Rattle.flat.proofs.Back.{front-at, length-pairs, predicate-back}
 use Rattle.arrivals.specs.Arrivals.{making-checks}
@@ -34,15 +33,15 @@ unfolding written
 length-written new old = rw (length-append, length-take, length-drop) (omega arith)
 
 -- a place of the nodes' cells is that of some node in some run
-pub record Run (i : ℕ) : Type 0 where
+pub record OfNode (i : ℕ) : Type 0 where
   pub part : ℕ
   pub node : ℕ
   pub few : part < 3
   pub small : node < NODES
   pub at : i ≡ HELD-AT + NODES * part + node
 
-pub run-of : (i : ℕ) → HELD-AT ≤ i → i < CELLS → Run i
-run-of i a b = elim (decLt i 96) [
+pub of-node : (i : ℕ) → HELD-AT ≤ i → i < CELLS → OfNode i
+of-node i a b = elim (decLt i 96) [
   | yes h ↦ record { part = 0; node = i - 32; few = omega arith; small = omega arith; at = omega arith }
   | no h ↦ elim (decLt i 160) [
     | yes l ↦ record { part = 1; node = i - 96; few = omega arith; small = omega arith; at = omega arith }
