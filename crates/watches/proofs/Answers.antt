@@ -26,7 +26,7 @@ use Rattle.margins.specs.Answers.{margin-outcome}
 use Rattle.arrivals.specs.Arrivals.{Row, no-rows, with-row, making-checks, row-checks, offer-refusal, accepted, some-row-check, asked-refusal, margin-so-far}
 use Rattle.arrivals.proofs.Fitting.{made}
 use Rattle.watch_cells.specs.State.{NUMBERS, CELLS, held-in}
-use Rattle.watch_cells.proofs.Taken.{cell-is}
+use Rattle.watch_cells.proofs.Own.{cell-is}
 use Rattle.watches.proofs.Places.{refused-is, kept-is, none-yet}
 use Rattle.watches.specs.Watches.{Kept, Watches, Roomy, room-check, lent-checks}
 

@@ -5,7 +5,8 @@ use Prim.Native.Nat.{ℕ}
 use native.Mathlib.Omega.{arith}
 use lib.ListN.{length-set}
 use Rattle.numbers.proofs.Bits.{back-is}
-use Rattle.watch_cells.proofs.Taken.{only-one, set-same, set-other, two-only, two-first, two-second, two-third, room, beyond-kept, leaf-taken}
+use Rattle.watch_cells.proofs.Own.{only-one, set-same, set-other, two-only, two-first, two-second, two-third, beyond-kept}
+use Rattle.watch_cells.proofs.Taken.{room, leaf-taken}
 use borrow.Author.Needs.{needs}
 use Rattle.watch_cells.proofs.take_leaf.Statement.{statement}
 use Rattle.watch_cells.proofs.take_leaf.Tie as tie

@@ -4,7 +4,8 @@ use mathlib.Core.Path.{_∙_}
 use native.Mathlib.Omega.{arith}
 use lib.ListN.{length-set}
 use Rattle.numbers.proofs.Bits.{back-is}
-use Rattle.watch_cells.proofs.Taken.{two-only, two-first, two-second, two-third, room, beyond-kept, point-taken}
+use Rattle.watch_cells.proofs.Own.{two-only, two-first, two-second, two-third, beyond-kept}
+use Rattle.watch_cells.proofs.Taken.{room, point-taken}
 use borrow.Author.Needs.{needs}
 use Rattle.watch_cells.proofs.take_point.Statement.{statement}
 use Rattle.watch_cells.proofs.take_point.Tie as tie

@@ -7,7 +7,8 @@ use Rattle.numbers.proofs.Bits.{back, back-ok, back-is}
 use Rattle.logic.specs.Formula.{dual}
 use Rattle.logic.specs.Reading.{margin-extreme}
 use Rattle.watch_cells.specs.Taking.{margin-after, newest-of}
-use Rattle.watch_cells.proofs.Taken.{three-only, three-first, three-second, three-third, room, beyond-kept, timed-taken}
+use Rattle.watch_cells.proofs.Own.{three-only, three-first, three-second, three-third, beyond-kept}
+use Rattle.watch_cells.proofs.Taken.{room, timed-taken}
 use borrow.Author.Needs.{needs}
 use Rattle.watch_cells.proofs.take_timed.Statement.{statement}
 use Rattle.watch_cells.proofs.take_timed.Tie as tie
