@@ -28,6 +28,6 @@ carried c e φ = extremum (margins TOP) (dual e) (margin c φ) (rows c)
 abbrev pub next-time : Card → ℕ
 next-time c = cond (eqb (rows c) 0) 0 (suc (last-time c))
 
--- refusal 6 of a row, so asked
+-- refusal 6 of a row, asked by that time alone: equal to `follows`, which speaks of the row before
 abbrev pub in-time : ℕ → ℕ → Bool
 in-time next t = leb next t && leb t LATEST

@@ -73,7 +73,7 @@ fn times_obey(times: &[u64]) -> bool
     rising & early
 }
 
-// It stops at the first value out of range: to look at all of them first cost a row of a few values a tenth, and spared a long recording nothing.
+// It stops at the first value out of range: to look at all of them first is compiled to code for many, which a row of two does not repay.
 pub fn values_obey(values: &[i64]) -> bool
     ensures { λ r. ⌜ r ≡ values-obey (now (values .entry)) ⌝ }
 {

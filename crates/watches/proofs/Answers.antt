@@ -27,7 +27,7 @@ use Rattle.arrivals.specs.Arrivals.{Row, no-rows, with-row, making-checks, row-
 use Rattle.arrivals.proofs.Fitting.{made}
 use Rattle.watch_cells.specs.State.{NUMBERS, CELLS, held-in}
 use Rattle.watch_cells.proofs.Own.{cell-is}
-use Rattle.watches.proofs.Places.{refused-is, kept-is, none-yet}
+use Rattle.watches.proofs.Places.{refused-is, kept-is, no-row-yet}
 use Rattle.watches.specs.Watches.{Kept, Watches, Roomy, room-check, lent-checks}
 
 -- ---- the slices' lengths
@@ -71,14 +71,14 @@ module _ {numbers : List ℕ} {cells : List ℤ} {t : Table} {c : Card} (W : Wat
   pub told-none : getD numbers 0 0 ≡ 0 → getD numbers 3 0 ≡ 0 → margin-outcome (Refused 5) ≡ margin-so-far c t
   unfolding margin-so-far
   told-none e z =
-      let k = none-yet (kept-now e) in
+      let k = no-row-yet (kept-now e) in
       let n : rows c ≡ 0 = eqb→eq (rows c) 0 (subst T (sym (eq-eqb (getD numbers 3 0) 0 z) ∙ k) tt) in
       let f : asked-refusal c t ≡ 5 = first-here (making-checks c t) (some-row-check c) [] tt (making-none e) (lt-leb 1 (rows c) (omega (arith, n))) in
       ap₂ (λ (x : ℕ) (y : ℤ). record { number = x; margin = y }) (sym f) (sym (unless-some _ _ _ (λ (x : asked-refusal c t ≡ 0). omega (arith, f, x))))
 
   some-row : getD numbers 0 0 ≡ 0 → (getD numbers 3 0 ≡ 0 → ⊥) → 1 ≤ rows c
   some-row e h = elim (ℕ-discrete (rows c) 0) [
-    | yes z ↦ absurd (subst T (sym (eq-eqb (rows c) 0 z) ∙ sym (none-yet (kept-now e)) ∙ ne-eqb (getD numbers 3 0) 0 h) tt)
+    | yes z ↦ absurd (subst T (sym (eq-eqb (rows c) 0 z) ∙ sym (no-row-yet (kept-now e)) ∙ ne-eqb (getD numbers 3 0) 0 h) tt)
     | no z ↦ omega arith
   ]
 

@@ -24,7 +24,7 @@ use Rattle.arrivals.proofs.Fitting.{made, offered, fits-next}
 use Rattle.watch_cells.specs.State.{NUMBERS, CELLS, HELD-AT, cell-of, part-of, Planned}
 use Rattle.watch_cells.specs.Taking.{Arriving, Taking, SameBeyond}
 use Rattle.watches.specs.Watches.{head-of, watch-numbers, watch-cells, Kept, Watches, begun}
-use Rattle.watches.proofs.Places.{of-node, head-at, plan-at, end-at, cell-at, kept-is, none-yet}
+use Rattle.watches.proofs.Places.{of-node, head-at, plan-at, end-at, cell-at, kept-is, no-row-yet}
 
 -- what refuses a making looks at no sample
 making-same : (c : Card) (t : Table) (r : Row) → first (making-checks c t) ≡ first (making-checks (with-row c r) t)
@@ -82,7 +82,7 @@ module _ {numbers : List ℕ} {cells : List ℤ} {t : Table} {c : Card} (r : Row
   opened = begun (r .time) numbers
 
   opening-is : eqb (getD numbers 3 0) 0 ≡ eqb (rows c) 0
-  opening-is = none-yet K
+  opening-is = no-row-yet K
 
   -- the first time of the longer recording
   start-is : getD opened 2 0 ≡ time longer 0

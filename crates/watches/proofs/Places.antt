@@ -151,5 +151,5 @@ none-before : (b : Bool) (last : ℕ) → eqb (cond b 0 (suc last)) 0 ≡ b
 none-before true last = refl
 none-before false last = ne-eqb (suc last) 0 (λ (e : suc last ≡ 0). omega arith)
 
-pub none-yet : {numbers : List ℕ} {cells : List ℤ} {t : Table} {c : Card} → Kept numbers cells t c → eqb (getD numbers 3 0) 0 ≡ eqb (rows c) 0
-none-yet {c = c} K = ap (λ (n : ℕ). eqb n 0) (K .clock .next) ∙ none-before (eqb (rows c) 0) _
+pub no-row-yet : {numbers : List ℕ} {cells : List ℤ} {t : Table} {c : Card} → Kept numbers cells t c → eqb (getD numbers 3 0) 0 ≡ eqb (rows c) 0
+no-row-yet {c = c} K = ap (λ (n : ℕ). eqb n 0) (K .clock .next) ∙ none-before (eqb (rows c) 0) _
