@@ -1,18 +1,18 @@
--- Nodes as cells: five numbers to a node, written in one run, and read back as the table of the nodes.
+-- Nodes as cells: each node's numbers written in one run, and read back as the table of the nodes.
 -- Assumes nothing.
-use mathlib.Core.Path.{_≡_, refl, sym}
+use mathlib.Core.Path.{_≡_, refl, sym, _∙_}
 use mathlib.Core.List.{List, [], _∷_, _++_, append-assoc}
 use Prim.Native.Nat.{ℕ, zero, suc, _+_, _-_, _*_, _≤_, _<_}
 use native.Mathlib.Nat.{add-zero}
 use native.Mathlib.Numerals.{towards-suc}
 use native.Mathlib.Omega.{arith}
 use lib.ListN.{length, getD, take, set, replicate, length-append, length-take}
-use lib.Seq.{sets, sets-eq, set-at, take-suc, take-all}
+use lib.Seq.{sets, sets-eq, set-at, take-suc, take-all, getD-append-add}
 use Rattle.tables.specs.declared.Node.{Node}
 use Rattle.tables.specs.Tree.{NODES}
 use Rattle.grammar.specs.Tree.{Tree, truth, predicate, one, two, size}
 use Rattle.building.specs.Nodes.{empty-node, nodes-of}
-use Rattle.building.specs.Storing.{CELLS, cells-of, node-from, nodes-from, WIDTH}
+use Rattle.building.specs.Storing.{CELLS, numbers-of, cells-of, node-read, node-from, nodes-from, WIDTH}
 
 -- ---- counts
 
@@ -47,10 +47,10 @@ pub sets-append : (l : List ℕ) (i : ℕ) (vs ws : List ℕ) → sets l i (vs +
 sets-append l i [] ws = rw add-zero
 sets-append l i (v ∷ vs) ws = let e : i + suc (length vs) ≡ suc i + length vs = omega arith in rw (e, sets-append (set l i v) (suc i) vs ws)
 
--- five stores are one run
-pub sets-five : (l : List ℕ) (i a b c d e : ℕ)
-    → set (set (set (set (set l i a) (i + 1) b) (i + 2) c) (i + 3) d) (i + 4) e ≡ sets l i (a ∷ b ∷ c ∷ d ∷ e ∷ [])
-sets-five l i a b c d e = simp towards-suc
+-- a node's stores are one run
+pub sets-node : (l : List ℕ) (i : ℕ) (x : Node)
+    → set (set (set (set (set l i (x .kind)) (i + 1) (x .left)) (i + 2) (x .right)) (i + 3) (x .span .lo)) (i + 4) (x .span .hi) ≡ sets l i (numbers-of x)
+sets-node l i x = simp towards-suc
 
 -- nodes after nodes
 pub sets-nodes : (l : List ℕ) (o m : ℕ) (xs ys : List Node) → length xs ≡ m
@@ -61,18 +61,27 @@ sets-nodes l o m xs ys e =
 
 -- ---- reading back
 
+-- two places from which the same numbers are read have the same node
+pub read-alike : (a b : List ℕ) (i j : ℕ) → ((f : ℕ) → f < WIDTH → getD a (i + f) 0 ≡ getD b (j + f) 0) → node-read a i ≡ node-read b j
+read-alike a b i j h =
+    let z : getD a i 0 ≡ getD b j 0 = rw (add-zero i, add-zero j) at (h 0 (omega arith)) in
+    rw (z, h 1 (omega arith), h 2 (omega arith), h 3 (omega arith), h 4 (omega arith))
+
+-- a node behind other numbers
+read-behind : (front cells : List ℕ) (at : ℕ) → node-read (front ++ cells) (length front + at) ≡ node-read cells at
+read-behind front cells at =
+    read-alike (front ++ cells) cells (length front + at) at (λ f h.
+    let z : length front + at + f ≡ length front + (at + f) = omega arith in
+    rw z (getD-append-add front cells (at + f) 0))
+
 -- the node at a number of cells that nodes begin
 pub node-back : (xs : List Node) (r : List ℕ) (k : ℕ) → k < length xs → node-from (cells-of xs ++ r) k ≡ getD xs k empty-node
 unfolding cells-of
 node-back [] r k l = absurd (omega arith)
 node-back (x ∷ xs) r zero l = refl
 node-back (x ∷ xs) r (suc k) l =
-    let e : WIDTH * suc k ≡ suc (suc (suc (suc (suc (WIDTH * k))))) = omega arith in
-    let i1 : WIDTH * suc k + 1 ≡ suc (suc (suc (suc (suc (WIDTH * k + 1))))) = omega arith in
-    let i2 : WIDTH * suc k + 2 ≡ suc (suc (suc (suc (suc (WIDTH * k + 2))))) = omega arith in
-    let i3 : WIDTH * suc k + 3 ≡ suc (suc (suc (suc (suc (WIDTH * k + 3))))) = omega arith in
-    let i4 : WIDTH * suc k + 4 ≡ suc (suc (suc (suc (suc (WIDTH * k + 4))))) = omega arith in
-    rw (i1, i2, i3, i4, e) (node-back xs r k (omega arith))
+    let e : WIDTH * suc k ≡ length (numbers-of x) + WIDTH * k = omega arith in
+    rw (e, append-assoc (numbers-of x) (cells-of xs) r) (read-behind (numbers-of x) (cells-of xs ++ r) (WIDTH * k) ∙ node-back xs r k (omega arith))
 
 -- the table of the first n of the nodes
 nodes-back : (xs : List Node) (r : List ℕ) (n : ℕ) → n ≤ length xs → length xs ≤ NODES

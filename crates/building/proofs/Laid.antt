@@ -10,7 +10,7 @@ use lib.Seq.{sets, sets-eq, length-sets, take-suc, take-all, take-at, length-tak
 use borrow.Author.Tests.{lt-leb}
 use Rattle.tables.specs.declared.Node.{Node}
 use Rattle.tables.specs.Tree.{NODES}
-use Rattle.building.specs.Storing.{CELLS, WIDTH, cells-of, pushed-cells}
+use Rattle.building.specs.Storing.{CELLS, WIDTH, numbers-of, cells-of, pushed-cells}
 use Rattle.building.proofs.Cells.{cells-append}
 
 pub record Laid (ns : List Node) (k : ℕ) (l : List ℕ) : Type 0 where
@@ -27,15 +27,15 @@ module _ (ns : List Node) (nodes : length ns ≡ NODES) where
   unfolding cells-of
   laid-next k l r d p h e =
       let x : Node = getD ns k d in
-      let five : List ℕ = x .kind ∷ x .left ∷ x .right ∷ x .lo ∷ x .hi ∷ [] in
-      let s : r ≡ sets l (WIDTH * k) five = e ∙ rw (lt-leb NODES k h) in
-      let z : sets l (WIDTH * k) five ≡ take (WIDTH * k) l ++ five ++ drop (WIDTH * k + 5) l = sets-eq five l (WIDTH * k) (omega (arith, p .long)) in
-      let m : length (take (WIDTH * k) l ++ five) ≡ WIDTH * (k + 1) = length-append (take (WIDTH * k) l) five ∙ rw (length-take-le (WIDTH * k) l (omega (arith, p .long))) (omega arith) in
+      let own : List ℕ = numbers-of x in
+      let s : r ≡ sets l (WIDTH * k) own = e ∙ rw (lt-leb NODES k h) in
+      let z : sets l (WIDTH * k) own ≡ take (WIDTH * k) l ++ own ++ drop (WIDTH * k + WIDTH) l = sets-eq own l (WIDTH * k) (omega (arith, p .long)) in
+      let m : length (take (WIDTH * k) l ++ own) ≡ WIDTH * (k + 1) = length-append (take (WIDTH * k) l) own ∙ rw (length-take-le (WIDTH * k) l (omega (arith, p .long))) (omega arith) in
       record {
         inside = omega arith;
-        long = ap length s ∙ length-sets l (WIDTH * k) five ∙ p .long;
+        long = ap length s ∙ length-sets l (WIDTH * k) own ∙ p .long;
         front =
-            rw (s, z, take-at (take (WIDTH * k) l ++ five) (drop (WIDTH * k + 5) l) (WIDTH * (k + 1)) m, p .front, add-one k, take-suc ns k d (omega arith))
+            rw (s, z, take-at (take (WIDTH * k) l ++ own) (drop (WIDTH * k + WIDTH) l) (WIDTH * (k + 1)) m, p .front, add-one k, take-suc ns k d (omega arith))
             (sym (cells-append (take k ns) (x ∷ [])));
       }
 

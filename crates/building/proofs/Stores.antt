@@ -17,11 +17,11 @@ use Rattle.text.specs.declared.Mark.the-variants.{Next, Bad as Mark·Bad}
 use Rattle.text.specs.declared.Field.the-variants.{Number, Bad as Field·Bad}
 use Rattle.text.proofs.Tests.{by-le}
 use Rattle.tables.specs.declared.Node.{Node}
-use Rattle.tables.specs.Tree.{NODES}
-use Rattle.grammar.specs.declared.Span.{Span}
+use Rattle.tables.specs.Tree.{NODES, no-span}
+use Rattle.tables.specs.declared.Span.{Span}
 use Rattle.tables.specs.Kind.{true-kind, predicate-kind}
 use Rattle.grammar.specs.Operators.{letter}
-use Rattle.grammar.specs.Tree.{Tree, truth, predicate, one, two, size, no-span}
+use Rattle.grammar.specs.Tree.{Tree, truth, predicate, one, two, size}
 use Rattle.grammar.specs.Reading.{Reading, got, none, on-got, closing, leaf-at}
 use Rattle.building.specs.declared.Step.{Step}
 use Rattle.building.specs.declared.Step.the-variants.{Refused}

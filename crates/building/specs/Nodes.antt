@@ -4,14 +4,14 @@ use mathlib.Core.List.{List, [], _∷_, _++_}
 use lib.ListN.{replicate}
 use Rattle.tables.specs.declared.Node.{Node}
 use Rattle.tables.specs.declared.Table.{Table}
-use Rattle.grammar.specs.declared.Span.{Span}
-use Rattle.tables.specs.Tree.{NODES}
+use Rattle.tables.specs.declared.Span.{Span}
+use Rattle.tables.specs.Tree.{NODES, no-span}
 use Rattle.tables.specs.Kind.{true-kind, predicate-kind}
-use Rattle.grammar.specs.Tree.{Tree, truth, predicate, one, two, size, no-span}
+use Rattle.grammar.specs.Tree.{Tree, truth, predicate, one, two, size}
 
 -- a node: kind, children, window
 abbrev pub node : ℕ → ℕ → ℕ → Span → Node
-node k l r w = record { kind = k; left = l; right = r; lo = w .lo; hi = w .hi }
+node k l r w = record { kind = k; left = l; right = r; span = w }
 
 -- all numbers 0
 abbrev pub empty-node : Node

@@ -10,8 +10,8 @@ use Rattle.text.specs.Bytes.{bytes}
 use Rattle.text.specs.Mark.{mark-at, after-mark}
 use Rattle.tables.specs.declared.Node.{Node}
 use Rattle.tables.specs.declared.Table.{Table}
-use Rattle.tables.specs.Tree.{NODES}
-use Rattle.grammar.specs.declared.Span.{Span}
+use Rattle.tables.specs.Tree.{NODES, span}
+use Rattle.tables.specs.declared.Span.{Span}
 use Rattle.grammar.specs.Tree.{size}
 use Rattle.grammar.specs.Reading.{Reading, got, none}
 use Rattle.building.specs.declared.Step.{Step}
@@ -27,7 +27,7 @@ abbrev pub CELLS : ℕ
 CELLS = WIDTH * NODES
 
 abbrev pub numbers-of : Node → List ℕ
-numbers-of x = x .kind ∷ x .left ∷ x .right ∷ x .lo ∷ x .hi ∷ []
+numbers-of x = x .kind ∷ x .left ∷ x .right ∷ x .span .lo ∷ x .span .hi ∷ []
 
 -- the numbers of nodes, one node after the other
 unfoldable pub cells-of : List Node → List ℕ
@@ -83,16 +83,18 @@ join-cells k w left p cells = after-step p (λ at root free. pushed-cells free (
 abbrev pub closed-step : List ℕ → Step → Step
 closed-step s p = after-step p (λ at root free. after-mark (mark-at (bytes ")") s at) (λ n. read-part n root free) Refused) Refused
 
--- the node that cells hold at a number, and the table of the first of them
-abbrev pub node-from : List ℕ → ℕ → Node
-node-from cells k =
+-- the node whose numbers stand from a place on; that of a number; and the table of the first of them
+abbrev pub node-read : List ℕ → ℕ → Node
+node-read cells at =
     record {
-      kind = getD cells (WIDTH * k) 0;
-      left = getD cells (WIDTH * k + 1) 0;
-      right = getD cells (WIDTH * k + 2) 0;
-      lo = getD cells (WIDTH * k + 3) 0;
-      hi = getD cells (WIDTH * k + 4) 0;
+      kind = getD cells at 0;
+      left = getD cells (at + 1) 0;
+      right = getD cells (at + 2) 0;
+      span = span (getD cells (at + 3) 0) (getD cells (at + 4) 0);
     }
+
+abbrev pub node-from : List ℕ → ℕ → Node
+node-from cells k = node-read cells (WIDTH * k)
 
 unfoldable pub nodes-from : List ℕ → ℕ → List Node
 nodes-from cells zero = empty-table .nodes

@@ -4,15 +4,15 @@ use Prim.Native.Nat.{ℕ, _-_}
 use Rattle.tables.specs.declared.Node.{Node}
 use Rattle.tables.specs.declared.Table.{Table}
 use Rattle.tables.specs.Kind.{operator}
-use Rattle.tables.specs.Tree.{node-at, meaning}
+use Rattle.tables.specs.Tree.{node-at, meaning, span}
 use Rattle.tables.specs.Rules.{Use, child, number, unused, left-use, right-use}
-use Rattle.grammar.specs.Tree.{Tree, truth, predicate, one, two, span}
+use Rattle.grammar.specs.Tree.{Tree, truth, predicate, one, two}
 
 -- a node over the trees of its children, by what its left and right number are
 abbrev pub tree-by : Use → Use → Node → (ℕ → Tree) → Tree
-tree-by child child n tree = two (n .kind) (span (n .lo) (n .hi)) (tree (n .left)) (tree (n .right))
-tree-by child number n tree = one (n .kind) (span (n .lo) (n .hi)) (tree (n .left))
-tree-by child unused n tree = one (n .kind) (span (n .lo) (n .hi)) (tree (n .left))
+tree-by child child n tree = two (n .kind) (n .span) (tree (n .left)) (tree (n .right))
+tree-by child number n tree = one (n .kind) (n .span) (tree (n .left))
+tree-by child unused n tree = one (n .kind) (n .span) (tree (n .left))
 tree-by number right n tree = predicate (n .left)
 tree-by unused right n tree = truth
 

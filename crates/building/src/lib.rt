@@ -1,14 +1,14 @@
 // Where a requirement's nodes are kept while they are read: five cells a node, so that a deep text costs no copy of the table.
-use grammar::Span;
 use tables::Node;
+use tables::Span;
 use tables::Table;
 use text::Field;
 use text::Mark;
 ghost use mathlib.Core.Path.{_≡_};
 ghost use Prim.Native.Nat.{_<_};
 ghost use Rattle.grammar.specs.Reading.{leaf-at};
-ghost use Rattle.tables.specs.Tree.{NODES};
-ghost use Rattle.building.specs.Nodes.{empty-table};
+ghost use Rattle.tables.specs.Tree.{NODES, no-span};
+ghost use Rattle.building.specs.Nodes.{node, empty-table};
 ghost use Rattle.building.specs.Storing.{cells-of, step-of, leaf-cells, pushed-step, pushed-cells, parent-step, wrap-cells, join-cells, closed-step, node-from, table-from};
 
 // A node has so many numbers.
@@ -42,8 +42,8 @@ pub fn push(at: usize, free: usize, x: Node, cells: &mut [u64; CELLS]) -> Step
     cells[first] = x.kind;
     cells[first + 1] = x.left as u64;
     cells[first + 2] = x.right as u64;
-    cells[first + 3] = x.lo;
-    cells[first + 4] = x.hi;
+    cells[first + 3] = x.span.lo;
+    cells[first + 4] = x.span.hi;
     Step::Read(Part {
         end: at,
         root: free,
@@ -63,8 +63,7 @@ pub fn wrap(kind: u64, span: Span, inner: Step, cells: &mut [u64; CELLS]) -> Ste
         kind: kind,
         left: part.root,
         right: 0,
-        lo: span.lo,
-        hi: span.hi,
+        span: span,
     };
     push(part.end, part.free, x, cells)
 }
@@ -81,8 +80,7 @@ pub fn join(kind: u64, span: Span, left: usize, inner: Step, cells: &mut [u64; C
         kind: kind,
         left: left,
         right: part.root,
-        lo: span.lo,
-        hi: span.hi,
+        span: span,
     };
     push(part.end, part.free, x, cells)
 }
@@ -104,17 +102,23 @@ pub fn close(s: &[u8], inner: Step) -> Step
     })
 }
 
+// A node without children and window: a predicate's number stands in left.
+fn leaf(kind: u64, number: usize) -> Node
+    ensures { λ r. ⌜ r ≡ node kind number 0 no-span ⌝ }
+{
+    Node {
+        kind: kind,
+        left: number,
+        right: 0,
+        span: tables::no_span(),
+    }
+}
+
+// The empty table: no node, and all numbers 0.
 pub fn empty_table() -> Table
     ensures { λ r. ⌜ r ≡ empty-table ⌝ }
 {
-    let none = Node {
-        kind: 0,
-        left: 0,
-        right: 0,
-        lo: 0,
-        hi: 0,
-    };
-    let nodes = [none; tables::NODES];
+    let nodes = [leaf(0, 0); tables::NODES];
     Table {
         nodes: nodes,
         count: 0,
@@ -131,8 +135,10 @@ pub fn node_at(cells: &[u64; CELLS], k: usize) -> Node
         kind: cells[first],
         left: cells[first + 1] as usize,
         right: cells[first + 2] as usize,
-        lo: cells[first + 3],
-        hi: cells[first + 4],
+        span: Span {
+            lo: cells[first + 3],
+            hi: cells[first + 4],
+        },
     }
 }
 
@@ -169,24 +175,10 @@ pub fn read_leaf(s: &[u8], at: usize, free: usize, cells: &mut [u64; CELLS]) -> 
     ensures cells { λ r. ⌜ now (cells .exit) ≡ leaf-cells free (leaf-at (now (s .entry)) at) (now (cells .entry)) ⌝ }
 {
     if let Mark::Next(next) = operators::read_letter(s, at, tables::TRUE) {
-        let x = Node {
-            kind: tables::TRUE,
-            left: 0,
-            right: 0,
-            lo: 0,
-            hi: 0,
-        };
-        return push(next, free, x, cells);
+        return push(next, free, leaf(tables::TRUE, 0), cells);
     }
     let Field::Number(value, next) = text::read_field(s, at, b"p", 15) else {
         return Step::Refused;
     };
-    let x = Node {
-        kind: tables::PREDICATE,
-        left: value as usize,
-        right: 0,
-        lo: 0,
-        hi: 0,
-    };
-    push(next, free, x, cells)
+    push(next, free, leaf(tables::PREDICATE, value as usize), cells)
 }

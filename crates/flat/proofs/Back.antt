@@ -18,7 +18,7 @@ use Rattle.tables.specs.declared.Node.{Node}
 use Rattle.recordings.specs.Card.{unset-predicate as none}
 use Rattle.predicate_lines.specs.Form.{unset}
 use Rattle.building.specs.Nodes.{empty-node}
-use Rattle.building.specs.Storing.{cells-of, nodes-from}
+use Rattle.building.specs.Storing.{WIDTH, CELLS, cells-of, nodes-from}
 use Rattle.building.proofs.Cells.{zeros, length-cells, cells-append, table-back}
 use Rattle.lists.specs.Front.{written}
 use Rattle.flat.specs.Tables.{table-from}
@@ -92,10 +92,10 @@ places-back ps l old r k h =
 
 -- ---- tables
 
-no-cells : (n : ℕ) → cells-of (replicate n empty-node) ≡ replicate (5 * n) 0
+no-cells : (n : ℕ) → cells-of (replicate n empty-node) ≡ replicate (WIDTH * n) 0
 unfolding cells-of
 no-cells zero = refl
-no-cells (suc n) = let e : 5 * suc n ≡ suc (suc (suc (suc (suc (5 * n))))) = omega arith in rw (e, no-cells n)
+no-cells (suc n) = let e : WIDTH * suc n ≡ WIDTH + WIDTH * n = omega arith in rw (e, no-cells n) (replicate-append-replicate WIDTH (WIDTH * n) 0)
 
 module _ (xs : List Node) (few : length xs ≤ 64) where
   abbrev whole : List Node
@@ -104,16 +104,16 @@ module _ (xs : List Node) (few : length xs ≤ 64) where
   whole-cells : cells-of whole ≡ sets zeros 0 (cells-of xs)
   whole-cells =
       let n = length xs in
-      let l : length (cells-of xs) ≡ 5 * n = length-cells xs in
-      let s : 5 * n + 5 * (64 - n) ≡ 320 = omega arith in
-      let z : zeros ≡ replicate (5 * n) 0 ++ replicate (5 * (64 - n)) 0 = rw replicate-append-replicate (ap (λ (k : ℕ). replicate k 0) (sym s)) in
-      let d : drop (5 * n) zeros ≡ replicate (5 * (64 - n)) 0 = ap (drop (5 * n)) z ∙ drop-at (replicate (5 * n) 0) (replicate (5 * (64 - n)) 0) (5 * n) (length-replicate (5 * n) 0) in
-      cells-append xs (replicate (64 - n) empty-node) ∙ rw (no-cells (64 - n), sets-eq (cells-of xs) zeros 0 (omega (arith, length-replicate {A = ℕ} 320 0)), l, zero-add, d)
+      let l : length (cells-of xs) ≡ WIDTH * n = length-cells xs in
+      let s : WIDTH * n + WIDTH * (64 - n) ≡ CELLS = omega arith in
+      let z : zeros ≡ replicate (WIDTH * n) 0 ++ replicate (WIDTH * (64 - n)) 0 = rw replicate-append-replicate (ap (λ (k : ℕ). replicate k 0) (sym s)) in
+      let d : drop (WIDTH * n) zeros ≡ replicate (WIDTH * (64 - n)) 0 = ap (drop (WIDTH * n)) z ∙ drop-at (replicate (WIDTH * n) 0) (replicate (WIDTH * (64 - n)) 0) (WIDTH * n) (length-replicate (WIDTH * n) 0) in
+      cells-append xs (replicate (64 - n) empty-node) ∙ rw (no-cells (64 - n), sets-eq (cells-of xs) zeros 0 (omega (arith, length-replicate {A = ℕ} CELLS 0)), l, zero-add, d)
 
   -- a table that was written is the table read
-  pub table-read-back : (old : List ℕ) → 320 ≤ length old → table-from (written (cells-of whole) old) (length xs) ≡ record { nodes = whole; count = length xs }
+  pub table-read-back : (old : List ℕ) → CELLS ≤ length old → table-from (written (cells-of whole) old) (length xs) ≡ record { nodes = whole; count = length xs }
   unfolding table-from
   table-read-back old r =
-      let c : length (cells-of whole) ≡ 320 = length-cells whole ∙ rw (length-append xs, length-replicate (64 - length xs) empty-node) (omega arith) in
-      let a : nodes-from (written (cells-of whole) old) (length xs) ≡ nodes-from (cells-of whole) (length xs) = same-nodes (written (cells-of whole) old) (cells-of whole) 320 (λ j h. front-at (cells-of whole) old 0 (omega arith) j (omega arith)) (length xs) (omega arith) in
+      let c : length (cells-of whole) ≡ CELLS = length-cells whole ∙ rw (length-append xs, length-replicate (64 - length xs) empty-node) (omega arith) in
+      let a : nodes-from (written (cells-of whole) old) (length xs) ≡ nodes-from (cells-of whole) (length xs) = same-nodes (written (cells-of whole) old) (cells-of whole) CELLS (λ j h. front-at (cells-of whole) old 0 (omega arith) j (omega arith)) (length xs) (omega arith) in
       rw (le-leb (length xs) 64 few, a ∙ ap (λ (cs : List ℕ). nodes-from cs (length xs)) whole-cells ∙ table-back xs few)

@@ -15,7 +15,8 @@ use Rattle.text.proofs.Places.{after-bytes}
 use Rattle.text.proofs.Answers.{mark-made, mark-first, field-made}
 use Rattle.tables.specs.Kind.{true-kind, predicate-kind, not-kind, and-kind, or-kind}
 use Rattle.grammar.specs.Operators.{letters, letter, binders, prefixes}
-use Rattle.grammar.specs.Tree.{Tree, two, no-span}
+use Rattle.tables.specs.Tree.{no-span}
+use Rattle.grammar.specs.Tree.{Tree, two}
 use Rattle.grammar.specs.declared.Part.{Part}
 use Rattle.grammar.specs.declared.Part.the-variants.{Alternative as alternative, Conjunction as conjunction, Bind as bind, Unary as unary}
 use Rattle.grammar.specs.Grammar.{Derives, alternative-one, alternative-more, conjunction-one, conjunction-more, bind-one, bind-two, unary-not, unary-timed, unary-true, unary-predicate, unary-group}

@@ -12,12 +12,13 @@ use Rattle.text.specs.declared.Mark.{Mark}
 use Rattle.text.specs.declared.Mark.the-variants.{Next, Bad as Mark·Bad}
 use Rattle.text.proofs.Places.{Between, between-both}
 use Rattle.text.proofs.Answers.{mark-is, field-is, past-mark, past-number}
-use Rattle.grammar.specs.declared.Span.{Span}
+use Rattle.tables.specs.declared.Span.{Span}
 use Rattle.grammar.specs.declared.Operator.{Operator}
 use Rattle.grammar.specs.declared.Operator.the-variants.{Absent, Over, Bad as Operator·Bad}
 use Rattle.tables.specs.Kind.{true-kind, predicate-kind, not-kind, and-kind, or-kind}
 use Rattle.grammar.specs.Operators.{letter, binders, prefixes}
-use Rattle.grammar.specs.Tree.{Tree, truth, predicate, one, two, no-span}
+use Rattle.tables.specs.Tree.{no-span}
+use Rattle.grammar.specs.Tree.{Tree, truth, predicate, one, two}
 use Rattle.grammar.specs.declared.Part.{Part}
 use Rattle.grammar.specs.declared.Part.the-variants.{Alternative as alternative, Conjunction as conjunction, Bind as bind, Unary as unary}
 use Rattle.grammar.specs.Grammar.{Derives, alternative-one, alternative-more, conjunction-one, conjunction-more, bind-one, bind-two, unary-not, unary-timed, unary-true, unary-predicate, unary-group}

@@ -10,7 +10,8 @@ use Rattle.text.specs.declared.Mark.{Mark}
 use Rattle.text.specs.declared.Mark.the-variants.{Next, Bad as Mark·Bad}
 use Rattle.text.proofs.Answers.{mark-is}
 use Rattle.grammar.specs.Operators.{letter}
-use Rattle.grammar.specs.Tree.{Tree, two, no-span}
+use Rattle.tables.specs.Tree.{no-span}
+use Rattle.grammar.specs.Tree.{Tree, two}
 use Rattle.grammar.specs.Reading.{Reading, got, none, on-got, Reads, more-turns, more}
 
 -- a part of the grammar that never goes back

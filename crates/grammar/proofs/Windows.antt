@@ -20,13 +20,12 @@ use Rattle.text.proofs.Places.{Between, between-both, after-bytes}
 use Rattle.text.proofs.Digits.{digit-range}
 use Rattle.text.proofs.Numerals.{Numbered, number-is, number-made, numeral-begins}
 use Rattle.text.proofs.Answers.{mark-is, mark-made, mark-first, field-is, field-made, past-mark, past-number}
-use Rattle.grammar.specs.declared.Span.{Span}
+use Rattle.tables.specs.declared.Span.{Span}
 use Rattle.grammar.specs.declared.Window.{Window}
 use Rattle.grammar.specs.declared.Window.the-variants.{Ends, Bad as Window·Bad}
 use Rattle.grammar.specs.declared.Operator.the-variants.{Absent, Over}
 use Rattle.grammar.specs.Operators.{letters, letter, _∈_}
-use Rattle.tables.specs.Tree.{LONGEST, NO-END}
-use Rattle.grammar.specs.Tree.{span}
+use Rattle.tables.specs.Tree.{LONGEST, NO-END, span}
 use Rattle.grammar.specs.Grammar.{WindowText, closed, endless}
 use Rattle.grammar.specs.Reading.{window-at, over-window, timed-at, or-else, timed-among}
 use Rattle.grammar.proofs.Letters.{letter-one, all-in, lettered, none-of}

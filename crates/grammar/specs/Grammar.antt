@@ -3,13 +3,13 @@ use Prim.Native.Nat.{ℕ, suc, _≤_}
 use mathlib.Core.List.{List, _++_}
 use Rattle.text.specs.Bytes.{bytes}
 use Rattle.text.specs.Numeral.{Numeral}
-use Rattle.grammar.specs.declared.Span.{Span}
+use Rattle.tables.specs.declared.Span.{Span}
 use Rattle.grammar.specs.declared.Part.{Part}
 use Rattle.grammar.specs.declared.Part.the-variants.{Alternative as alternative, Conjunction as conjunction, Bind as bind, Unary as unary}
 use Rattle.tables.specs.Kind.{true-kind, predicate-kind, not-kind, and-kind, or-kind}
 use Rattle.grammar.specs.Operators.{letter, binders, prefixes, _∈_}
-use Rattle.tables.specs.Tree.{NODES, LONGEST, NO-END}
-use Rattle.grammar.specs.Tree.{Tree, truth, predicate, one, two, size, span, no-span}
+use Rattle.tables.specs.Tree.{NODES, LONGEST, NO-END, span, no-span}
+use Rattle.grammar.specs.Tree.{Tree, truth, predicate, one, two, size}
 
 -- a window is `[lo,hi]`, hi perhaps `*`; the ends obey the table's limits
 pub data WindowText : List ℕ → Span → Type 0 where

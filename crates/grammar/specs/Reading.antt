@@ -13,9 +13,9 @@ use Rattle.grammar.specs.declared.Operator.{Operator}
 use Rattle.grammar.specs.declared.Operator.the-variants.{Absent, Over, Bad as Operator·Bad}
 use Rattle.tables.specs.Kind.{true-kind, predicate-kind, not-kind, and-kind, or-kind}
 use Rattle.grammar.specs.Operators.{letter, binders, prefixes}
-use Rattle.tables.specs.Tree.{NODES, LONGEST, NO-END}
+use Rattle.tables.specs.Tree.{NODES, LONGEST, NO-END, span, no-span}
 use Rattle.grammar.specs.Grammar.{ENCLOSINGS}
-use Rattle.grammar.specs.Tree.{Tree, truth, predicate, one, two, size, span, no-span}
+use Rattle.grammar.specs.Tree.{Tree, truth, predicate, one, two, size}
 
 -- a window: `[lo,hi]` or `[lo,*]`
 unfoldable pub window-at : List ℕ → ℕ → Window

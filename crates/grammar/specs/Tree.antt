@@ -1,13 +1,6 @@
 -- Requirements as trees: what a text says, before its nodes have numbers.
 use Prim.Native.Nat.{ℕ, _+_}
-use Rattle.grammar.specs.declared.Span.{Span}
-
--- a window's ends, and those of a kind without a window
-abbrev pub span : ℕ → ℕ → Span
-span lo hi = record { lo = lo; hi = hi }
-
-abbrev pub no-span : Span
-no-span = span 0 0
+use Rattle.tables.specs.declared.Span.{Span}
 
 -- true, a predicate, or a kind with its window over one or two requirements
 pub data Tree : Type 0 where

@@ -1,10 +1,6 @@
 // What the pieces of a requirement text are, before they are put together: windows and the operators that carry one; and the grammar's parts.
 
-// A window's two ends. Kinds without a window have both at 0.
-pub struct Span {
-    pub lo: u64,
-    pub hi: u64,
-}
+use tables::Span;
 
 // A window and the place after it.
 pub enum Window {

@@ -1,7 +1,7 @@
 // The pieces of a requirement text that hold no other requirement: letters, windows and operators.
 use grammar::Operator;
-use grammar::Span;
 use grammar::Window;
+use tables::Span;
 use text::Field;
 use text::Mark;
 ghost use mathlib.Core.Path.{_≡_};
@@ -113,7 +113,7 @@ pub fn read_prefix(s: &[u8], at: usize) -> Operator
     ensures { λ r. ⌜ r ≡ prefix-at (now (s .entry)) at ⌝ }
 {
     if let Mark::Next(next) = read_letter(s, at, tables::NOT) {
-        return Operator::Over(tables::NOT, Span { lo: 0, hi: 0 }, next);
+        return Operator::Over(tables::NOT, tables::no_span(), next);
     }
     or_else(
         read_timed(s, at, tables::EVENTUALLY),

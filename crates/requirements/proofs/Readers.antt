@@ -10,13 +10,13 @@ use Rattle.text.specs.Mark.{mark-at, after-mark}
 use Rattle.text.specs.declared.Mark.{Mark}
 use Rattle.text.specs.declared.Mark.the-variants.{Next, Bad as Mark·Bad}
 use Rattle.text.proofs.Answers.{mark-is}
-use Rattle.tables.specs.Tree.{NODES}
-use Rattle.grammar.specs.declared.Span.{Span}
+use Rattle.tables.specs.Tree.{NODES, no-span}
+use Rattle.tables.specs.declared.Span.{Span}
 use Rattle.grammar.specs.declared.Operator.{Operator}
 use Rattle.grammar.specs.declared.Operator.the-variants.{Absent, Over, Bad as Operator·Bad}
 use Rattle.tables.specs.Kind.{not-kind}
 use Rattle.grammar.specs.Operators.{letter, binders, prefixes}
-use Rattle.grammar.specs.Tree.{Tree, two, size, no-span}
+use Rattle.grammar.specs.Tree.{Tree, two, size}
 use Rattle.grammar.specs.Reading.{Reading, got, none, on-got, Reads, leaf-at, prefix-at, binder-at, timed-among, more-turns, more, bind-by, closing, unary-by, unary-at, bind-at, conjunction-at, alternative-at}
 use Rattle.grammar.proofs.Windows.{timed-is}
 use Rattle.grammar.proofs.Turns.{Onward, more-none, more-over, more-turn}

@@ -14,12 +14,12 @@ use borrow.Author.Tests.{ltb-true}
 use Rattle.text.proofs.Tests.{false-true, both, by-le}
 use Rattle.tables.specs.declared.Node.{Node}
 use Rattle.tables.specs.Kind.{kinds, operator, true-kind, predicate-kind}
-use Rattle.tables.specs.Tree.{node-at, NODES}
+use Rattle.tables.specs.Tree.{node-at, NODES, no-span}
 use Rattle.tables.specs.Rules.{Use, child, number, unused, is-child, left-use, right-use, timed, Used, WindowRules, EndsRules, NodeRules, TableRules, table-obeys}
 use Rattle.tables.proofs.Rules.{child-is, table-passes}
-use Rattle.grammar.specs.declared.Span.{Span}
+use Rattle.tables.specs.declared.Span.{Span}
 use Rattle.grammar.specs.Operators.{binders, prefixes, _∈_}
-use Rattle.grammar.specs.Tree.{Tree, truth, predicate, one, two, size, no-span}
+use Rattle.grammar.specs.Tree.{Tree, truth, predicate, one, two, size}
 use Rattle.grammar.specs.declared.Part.{Part}
 use Rattle.grammar.specs.Grammar.{WindowText, closed, endless, Derives, alternative-one, alternative-more, conjunction-one, conjunction-more, bind-one, bind-two, unary-not, unary-timed, unary-true, unary-predicate, unary-group, Requires}
 use Rattle.grammar.proofs.Letters.{all-in}
@@ -35,7 +35,7 @@ pub record KindRules (k : ℕ) (right : Use) (w : Span) : Type 0 where
   pub known : k < length kinds
   pub lefts : left-use (operator k) ≡ child
   pub rights : right-use (operator k) ≡ right
-  pub ends : EndsRules (timed (operator k)) (w .lo) (w .hi)
+  pub ends : EndsRules (timed (operator k)) w
 
 abbrev pub Proper : Tree → Type 0
 Proper truth = Unit {0}
@@ -43,7 +43,7 @@ Proper (predicate p) = p ≤ 15
 Proper (one k w a) = KindRules k unused w × Proper a
 Proper (two k w a b) = KindRules k child w × Proper a × Proper b
 
-window-ends : {x : List ℕ} {r : Span} → WindowText x r → WindowRules (r .lo) (r .hi)
+window-ends : {x : List ℕ} {r : Span} → WindowText x r → WindowRules r
 window-ends (closed a b l m) = record { low = omega arith; high = inr (m, l) }
 window-ends (endless a l) = record { low = l; high = inl refl }
 
@@ -62,7 +62,7 @@ unused-is child e = absurd (false-true e)
 unused-is number e = absurd (false-true e)
 unused-is unused e = refl
 
-suits-rules : (test : Use → Bool) (right : Use) → ((u : Use) → test u ≡ true → u ≡ right) → (k : ℕ) {w : Span} → suits test k ≡ true → WindowRules (w .lo) (w .hi) → KindRules k right w
+suits-rules : (test : Use → Bool) (right : Use) → ((u : Use) → test u ≡ true → u ≡ right) → (k : ℕ) {w : Span} → suits test k ≡ true → WindowRules w → KindRules k right w
 unfolding suits
 suits-rules test right is k e r =
     let a = both (ltb k (length kinds)) _ e in
@@ -71,11 +71,11 @@ suits-rules test right is k e r =
     record { known = ltb-true k (length kinds) (a .0); lefts = child-is _ (b .0); rights = is _ (c .0); ends = rw (c .1) r }
 
 -- the tests of all binders and of all prefixes are computed
-binder-rules : {k : ℕ} {w : Span} → k ∈ binders → WindowRules (w .lo) (w .hi) → KindRules k child w
+binder-rules : {k : ℕ} {w : Span} → k ∈ binders → WindowRules w → KindRules k child w
 unfolding suits
 binder-rules {k} m r = suits-rules is-child child child-is k (all-in (suits is-child) m refl) r
 
-prefix-rules : {k : ℕ} {w : Span} → k ∈ prefixes → WindowRules (w .lo) (w .hi) → KindRules k unused w
+prefix-rules : {k : ℕ} {w : Span} → k ∈ prefixes → WindowRules w → KindRules k unused w
 unfolding suits is-unused
 prefix-rules {k} m r = suits-rules is-unused unused unused-is k (all-in (suits is-unused) m refl) r
 
@@ -83,12 +83,12 @@ prefix-rules {k} m r = suits-rules is-unused unused unused-is k (all-in (suits i
 
 pub derives-proper : {p : Part} {d : ℕ} {w : List ℕ} {a : Tree} → Derives p d w a → Proper a
 derives-proper (alternative-one x) = derives-proper x
-derives-proper (alternative-more x y) = (record { known = omega arith; lefts = refl; rights = refl; ends = (refl, refl) }, derives-proper x, derives-proper y)
+derives-proper (alternative-more x y) = (record { known = omega arith; lefts = refl; rights = refl; ends = refl }, derives-proper x, derives-proper y)
 derives-proper (conjunction-one x) = derives-proper x
-derives-proper (conjunction-more x y) = (record { known = omega arith; lefts = refl; rights = refl; ends = (refl, refl) }, derives-proper x, derives-proper y)
+derives-proper (conjunction-more x y) = (record { known = omega arith; lefts = refl; rights = refl; ends = refl }, derives-proper x, derives-proper y)
 derives-proper (bind-one x) = derives-proper x
 derives-proper (bind-two x m v y) = (binder-rules m (window-ends v), derives-proper x, derives-proper y)
-derives-proper (unary-not x) = (record { known = omega arith; lefts = refl; rights = refl; ends = (refl, refl) }, derives-proper x)
+derives-proper (unary-not x) = (record { known = omega arith; lefts = refl; rights = refl; ends = refl }, derives-proper x)
 derives-proper (unary-timed m v x) = (prefix-rules m (window-ends v), derives-proper x)
 derives-proper unary-true = tt
 derives-proper (unary-predicate n l) = l
@@ -141,8 +141,8 @@ used-as : {u v : Use} (k x : ℕ) → u ≡ v → Used v k x → Used u k x
 used-as {u} {v} k x e h = subst (λ (y : Use). Used y k x) (sym e) h
 
 pub made-rules : (o : ℕ) (a : Tree) → Proper a → Made NodeRules o a
-made-rules o truth p = record { known = omega arith; left = refl; right = refl; ends = (refl, refl) }
-made-rules o (predicate q) p = record { known = omega arith; left = p; right = refl; ends = (refl, refl) }
+made-rules o truth p = record { known = omega arith; left = refl; right = refl; ends = refl }
+made-rules o (predicate q) p = record { known = omega arith; left = p; right = refl; ends = refl }
 made-rules o (one k w a) p =
     let s = size-some a in
     (made-rules o a (p .1), record { known = p .0 .known; left = used-as _ _ (p .0 .lefts) (omega arith); right = used-as _ _ (p .0 .rights) refl; ends = p .0 .ends })

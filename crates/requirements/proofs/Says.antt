@@ -10,9 +10,9 @@ use lib.ListN.{length, getD, replicate, length-append, List·getD-append}
 use lib.Seq.{getD-append-add}
 use Rattle.tables.specs.declared.Node.{Node}
 use Rattle.tables.specs.Kind.{true-kind, predicate-kind}
-use Rattle.tables.specs.Tree.{node-at, root, NODES}
+use Rattle.tables.specs.Tree.{node-at, root, NODES, no-span}
 use Rattle.tables.specs.Rules.{NodeRules}
-use Rattle.grammar.specs.Tree.{Tree, truth, predicate, one, two, size, no-span}
+use Rattle.grammar.specs.Tree.{Tree, truth, predicate, one, two, size}
 use Rattle.grammar.specs.Grammar.{Requires}
 use Rattle.building.specs.Nodes.{node, empty-node, nodes-of, table-of}
 use Rattle.building.specs.Unshared.{node-tree, unshared, tree-of}

@@ -4,8 +4,8 @@ use Prim.Native.String.{String}
 use mathlib.Core.List.{List, [], _∷_, _++_}
 use Rattle.text.specs.Bytes.{bytes}
 use Rattle.tables.specs.Kind.{not-kind, and-kind, or-kind, until-kind, release-kind, eventually-kind, always-kind}
-use Rattle.tables.specs.Tree.{NO-END}
-use Rattle.grammar.specs.Tree.{Tree, truth, predicate, one, two, span, no-span}
+use Rattle.tables.specs.Tree.{NO-END, span, no-span}
+use Rattle.grammar.specs.Tree.{Tree, truth, predicate, one, two}
 use Rattle.requirements.specs.declared.Requirement.{Requirement}
 use Rattle.requirements.specs.Requirement.{accepted, refused}
 

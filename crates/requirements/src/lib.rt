@@ -2,7 +2,7 @@
 // alternative, conjunction, bind and unary are the grammar's parts; each reader keeps the nodes of its part from the next free number on.
 use building::Step;
 use grammar::Operator;
-use grammar::Span;
+use tables::Span;
 use tables::Table;
 use text::Mark;
 ghost use mathlib.Core.Path.{_≡_};

@@ -11,11 +11,12 @@ use Rattle.text.specs.Bytes.{bytes}
 use Rattle.text.proofs.Tests.{by-test}
 use Rattle.tables.specs.Rules.{child, unused}
 use Rattle.printing.proofs.Numerals.{decimal-numeral}
-use Rattle.grammar.specs.declared.Span.{Span}
+use Rattle.tables.specs.declared.Span.{Span}
 use Rattle.grammar.specs.declared.Part.{Part}
 use Rattle.grammar.specs.declared.Part.the-variants.{Alternative as alternative, Conjunction as conjunction, Bind as bind, Unary as unary}
 use Rattle.grammar.specs.Operators.{letter}
-use Rattle.grammar.specs.Tree.{Tree, truth, predicate, one, two, no-span}
+use Rattle.tables.specs.Tree.{no-span}
+use Rattle.grammar.specs.Tree.{Tree, truth, predicate, one, two}
 use Rattle.grammar.specs.Grammar.{Derives, alternative-one, alternative-more, conjunction-one, conjunction-more, bind-one, bind-two, unary-not, unary-timed, unary-true, unary-predicate, unary-group}
 use Rattle.requirements.proofs.Rules.{KindRules, Proper}
 use Rattle.spelling.specs.Text.{part-of, left-part, right-part, rank, stands-as, grouped, window-text, sign, text-as}

@@ -10,7 +10,7 @@ use Rattle.tables.specs.Kind.{operator}
 use Rattle.tables.specs.Rules.{timed, EndsRules}
 use Rattle.tables.specs.Tree.{NODES}
 use Rattle.printing.proofs.Lengths.{decimal-ten}
-use Rattle.grammar.specs.declared.Span.{Span}
+use Rattle.tables.specs.declared.Span.{Span}
 use Rattle.grammar.specs.declared.Part.{Part}
 use Rattle.grammar.specs.declared.Part.the-variants.{Alternative as alternative, Unary as unary}
 use Rattle.grammar.specs.Tree.{Tree, truth, predicate, one, two, size}
@@ -45,11 +45,11 @@ text-read a r = answer-complete (text-of a) a r
 
 -- ---- the length
 
-window-short : (t : Bool) (w : Span) → EndsRules t (w .lo) (w .hi) → length (window-text t w) ≤ 23
+window-short : (t : Bool) (w : Span) → EndsRules t w → length (window-text t w) ≤ 23
 window-short true w e = window-long w e
 window-short false w e = omega arith
 
-sign-long : (k : ℕ) (w : Span) → EndsRules (timed (operator k)) (w .lo) (w .hi) → length (sign k w) ≤ 24
+sign-long : (k : ℕ) (w : Span) → EndsRules (timed (operator k)) w → length (sign k w) ≤ 24
 sign-long k w e = omega (arith, window-short (timed (operator k)) w e)
 
 pub text-long : (due : Part) (a : Tree) → Proper a → length (text-as due a) ≤ NODE-TEXT * size a

@@ -14,11 +14,11 @@ use Rattle.text.proofs.Tests.{by-test}
 use Rattle.tables.specs.Kind.{Operator, operator, not-kind, and-kind, or-kind}
 use Rattle.tables.specs.Rules.{child, unused, is-child, left-use, right-use, timed, WindowRules, EndsRules}
 use Rattle.tables.proofs.EveryKind.{known-kind, every-kind}
-use Rattle.grammar.specs.declared.Span.{Span}
+use Rattle.tables.specs.declared.Span.{Span}
 use Rattle.grammar.specs.declared.Part.{Part}
 use Rattle.grammar.specs.declared.Part.the-variants.{Alternative as alternative, Conjunction as conjunction, Bind as bind, Unary as unary}
 use Rattle.grammar.specs.Operators.{binders, prefixes, _∈_}
-use Rattle.grammar.specs.Tree.{no-span}
+use Rattle.tables.specs.Tree.{no-span}
 use Rattle.requirements.proofs.Rules.{KindRules}
 use Rattle.spelling.specs.Text.{operator-part, part-of, rank}
 
@@ -44,18 +44,18 @@ produced o k =
 
 -- ---- what it tells of a kind
 
-some-window : (t : Bool) (w : Span) → t ≡ true → EndsRules t (w .lo) (w .hi) → WindowRules (w .lo) (w .hi)
+some-window : (t : Bool) (w : Span) → t ≡ true → EndsRules t w → WindowRules w
 some-window t w e r = rw e at r
 
-no-window : (t : Bool) (w : Span) → t ≡ false → EndsRules t (w .lo) (w .hi) → w ≡ no-span
-no-window t w e r = let z : (w .lo ≡ 0) × (w .hi ≡ 0) = rw e at r in rw (z .0, z .1) refl
+no-window : (t : Bool) (w : Span) → t ≡ false → EndsRules t w → w ≡ no-span
+no-window t w e r = rw e at r
 
-pub single-kind : (k : ℕ) (w : Span) → KindRules k unused w → ((k ∈ prefixes) × WindowRules (w .lo) (w .hi)) ⊎ ((k ≡ not-kind) × (w ≡ no-span))
+pub single-kind : (k : ℕ) (w : Span) → KindRules k unused w → ((k ∈ prefixes) × WindowRules w) ⊎ ((k ≡ not-kind) × (w ≡ no-span))
 single-kind k w r =
     let t = rw (r .lefts, r .rights) at (known-kind produced tt k (r .known)) in
     by-test (timed (operator k)) (λ e. inl (among-in k prefixes (rw e at t), some-window _ w e (r .ends))) (λ e. inr (eqb→eq k not-kind (rw e at t), no-window _ w e (r .ends)))
 
-pub double-kind : (k : ℕ) (w : Span) → KindRules k child w → ((k ∈ binders) × WindowRules (w .lo) (w .hi)) ⊎ ((k ∈ joiners) × (w ≡ no-span))
+pub double-kind : (k : ℕ) (w : Span) → KindRules k child w → ((k ∈ binders) × WindowRules w) ⊎ ((k ∈ joiners) × (w ≡ no-span))
 double-kind k w r =
     let t = rw (r .lefts, r .rights) at (known-kind produced tt k (r .known)) in
     by-test (timed (operator k)) (λ e. inl (among-in k binders (rw e at t), some-window _ w e (r .ends))) (λ e. inr (among-in k joiners (rw e at t), no-window _ w e (r .ends)))

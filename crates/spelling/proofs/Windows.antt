@@ -14,7 +14,7 @@ use Rattle.tables.specs.Rules.{WindowRules}
 use Rattle.printing.specs.Decimal.{decimal}
 use Rattle.printing.proofs.Numerals.{decimal-numeral, numeral-decimal}
 use Rattle.printing.proofs.Lengths.{decimal-ten}
-use Rattle.grammar.specs.declared.Span.{Span}
+use Rattle.tables.specs.declared.Span.{Span}
 use Rattle.grammar.specs.Grammar.{WindowText, closed, endless}
 use Rattle.spelling.specs.Text.{window-text}
 
@@ -22,7 +22,7 @@ use Rattle.spelling.specs.Text.{window-text}
 has-end : (hi : ℕ) → hi ≤ LONGEST → eqb hi NO-END ≡ false
 has-end hi h = ne-eqb hi NO-END (λ (e : hi ≡ NO-END). omega arith)
 
-pub window-made : (w : Span) → WindowRules (w .lo) (w .hi) → WindowText (window-text true w) w
+pub window-made : (w : Span) → WindowRules w → WindowText (window-text true w) w
 window-made w r = elim (r .high) [
   | inl e ↦ rw e (endless (decimal-numeral (w .lo)) (r .low))
   | inr h ↦ rw (has-end (w .hi) (h .0)) (closed (decimal-numeral (w .lo)) (decimal-numeral (w .hi)) (h .1) (h .0))
@@ -33,7 +33,7 @@ window-one (closed {v} {w} {lo} {hi} a b l h) = rw (has-end hi h, numeral-decima
 window-one (endless {v} {lo} a l) = rw (numeral-decimal a) refl
 
 -- at most `[1000000000,1000000000]`
-pub window-long : (w : Span) → WindowRules (w .lo) (w .hi) → length (window-text true w) ≤ 23
+pub window-long : (w : Span) → WindowRules w → length (window-text true w) ≤ 23
 window-long w r = elim (r .high) [
   | inl e ↦ rw (e, length-append (decimal (w .lo))) (omega (arith, decimal-ten (w .lo) (omega (arith, r .low))))
   | inr h ↦ rw (has-end (w .hi) (h .0), length-append (decimal (w .lo)), length-append (decimal (w .hi))) (omega (arith, decimal-ten (w .lo) (omega (arith, r .low)), decimal-ten (w .hi) (omega arith)))

@@ -10,7 +10,7 @@ use Rattle.printing.specs.Decimal.{decimal}
 use Rattle.tables.specs.Kind.{Operator, constant, named, negated, unknown, joined, binary, unary as single, operator, true-kind, predicate-kind}
 use Rattle.tables.specs.Rules.{timed}
 use Rattle.tables.specs.Tree.{NO-END}
-use Rattle.grammar.specs.declared.Span.{Span}
+use Rattle.tables.specs.declared.Span.{Span}
 use Rattle.grammar.specs.declared.Part.{Part}
 use Rattle.grammar.specs.declared.Part.the-variants.{Alternative as alternative, Conjunction as conjunction, Bind as bind, Unary as unary}
 use Rattle.grammar.specs.Operators.{letter}

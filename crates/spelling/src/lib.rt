@@ -1,7 +1,7 @@
 // The text of a requirement's tree, in pieces that hold no other requirement: parts of the grammar, and an operator's letter and window. What the whole text is, specs/Text says.
 // Each function that writes answers the place behind what it wrote; a byte that the slice has no place for is left out.
 use grammar::Part;
-use grammar::Span;
+use tables::Span;
 ghost use mathlib.Core.Path.{_≡_};
 ghost use mathlib.Core.List.{_++_};
 ghost use mathlib.Core.Bool.{true};

@@ -1,6 +1,6 @@
 -- Each test of the table's rules holds exactly where its sentence does. A test is taken apart into its parts and put together from them.
 -- Assumes nothing.
-use mathlib.Core.Path.{_≡_, refl, sym, subst}
+use mathlib.Core.Path.{_≡_, refl, sym, ap₂, subst}
 use mathlib.Core.Bool.{Bool, true, false, _&&_, _||_}
 use mathlib.Core.Logic.{inl, inr}
 use Prim.Native.Nat.{ℕ, _<_}
@@ -9,11 +9,12 @@ use lib.Dec.{T, leb, ltb, eqb, leb→le, le→leb, ltb→lt, lt→ltb, eqb→eq}
 use lib.ListN.{length}
 use mir.Facts.{and-yes, yes-and, or-yes, yes-eqb}
 use Rattle.lists.proofs.Below.{yes-or, all-at, at-all}
+use Rattle.tables.specs.declared.Span.{Span}
 use Rattle.tables.specs.declared.Node.{Node}
 use Rattle.tables.specs.declared.Table.{Table}
 use Rattle.tables.specs.Kind.{kinds, operator}
-use Rattle.tables.specs.Tree.{NODES, LONGEST, NO-END, node-at}
-use Rattle.tables.specs.Rules.{Use, child, number, unused, is-child, left-use, right-use, timed, use-obeys, Used, window-obeys, WindowRules, ends-obey, EndsRules, node-obeys, NodeRules, nodes-obey, table-obeys, TableRules}
+use Rattle.tables.specs.Tree.{NODES, LONGEST, NO-END, span, no-span, node-at}
+use Rattle.tables.specs.Rules.{Use, child, number, unused, is-child, left-use, right-use, timed, use-obeys, Used, window-obeys, WindowRules, is-blank, ends-obey, EndsRules, node-obeys, NodeRules, nodes-obey, table-obeys, TableRules}
 
 pub used : (u : Use) (k x : ℕ) → T (use-obeys u k x) → Used u k x
 used child k x t = ltb→lt x k t
@@ -43,32 +44,39 @@ use-small unused k x h l = omega arith
 pub named-small : {n : Node} {k : ℕ} → NodeRules n k → k < NODES → (n .left < NODES) × (n .right < NODES)
 named-small {n} {k} r h = (use-small (left-use (operator (n .kind))) k (n .left) (r .left) h, use-small (right-use (operator (n .kind))) k (n .right) (r .right) h)
 
-pub window-rules : (lo hi : ℕ) → T (window-obeys lo hi) → WindowRules lo hi
-window-rules lo hi t =
-    let a = and-yes (leb lo LONGEST) _ t in
+pub window-rules : (w : Span) → T (window-obeys w) → WindowRules w
+window-rules w t =
+    let a = and-yes (leb (w .lo) LONGEST) _ t in
     record {
-      low = leb→le lo LONGEST (a .0);
-      high = elim (or-yes (eqb hi NO-END) (leb hi LONGEST && leb lo hi) (a .1)) [
-        | inl h ↦ inl (eqb→eq hi NO-END h)
-        | inr h ↦ let b = and-yes (leb hi LONGEST) (leb lo hi) h in inr (leb→le hi LONGEST (b .0), leb→le lo hi (b .1))
+      low = leb→le (w .lo) LONGEST (a .0);
+      high = elim (or-yes (eqb (w .hi) NO-END) (leb (w .hi) LONGEST && leb (w .lo) (w .hi)) (a .1)) [
+        | inl h ↦ inl (eqb→eq (w .hi) NO-END h)
+        | inr h ↦ let b = and-yes (leb (w .hi) LONGEST) (leb (w .lo) (w .hi)) h in inr (leb→le (w .hi) LONGEST (b .0), leb→le (w .lo) (w .hi) (b .1))
       ];
     }
 
-pub window-passes : (lo hi : ℕ) → WindowRules lo hi → T (window-obeys lo hi)
-window-passes lo hi r =
-    yes-and (leb lo LONGEST) (eqb hi NO-END || (leb hi LONGEST && leb lo hi)) (le→leb lo LONGEST (r .low))
-    (yes-or (eqb hi NO-END) (leb hi LONGEST && leb lo hi) (elim (r .high) [
+pub window-passes : (w : Span) → WindowRules w → T (window-obeys w)
+window-passes w r =
+    yes-and (leb (w .lo) LONGEST) (eqb (w .hi) NO-END || (leb (w .hi) LONGEST && leb (w .lo) (w .hi))) (le→leb (w .lo) LONGEST (r .low))
+    (yes-or (eqb (w .hi) NO-END) (leb (w .hi) LONGEST && leb (w .lo) (w .hi)) (elim (r .high) [
       | inl h ↦ inl (yes-eqb h)
-      | inr h ↦ inr (yes-and (leb hi LONGEST) (leb lo hi) (le→leb hi LONGEST (h .0)) (le→leb lo hi (h .1)))
+      | inr h ↦ inr (yes-and (leb (w .hi) LONGEST) (leb (w .lo) (w .hi)) (le→leb (w .hi) LONGEST (h .0)) (le→leb (w .lo) (w .hi) (h .1)))
     ]))
 
-pub ends-rules : (w : Bool) (lo hi : ℕ) → T (ends-obey w lo hi) → EndsRules w lo hi
-ends-rules true lo hi t = window-rules lo hi t
-ends-rules false lo hi t = let a = and-yes (eqb lo 0) (eqb hi 0) t in (eqb→eq lo 0 (a .0), eqb→eq hi 0 (a .1))
+blank-is : (w : Span) → T (is-blank w) → w ≡ no-span
+blank-is w t =
+    let a = and-yes (eqb (w .lo) 0) (eqb (w .hi) 0) t in
+    let x : w .lo ≡ 0 = eqb→eq (w .lo) 0 (a .0) in
+    let y : w .hi ≡ 0 = eqb→eq (w .hi) 0 (a .1) in
+    ap₂ span x y
 
-pub ends-pass : (w : Bool) (lo hi : ℕ) → EndsRules w lo hi → T (ends-obey w lo hi)
-ends-pass true lo hi r = window-passes lo hi r
-ends-pass false lo hi r = yes-and (eqb lo 0) (eqb hi 0) (yes-eqb (r .0)) (yes-eqb (r .1))
+pub ends-rules : (timed : Bool) (w : Span) → T (ends-obey timed w) → EndsRules timed w
+ends-rules true w t = window-rules w t
+ends-rules false w t = blank-is w t
+
+pub ends-pass : (timed : Bool) (w : Span) → EndsRules timed w → T (ends-obey timed w)
+ends-pass true w r = window-passes w r
+ends-pass false w r = rw r tt
 
 pub node-rules : (n : Node) (k : ℕ) → T (node-obeys n k) → NodeRules n k
 unfolding node-obeys
@@ -80,7 +88,7 @@ node-rules n k t =
       known = ltb→lt (n .kind) (length kinds) (a .0);
       left = used (left-use (operator (n .kind))) k (n .left) (b .0);
       right = used (right-use (operator (n .kind))) k (n .right) (c .0);
-      ends = ends-rules (timed (operator (n .kind))) (n .lo) (n .hi) (c .1);
+      ends = ends-rules (timed (operator (n .kind))) (n .span) (c .1);
     }
 
 pub node-passes : (n : Node) (k : ℕ) → NodeRules n k → T (node-obeys n k)
@@ -89,7 +97,7 @@ node-passes n k r =
     yes-and (ltb (n .kind) (length kinds)) _ (lt→ltb (n .kind) (length kinds) (r .known))
     (yes-and (use-obeys (left-use (operator (n .kind))) k (n .left)) _ (use-passes (left-use (operator (n .kind))) k (n .left) (r .left))
     (yes-and (use-obeys (right-use (operator (n .kind))) k (n .right)) _ (use-passes (right-use (operator (n .kind))) k (n .right) (r .right))
-    (ends-pass (timed (operator (n .kind))) (n .lo) (n .hi) (r .ends))))
+    (ends-pass (timed (operator (n .kind))) (n .span) (r .ends))))
 
 pub table-rules : (t : Table) → T (table-obeys t) → TableRules t
 unfolding table-obeys nodes-obey

@@ -8,10 +8,11 @@ use Prim.Native.Nat.{ℕ, _≤_, _<_}
 use lib.Dec.{leb, ltb, eqb}
 use lib.ListN.{length}
 use Rattle.lists.specs.Fold.{all-below}
+use Rattle.tables.specs.declared.Span.{Span}
 use Rattle.tables.specs.declared.Node.{Node}
 use Rattle.tables.specs.declared.Table.{Table}
 use Rattle.tables.specs.Kind.{Operator, constant, named, negated, unknown, joined, binary, unary, kinds, operator}
-use Rattle.tables.specs.Tree.{NODES, LONGEST, NO-END, node-at}
+use Rattle.tables.specs.Tree.{NODES, LONGEST, NO-END, no-span, node-at}
 
 -- what a node's left or right number is: a child, a predicate's number, or unused
 pub data Use : Type 0 where
@@ -62,34 +63,37 @@ Used number k x = x ≤ 15
 Used unused k x = x ≡ 0
 
 -- a window has lo and hi up to 1,000,000,000, lo ≤ hi, or hi 4,294,967,295 for no end
-abbrev pub window-obeys : ℕ → ℕ → Bool
-window-obeys lo hi = leb lo LONGEST && (eqb hi NO-END || (leb hi LONGEST && leb lo hi))
+abbrev pub window-obeys : Span → Bool
+window-obeys w = leb (w .lo) LONGEST && (eqb (w .hi) NO-END || (leb (w .hi) LONGEST && leb (w .lo) (w .hi)))
 
-pub record WindowRules (lo hi : ℕ) : Type 0 where
-  pub low : lo ≤ LONGEST
-  pub high : (hi ≡ NO-END) ⊎ ((hi ≤ LONGEST) × (lo ≤ hi))
+pub record WindowRules (w : Span) : Type 0 where
+  pub low : w .lo ≤ LONGEST
+  pub high : (w .hi ≡ NO-END) ⊎ ((w .hi ≤ LONGEST) × (w .lo ≤ w .hi))
 
--- where there is no window its two numbers are unused
-abbrev pub ends-obey : Bool → ℕ → ℕ → Bool
-ends-obey true lo hi = window-obeys lo hi
-ends-obey false lo hi = eqb lo 0 && eqb hi 0
+-- where there is no window its numbers are unused
+abbrev pub is-blank : Span → Bool
+is-blank w = eqb (w .lo) 0 && eqb (w .hi) 0
 
-abbrev pub EndsRules : Bool → ℕ → ℕ → Type 0
-EndsRules true lo hi = WindowRules lo hi
-EndsRules false lo hi = (lo ≡ 0) × (hi ≡ 0)
+abbrev pub ends-obey : Bool → Span → Bool
+ends-obey true w = window-obeys w
+ends-obey false w = is-blank w
+
+abbrev pub EndsRules : Bool → Span → Type 0
+EndsRules true w = WindowRules w
+EndsRules false w = w ≡ no-span
 
 -- node k
 unfoldable pub node-obeys : Node → ℕ → Bool
 node-obeys n k =
     ltb (n .kind) (length kinds)
     && (use-obeys (left-use (operator (n .kind))) k (n .left)
-    && (use-obeys (right-use (operator (n .kind))) k (n .right) && ends-obey (timed (operator (n .kind))) (n .lo) (n .hi)))
+    && (use-obeys (right-use (operator (n .kind))) k (n .right) && ends-obey (timed (operator (n .kind))) (n .span)))
 
 pub record NodeRules (n : Node) (k : ℕ) : Type 0 where
   pub known : n .kind < length kinds
   pub left : Used (left-use (operator (n .kind))) k (n .left)
   pub right : Used (right-use (operator (n .kind))) k (n .right)
-  pub ends : EndsRules (timed (operator (n .kind))) (n .lo) (n .hi)
+  pub ends : EndsRules (timed (operator (n .kind))) (n .span)
 
 -- 1 to 64 nodes, and every one of them obeys, those that the root doesn't reach included
 unfoldable pub nodes-obey : List Node → ℕ → Bool

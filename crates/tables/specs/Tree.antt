@@ -10,6 +10,7 @@ use Rattle.logic.specs.declared.Window.{Window}
 use Rattle.logic.specs.declared.Extremum.{Extremum}
 use Rattle.logic.specs.declared.Extremum.the-variants.{Largest, Smallest}
 use Rattle.logic.specs.Formula.{Formula, truth, atom, negation, junction, temporal}
+use Rattle.tables.specs.declared.Span.{Span}
 use Rattle.tables.specs.declared.Node.{Node}
 use Rattle.tables.specs.declared.Table.{Table}
 use Rattle.tables.specs.Kind.{Operator, constant, named, negated, unknown, joined, binary, unary, operator}
@@ -25,9 +26,16 @@ LONGEST = 1_000_000_000
 abbrev pub NO-END : ℕ
 NO-END = 4_294_967_295
 
+-- a window's ends as they are written, and those of a kind without a window
+abbrev pub span : ℕ → ℕ → Span
+span lo hi = record { lo = lo; hi = hi }
+
+abbrev pub no-span : Span
+no-span = span 0 0
+
 -- the window from lo to hi, both counted
 abbrev pub window : Node → Window
-window n = record { from = n .lo; stop = cond (eqb (n .hi) NO-END) Endless (Before (suc (n .hi))) }
+window n = record { from = n .span .lo; stop = cond (eqb (n .span .hi) NO-END) Endless (Before (suc (n .span .hi))) }
 
 -- what stands left of a single operand: eventually is until from true, always is release from false
 abbrev pub unary-left : Extremum → Formula ℕ
@@ -45,7 +53,7 @@ formula (binary d e) n child = temporal d e (window n) (child (n .left)) (child 
 formula (unary d e) n child = temporal d e (window n) (unary-left e) (child (n .left))
 
 abbrev pub node-at : List Node → ℕ → Node
-node-at ns k = getD ns k (record { kind = 0; left = 0; right = 0; lo = 0; hi = 0 })
+node-at ns k = getD ns k (record { kind = 0; left = 0; right = 0; span = no-span })
 
 -- what each of the first k nodes is taken for, `of` giving it from a node and what its children are taken for: they are earlier nodes, and it looks them up among those
 unfoldable pub meanings : {A : Type 0} → (Node → (ℕ → A) → A) → A → (ℕ → Node) → ℕ → List A

@@ -3,8 +3,8 @@
 ghost use mathlib.Core.Path.{_≡_};
 ghost use Rattle.tables.specs.Kind.{operator, operator-extremum};
 ghost use Prim.Native.Nat.{_≤_};
-ghost use Rattle.tables.specs.Tree.{NODES};
-ghost use Rattle.tables.specs.Rules.{is-child, left-use, right-use, timed, use-obeys, window-obeys, ends-obey, node-obeys, nodes-obey, table-obeys};
+ghost use Rattle.tables.specs.Tree.{NODES, no-span};
+ghost use Rattle.tables.specs.Rules.{is-child, left-use, right-use, timed, use-obeys, window-obeys, is-blank, ends-obey, node-obeys, nodes-obey, table-obeys};
 use logic::Extremum;
 
 // The kinds of nodes; the definitions have them in specs/Kind.antt.
@@ -38,19 +38,31 @@ pub const LONGEST: u64 = 1_000_000_000;
 // `hi` of a window without end.
 pub const NO_END: u64 = 4_294_967_295;
 
-// One node: its kind, its children (for a predicate, the predicate's number in left), and its window's two ends.
+// A window as it is written: its two ends. Kinds without a window have both at 0.
+pub struct Span {
+    pub lo: u64,
+    pub hi: u64,
+}
+
+// One node: its kind, its children (for a predicate, the predicate's number in left), and its window.
 pub struct Node {
     pub kind: u64,
     pub left: usize,
     pub right: usize,
-    pub lo: u64,
-    pub hi: u64,
+    pub span: Span,
 }
 
 // The first `count` places of `nodes` are the table; the others are not looked at.
 pub struct Table {
     pub nodes: [Node; NODES],
     pub count: usize,
+}
+
+// The numbers of a window where there is none.
+pub fn no_span() -> Span
+    ensures { λ r. ⌜ r ≡ no-span ⌝ }
+{
+    Span { lo: 0, hi: 0 }
 }
 
 // Whether a kind's left number is a child.
@@ -107,19 +119,25 @@ fn right_obeys(kind: u64, right: usize, k: usize) -> bool
     right == 0
 }
 
-fn window_obeys(lo: u64, hi: u64) -> bool
-    ensures { λ r. ⌜ r ≡ window-obeys lo hi ⌝ }
+fn window_obeys(w: Span) -> bool
+    ensures { λ r. ⌜ r ≡ window-obeys w ⌝ }
 {
-    (lo <= LONGEST) & ((hi == NO_END) | ((hi <= LONGEST) & (lo <= hi)))
+    (w.lo <= LONGEST) & ((w.hi == NO_END) | ((w.hi <= LONGEST) & (w.lo <= w.hi)))
 }
 
-fn ends_obey(kind: u64, lo: u64, hi: u64) -> bool
-    ensures { λ r. ⌜ r ≡ ends-obey (timed (operator kind)) lo hi ⌝ }
+fn is_blank(w: Span) -> bool
+    ensures { λ r. ⌜ r ≡ is-blank w ⌝ }
+{
+    (w.lo == 0) & (w.hi == 0)
+}
+
+fn ends_obey(kind: u64, w: Span) -> bool
+    ensures { λ r. ⌜ r ≡ ends-obey (timed (operator kind)) w ⌝ }
 {
     if is_timed(kind) {
-        return window_obeys(lo, hi);
+        return window_obeys(w);
     }
-    (lo == 0) & (hi == 0)
+    is_blank(w)
 }
 
 // Whether a node may stand at place k.
@@ -128,7 +146,7 @@ pub fn node_obeys(node: Node, k: usize) -> bool
 {
     let left = left_obeys(node.kind, node.left, k);
     let right = right_obeys(node.kind, node.right, k);
-    let ends = ends_obey(node.kind, node.lo, node.hi);
+    let ends = ends_obey(node.kind, node.span);
     (node.kind < KINDS) & (left & (right & ends))
 }
 

@@ -8,7 +8,7 @@ use native.Mathlib.Omega.{arith}
 use lib.IntN.{ℤ}
 use lib.ListN.{length, getD, take, replicate, List·getD-append}
 use Rattle.building.specs.Nodes.{nodes-of}
-use Rattle.building.specs.Storing.{cells-of}
+use Rattle.building.specs.Storing.{CELLS, cells-of}
 use Rattle.building.proofs.Cells.{length-nodes}
 use Rattle.requirements.specs.Requirement.{requirement-of}
 use Rattle.requirements.proofs.Answers.{answer-sound}
@@ -37,7 +37,7 @@ use Rattle.flat.proofs.Back.{predicates-back, places-back, table-read-back}
 pub kept : {X : Type 0} (n : ℕ) (new old : List X) → (n ≡ 0 → ⊥) → old ≡ handed n new old
 kept n new old h = sym (unless-some n (written new old) old h)
 
-pub table-handed : (s : List ℕ) → requirement-of s .refusal ≡ 0 → (nodes : List ℕ) → 320 ≤ length nodes
+pub table-handed : (s : List ℕ) → requirement-of s .refusal ≡ 0 → (nodes : List ℕ) → CELLS ≤ length nodes
     → table-from (handed (requirement-of s .refusal) (cells-of (requirement-of s .table .nodes)) nodes) (requirement-of s .table .count) ≡ requirement-of s .table
 table-handed s h nodes r =
     let x = answer-sound s h in

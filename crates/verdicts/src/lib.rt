@@ -43,7 +43,7 @@ fn row_for(affirmed: bool, k: usize) -> usize
 
 // The node's window, strengthened; in the negation it is that of the dual operator.
 fn row_window(node: Node, affirmed: bool, step: u64) -> Window
-    requires { ⌜ (node .hi ≤ NO-END) × Short (window node) × (step ≤ LONGEST-STEP) ⌝ }
+    requires { ⌜ (node .span .hi ≤ NO-END) × Short (window node) × (step ≤ LONGEST-STEP) ⌝ }
     ensures { λ r. ⌜ r ≡ strong-window affirmed step (operator (node .kind)) node ⌝ }
 {
     let e = logic::turn(affirmed, tables::extremum_of(node.kind));

@@ -38,8 +38,8 @@ reached d hi h = elim (ℕ-discrete hi NO-END) [
   | no e ↦ rw (ne-eqb hi NO-END e) (same-test (λ h. lt→ltb d (suc hi) (omega (arith, leb→le d hi h))) (λ h. le→leb d hi (omega (arith, ltb→lt d (suc hi) h))))
 ]
 
-pub inside-is : (n : Node) (d : ℕ) → d ≤ NO-END → (leb (n .lo) d && leb d (n .hi)) ≡ inside (window n) d
-inside-is n d h = ap (λ (b : Bool). leb (n .lo) d && b) (reached d (n .hi) h)
+pub inside-is : (n : Node) (d : ℕ) → d ≤ NO-END → (leb (n .span .lo) d && leb d (n .span .hi)) ≡ inside (window n) d
+inside-is n d h = ap (λ (b : Bool). leb (n .span .lo) d && b) (reached d (n .span .hi) h)
 
 -- true and predicates come first
 pub leaf-point : (kind : ℕ) (leaf l r : ℤ) → kind ≤ 1 → leaf ≡ point-of (operator kind) leaf l r

@@ -17,15 +17,9 @@ use Rattle.recordings.specs.Accepted.{MOST-CHANNELS}
 use Rattle.tables.specs.declared.Node.{Node}
 use Rattle.tables.specs.declared.Table.{Table}
 use Rattle.tables.specs.Tree.{NODES, node-at, tree}
+use Rattle.building.specs.Storing.{WIDTH, node-read}
 use Rattle.flat.specs.Predicates.{range-from}
 use Rattle.arrivals.specs.Fits.{carried, next-time}
-
--- the slices' lengths
-abbrev pub NUMBERS : ℕ
-NUMBERS = 365
-
-abbrev pub CELLS : ℕ
-CELLS = 224
 
 -- where the scales, the predicates' numbers and the nodes begin, and the nodes' cells
 abbrev pub SCALES-AT : ℕ
@@ -40,16 +34,16 @@ NODES-AT = 45
 abbrev pub HELD-AT : ℕ
 HELD-AT = 32
 
+-- the slices' lengths
+abbrev pub NUMBERS : ℕ
+NUMBERS = NODES-AT + WIDTH * NODES
+
+abbrev pub CELLS : ℕ
+CELLS = 224
+
 -- node k
 abbrev pub node-in : List ℕ → ℕ → Node
-node-in numbers k =
-    record {
-      kind = getD numbers (NODES-AT + 5 * k) 0;
-      left = getD numbers (NODES-AT + 5 * k + 1) 0;
-      right = getD numbers (NODES-AT + 5 * k + 2) 0;
-      lo = getD numbers (NODES-AT + 5 * k + 3) 0;
-      hi = getD numbers (NODES-AT + 5 * k + 4) 0;
-    }
+node-in numbers k = node-read numbers (NODES-AT + WIDTH * k)
 
 -- predicate p
 abbrev pub predicate-in : List ℕ → List ℤ → ℕ → Predicate

@@ -20,6 +20,7 @@ ghost use Rattle.watch_cells.specs.Taking.{IsDistance, LeafValue, IsPoin
 use logic::Extremum;
 use recordings::TOP;
 use tables::Node;
+use tables::Span;
 
 // Where the scales, the predicates' numbers and the nodes begin, and the nodes' cells.
 pub const SCALES_AT: usize = 5;
@@ -41,20 +42,22 @@ fn kind_of(numbers: &[u64], k: usize) -> u64
     requires { ⌜ (NUMBERS ≤ length (now numbers)) × (k < NODES) ⌝ }
     ensures { λ r. ⌜ r ≡ node-in (now (numbers .entry)) k .kind ⌝ }
 {
-    numbers[NODES_AT + 5 * k]
+    numbers[NODES_AT + building::WIDTH * k]
 }
 
 fn node_of(numbers: &[u64], k: usize) -> Node
     requires { ⌜ (NUMBERS ≤ length (now numbers)) × (k < NODES) ⌝ }
     ensures { λ r. ⌜ r ≡ node-in (now (numbers .entry)) k ⌝ }
 {
-    let at = NODES_AT + 5 * k;
+    let at = NODES_AT + building::WIDTH * k;
     Node {
         kind: numbers[at],
         left: numbers[at + 1] as usize,
         right: numbers[at + 2] as usize,
-        lo: numbers[at + 3],
-        hi: numbers[at + 4],
+        span: Span {
+            lo: numbers[at + 3],
+            hi: numbers[at + 4],
+        },
     }
 }
 
@@ -123,7 +126,7 @@ fn in_window(node: Node, since: u64) -> bool
     requires { ⌜ since ≤ NO-END ⌝ }
     ensures { λ r. ⌜ r ≡ inside (window node) since ⌝ }
 {
-    (node.lo <= since) & (since <= node.hi)
+    (node.span.lo <= since) & (since <= node.span.hi)
 }
 
 // What a node holds before the row; `none` before the first.

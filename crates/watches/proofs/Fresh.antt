@@ -17,7 +17,7 @@ use Rattle.recordings.specs.declared.Scales.{Scales}
 use Rattle.recordings.specs.Card.{Card}
 use Rattle.tables.specs.declared.Table.{Table}
 use Rattle.tables.specs.Tree.{NODES}
-use Rattle.building.specs.Storing.{cells-of}
+use Rattle.building.specs.Storing.{WIDTH, cells-of}
 use Rattle.building.proofs.Cells.{length-cells}
 use Rattle.flat.specs.Predicates.{ranges-of, ends-of}
 use Rattle.flat.proofs.Padded.{padded-at}
@@ -70,7 +70,7 @@ module _ (number : ℕ) (t : Table) (ps : List Predicate) (ks : Scales) (old : L
   abbrev numbers : List ℕ
   numbers = fresh-numbers number t ps ks old
 
-  nodes-long : length nodes ≡ 320
+  nodes-long : length nodes ≡ WIDTH * NODES
   nodes-long = length-cells (t .nodes) ∙ omega (arith, hn)
 
   ranges-long : length ranges ≡ 32
@@ -113,7 +113,7 @@ module _ (number : ℕ) (t : Table) (ps : List Predicate) (ks : Scales) (old : L
   written-range : (i : ℕ) → i < 32 → getD numbers (RANGES-AT + i) 0 ≡ getD ranges i 0
   written-range i h = behind-scales (RANGES-AT + i) (omega arith) ∙ put-in RANGES-AT 0 ranges with-nodes i (omega (arith, ranges-long)) (omega (arith, room-1, ranges-long, long))
 
-  written-node : (i : ℕ) → i < 320 → getD numbers (NODES-AT + i) 0 ≡ getD nodes i 0
+  written-node : (i : ℕ) → i < WIDTH * NODES → getD numbers (NODES-AT + i) 0 ≡ getD nodes i 0
   written-node i h = behind-ranges (NODES-AT + i) (omega arith) ∙ put-in NODES-AT 0 nodes old i (omega (arith, nodes-long)) (omega (arith, nodes-long, long))
 
   abbrev none : Card

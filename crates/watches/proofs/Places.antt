@@ -18,8 +18,8 @@ use Rattle.recordings.specs.Card.{Card, rows, predicate-at}
 use Rattle.tables.specs.declared.Table.{Table}
 use Rattle.tables.specs.Tree.{NODES, node-at}
 use Rattle.refusals.specs.First.{first}
-use Rattle.building.specs.Storing.{cells-of}
-use Rattle.building.proofs.Cells.{node-back}
+use Rattle.building.specs.Storing.{WIDTH, cells-of}
+use Rattle.building.proofs.Cells.{read-alike, node-back}
 use Rattle.flat.specs.Predicates.{lo-of, hi-of, ranges-of, ends-of}
 use Rattle.flat.proofs.Padded.{padded-at}
 use Rattle.flat.proofs.Back.{front-at, length-pairs, predicate-back}
@@ -110,10 +110,9 @@ module _ {numbers : List ℕ} {cells : List ℤ} {t : Table} {c : Card} (W : Wat
 
   node-is : (k : ℕ) → k < NODES → node-in numbers k ≡ node-at (t .nodes) k
   node-is k h =
-      let a : (f : ℕ) → f < 5 → getD numbers (NODES-AT + 5 * k + f) 0 ≡ getD (cells-of (t .nodes)) (5 * k + f) 0 = λ f l. number-at (NODES-AT + 5 * k + f) (8 + (32 + (5 * k + f))) (omega arith) (omega arith) ∙ node-number t c (5 * k + f) in
-      let o = number-at (NODES-AT + 5 * k) (8 + (32 + 5 * k)) (omega arith) (omega arith) ∙ node-number t c (5 * k) in
-      rw (o, a 1 (omega arith), a 2 (omega arith), a 3 (omega arith), a 4 (omega arith))
-      (rw append-nil at (node-back (t .nodes) [] k (omega (arith, W .nodes-are))))
+      read-alike numbers (cells-of (t .nodes)) (NODES-AT + WIDTH * k) (WIDTH * k) (λ f l.
+      number-at (NODES-AT + WIDTH * k + f) (8 + (32 + (WIDTH * k + f))) (omega arith) (omega arith) ∙ node-number t c (WIDTH * k + f))
+      ∙ (rw append-nil at (node-back (t .nodes) [] k (omega (arith, W .nodes-are))))
 
   range-number-at : (j : ℕ) → j < 32 → getD numbers (RANGES-AT + j) 0 ≡ getD (ranges t c) j 0
   range-number-at j h = number-at (RANGES-AT + j) (8 + j) (omega arith) (omega arith) ∙ range-at t c j h

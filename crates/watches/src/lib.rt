@@ -55,7 +55,7 @@ pub struct Taken {
 
 impl Watch {
     // A watch is so many numbers and cells long, whatever it has seen.
-    pub const NUMBERS: usize = 365;
+    pub const NUMBERS: usize = NODES_AT + building::CELLS;
 
     pub const CELLS: usize = 224;
 

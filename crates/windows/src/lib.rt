@@ -11,11 +11,11 @@ use tables::Node;
 
 // The window from lo to hi, both counted.
 pub fn plain(node: Node) -> Window
-    requires { ⌜ node .hi ≤ NO-END ⌝ }
+    requires { ⌜ node .span .hi ≤ NO-END ⌝ }
     ensures { λ r. ⌜ r ≡ window node ⌝ }
 {
-    let lo = node.lo;
-    let hi = node.hi;
+    let lo = node.span.lo;
+    let hi = node.span.hi;
     if hi == tables::NO_END {
         return Window {
             from: lo,

@@ -11,14 +11,14 @@ use lib.Seq.{getD-set-same, getD-set-other}
 use Rattle.text.proofs.Tests.{false-true}
 use Rattle.tables.specs.declared.Node.{Node}
 use Rattle.tables.specs.Kind.{operator}
-use Rattle.tables.specs.Tree.{NODES}
+use Rattle.tables.specs.Tree.{NODES, span}
 use Rattle.tables.specs.Rules.{Use, child, number, unused, is-child, left-use, right-use, NodeRules}
 use Rattle.tables.proofs.Rules.{child-before, named-small}
-use Rattle.grammar.specs.declared.Span.{Span}
+use Rattle.tables.specs.declared.Span.{Span}
 use Rattle.grammar.specs.declared.Part.{Part}
 use Rattle.grammar.specs.declared.Part.the-variants.{Alternative as alternative, Unary as unary}
 use Rattle.grammar.specs.Grammar.{ENCLOSINGS}
-use Rattle.grammar.specs.Tree.{Tree, one, two, size, span}
+use Rattle.grammar.specs.Tree.{Tree, one, two, size}
 use Rattle.building.specs.Unshared.{tree-by, unshared}
 use Rattle.building.proofs.Unshared.{unshared-node}
 use Rattle.spelling.specs.Text.{part-of, left-part, right-part}
@@ -65,9 +65,9 @@ two-is k w a b =
 by-use : (u v : Use) (n : Node) (f : ℕ → Tree) (g : ℕ → Measure) → (u ≡ child → g (n .left) ≡ measure-of (f (n .left))) → (v ≡ child → g (n .right) ≡ measure-of (f (n .right)))
     → node-measure u v (part-of (n .kind)) (g (n .left)) (g (n .right)) ≡ measure-of (tree-by u v n f)
 unfolding size enclosings-as
-by-use child child n f g l r = rw (l refl, r refl) (two-is (n .kind) (span (n .lo) (n .hi)) (f (n .left)) (f (n .right)))
-by-use child number n f g l r = rw (l refl) (one-is (n .kind) (span (n .lo) (n .hi)) (f (n .left)))
-by-use child unused n f g l r = rw (l refl) (one-is (n .kind) (span (n .lo) (n .hi)) (f (n .left)))
+by-use child child n f g l r = rw (l refl, r refl) (two-is (n .kind) (n .span) (f (n .left)) (f (n .right)))
+by-use child number n f g l r = rw (l refl) (one-is (n .kind) (n .span) (f (n .left)))
+by-use child unused n f g l r = rw (l refl) (one-is (n .kind) (n .span) (f (n .left)))
 by-use number v n f g l r = refl
 by-use unused v n f g l r = refl
 

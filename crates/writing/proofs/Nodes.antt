@@ -16,7 +16,7 @@ use Rattle.tables.proofs.Rules.{child-before}
 use Rattle.tables.proofs.EveryKind.{left-is}
 use Rattle.grammar.specs.declared.Part.{Part}
 use Rattle.grammar.specs.declared.Part.the-variants.{Unary as unary}
-use Rattle.grammar.specs.Tree.{span}
+use Rattle.tables.specs.Tree.{span}
 use Rattle.building.specs.Unshared.{node-tree, unshared}
 use Rattle.building.proofs.Unshared.{unshared-node}
 use Rattle.spelling.specs.Text.{part-of, left-part, right-part, sign, text-as}
@@ -65,19 +65,19 @@ module _ (at : ℕ → Node) (k : ℕ) (n : Node) (e : n ≡ at k) (ruled : Rule
   -- ---- the text in pieces
 
   two-text : (due : Part) → is-child (right-use (operator (n .kind))) ≡ true
-      → text-as due (unshared at k) ≡ opening due (part-of (n .kind)) ++ (text-as (left-part (part-of (n .kind))) (unshared at (n .left)) ++ (sign (n .kind) (span (n .lo) (n .hi)) ++ (text-as (right-part (part-of (n .kind))) (unshared at (n .right)) ++ closing due (part-of (n .kind)))))
+      → text-as due (unshared at k) ≡ opening due (part-of (n .kind)) ++ (text-as (left-part (part-of (n .kind))) (unshared at (n .left)) ++ (sign (n .kind) (n .span) ++ (text-as (right-part (part-of (n .kind))) (unshared at (n .right)) ++ closing due (part-of (n .kind)))))
   unfolding text-as
   two-text due h =
       let u = two-uses (operator (n .kind)) h in
       let p : Part = part-of (n .kind) in
       let l : List ℕ = text-as (left-part p) (unshared at (n .left)) in
-      let s : List ℕ = sign (n .kind) (span (n .lo) (n .hi)) in
+      let s : List ℕ = sign (n .kind) (n .span) in
       let r : List ℕ = text-as (right-part p) (unshared at (n .right)) in
       rw (tree-is, u .0, u .1)
       (grouped-pieces due p (l ++ (s ++ r)) ∙ ap (λ (w : List ℕ). opening due p ++ w) (append-assoc l (s ++ r) (closing due p) ∙ ap (λ (w : List ℕ). l ++ w) (append-assoc s r (closing due p))))
 
   pub two-printed : (due own left right : Part) → is-child (right-use (operator (n .kind))) ≡ true → own ≡ part-of (n .kind) → left ≡ left-part own → right ≡ right-part own
-      → (o : Output) {p q r s t : Output} → p ≡ printed o (opening due own) → q ≡ printed p (text-as left (unshared at (n .left))) → r ≡ printed q (sign (n .kind) (span (n .lo) (n .hi)))
+      → (o : Output) {p q r s t : Output} → p ≡ printed o (opening due own) → q ≡ printed p (text-as left (unshared at (n .left))) → r ≡ printed q (sign (n .kind) (n .span))
       → s ≡ printed r (text-as right (unshared at (n .right))) → t ≡ printed s (closing due own) → t ≡ printed o (text-as due (unshared at k))
   two-printed due own left right h i j m o a b c d f =
       let z = printed-then o _ _ a (printed-then _ _ _ b (printed-then _ _ _ c (printed-then _ _ _ d f))) in
@@ -85,7 +85,7 @@ module _ (at : ℕ → Node) (k : ℕ) (n : Node) (e : n ≡ at k) (ruled : Rule
       y ∙ ap (printed o) (sym (two-text due h))
 
   pub one-printed : (due : Part) → is-child (right-use (operator (n .kind))) ≡ false → is-child (left-use (operator (n .kind))) ≡ true
-      → (o : Output) {p q : Output} → p ≡ printed o (sign (n .kind) (span (n .lo) (n .hi))) → q ≡ printed p (text-as unary (unshared at (n .left))) → q ≡ printed o (text-as due (unshared at k))
+      → (o : Output) {p q : Output} → p ≡ printed o (sign (n .kind) (n .span)) → q ≡ printed p (text-as unary (unshared at (n .left))) → q ≡ printed o (text-as due (unshared at k))
   unfolding text-as
   one-printed due g h o a b =
       let u = one-uses (operator (n .kind)) g h in

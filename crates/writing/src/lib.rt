@@ -2,8 +2,8 @@
 // shared nodes are unfolded only where the whole tree has at most 64 nodes.
 use building::CELLS;
 use grammar::Part;
-use grammar::Span;
 use tables::Node;
+use tables::Span;
 use tables::Table;
 ghost use mathlib.Core.Path.{_≡_};
 ghost use Prim.Native.Nat.{suc, _+_, _-_, _≤_, min, max};
@@ -155,20 +155,16 @@ fn write_node(cells: &[u64; CELLS], k: usize, due: Part, out: &mut [u8], at: usi
     ensures { λ r. ⌜ output (out .exit) r ≡ printed (output (out .entry) at) (text-as due (unshared (node-from (now (cells .entry))) k)) ⌝ }
 {
     let node = building::node_at(cells, k);
-    let span = Span {
-        lo: node.lo,
-        hi: node.hi,
-    };
     if tables::has_right(node.kind) {
         let own = spelling::part_of(node.kind);
         let opened = spelling::write_opening(out, at, due, own);
         let left = write_node(cells, node.left, spelling::left_part(own), out, opened);
-        let sign = spelling::write_sign(out, left, node.kind, span);
+        let sign = spelling::write_sign(out, left, node.kind, node.span);
         let right = write_node(cells, node.right, spelling::right_part(own), out, sign);
         return spelling::write_closing(out, right, due, own);
     }
     if tables::has_left(node.kind) {
-        let sign = spelling::write_sign(out, at, node.kind, span);
+        let sign = spelling::write_sign(out, at, node.kind, node.span);
         return write_node(cells, node.left, Part::Unary, out, sign);
     }
     write_leaf(out, at, node)

@@ -5,7 +5,7 @@ use denote.Ref.{now}
 use borrow.Author.Tests.{le-leb, lt-leb}
 use Rattle.tables.specs.Tree.{NODES}
 use Rattle.building.specs.Storing.{WIDTH}
-use Rattle.building.proofs.Cells.{sets-five}
+use Rattle.building.proofs.Cells.{sets-node}
 use borrow.Author.Needs.{needs}
 use Rattle.building.proofs.push.Statement.{statement}
 use Rattle.building.proofs.push.Tie as tie
@@ -64,7 +64,7 @@ add-t11 : tie.Need-add-t11
 add-t11 c = search needs
 
 returns-2 : tie.Need-returns-2
-returns-2 c = (rw (lt-leb NODES _ (c .if1 .left)), rw (lt-leb NODES _ (c .if1 .left)) (let a = c .before .args in sets-five (now (a .cells)) (WIDTH * a .free) (a .x .kind) (a .x .left) (a .x .right) (a .x .lo) (a .x .hi)))
+returns-2 c = (rw (lt-leb NODES _ (c .if1 .left)), rw (lt-leb NODES _ (c .if1 .left)) (let a = c .before .args in sets-node (now (a .cells)) (WIDTH * a .free) (a .x)))
 
 pub push-spec : {M : Type 1} → statement M
 push-spec =

@@ -17,12 +17,15 @@ read-letter-requires c κs = search needs
 enum-known-next : tie.Need-enum-known-next
 enum-known-next c = search needs
 
+leaf-requires : tie.Need-leaf-requires
+leaf-requires c κs = search needs
+
 push-requires : tie.Need-push-requires
 push-requires c κs = search needs
 
 returns : tie.Need-returns
 returns c =
-    true-stored _ _ _ _ _ _ _ (sym (c .before .before .before .before .before .read-letter .ensures) ∙ c .before .before .before .next .given .1) (c .push .ensures .0) (c .push .ensures .1)
+    true-stored _ _ _ _ _ _ _ (sym (c .before .before .before .before .before .before .read-letter .ensures) ∙ c .before .before .before .before .next .given .1) (c .push .ensures .0) (rw (c .before .before .leaf .ensures) at (c .push .ensures .1))
 
 enum-told : tie.Need-enum-told
 enum-told c = search needs
@@ -44,13 +47,16 @@ returns-2 c =
     leaf-refused _ _ _ _ (sym (c .before .before .before .before .before .before .read-letter .ensures) ∙ c .before .before .before .before .enum-told .given .1)
     (sym (c .before .before .read-field .ensures) ∙ c .enum-told2 .given .1)
 
+leaf-requires-2 : tie.Need-leaf-requires-2
+leaf-requires-2 c κs = search needs
+
 push-requires-2 : tie.Need-push-requires-2
 push-requires-2 c κs = search needs
 
 returns-3 : tie.Need-returns-3
 returns-3 c =
-    predicate-stored _ _ _ _ _ _ _ _ (sym (c .before .before .before .before .before .before .before .before .before .read-letter .ensures) ∙ c .before .before .before .before .before .before .before .enum-told .given .1)
-    (sym (c .before .before .before .before .before .read-field .ensures) ∙ c .before .before .before .value .given .1) (c .push2 .ensures .0) (c .push2 .ensures .1)
+    predicate-stored _ _ _ _ _ _ _ _ (sym (c .before .before .before .before .before .before .before .before .before .before .read-letter .ensures) ∙ c .before .before .before .before .before .before .before .before .enum-told .given .1)
+    (sym (c .before .before .before .before .before .before .read-field .ensures) ∙ c .before .before .before .before .value .given .1) (c .push2 .ensures .0) (rw (c .before .before .leaf2 .ensures) at (c .push2 .ensures .1))
 
 pub read-leaf-spec : {M : Type 1} → statement M
 read-leaf-spec =
@@ -58,6 +64,7 @@ read-leaf-spec =
     (tie.spec
     read-letter-requires
     enum-known-next
+    leaf-requires
     push-requires
     returns
     enum-told
@@ -66,5 +73,6 @@ read-leaf-spec =
     enum-known-value
     enum-told-2
     returns-2
+    leaf-requires-2
     push-requires-2
     returns-3)

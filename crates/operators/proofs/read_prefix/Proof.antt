@@ -17,8 +17,11 @@ read-letter-requires c κs = search needs
 enum-known-next : tie.Need-enum-known-next
 enum-known-next c = search needs
 
+no-span-requires : tie.Need-no-span-requires
+no-span-requires c κs = search needs
+
 returns : tie.Need-returns
-returns c = rw (sym (c .before .before .before .read-letter .ensures) ∙ c .before .next .given .1)
+returns c = rw (sym (c .before .before .before .before .read-letter .ensures) ∙ c .before .before .next .given .1, c .no-span .ensures)
 
 enum-told : tie.Need-enum-told
 enum-told c = search needs
@@ -41,6 +44,7 @@ read-prefix-spec =
     (tie.spec
     read-letter-requires
     enum-known-next
+    no-span-requires
     returns
     enum-told
     read-timed-requires

@@ -11,11 +11,14 @@ is-timed-requires c κs = search needs
 window-obeys-requires : tie.Need-window-obeys-requires
 window-obeys-requires c κs = search needs
 
+is-blank-requires : tie.Need-is-blank-requires
+is-blank-requires c κs = search needs
+
 returns : tie.Need-returns
 returns c = rw (sym (c .before .before .is-timed .ensures) ∙ c .before .if1 .taken) (c .window-obeys .ensures)
 
 returns-2 : tie.Need-returns-2
-returns-2 c = rw (sym (c .before .is-timed .ensures) ∙ c .if1 .left)
+returns-2 c = rw (sym (c .before .before .is-timed .ensures) ∙ c .before .if1 .left) (c .is-blank .ensures)
 
 pub ends-obey-spec : {M : Type 1} → statement M
-ends-obey-spec = tie.close (tie.spec is-timed-requires window-obeys-requires returns returns-2)
+ends-obey-spec = tie.close (tie.spec is-timed-requires window-obeys-requires returns is-blank-requires returns-2)

@@ -4,6 +4,7 @@ use mathlib.Core.Path.{_≡_, ap}
 use native.Mathlib.Omega.{arith}
 use lib.ListN.{length}
 use Rattle.tables.specs.Tree.{NODES}
+use Rattle.building.specs.Storing.{CELLS}
 use Rattle.building.proofs.Cells.{length-cells}
 use borrow.Author.Needs.{needs}
 use Rattle.watches.proofs.write_fresh.Statement.{statement}
@@ -43,7 +44,7 @@ returns c =
     let w = c .before .before .before .before .before .before .before .before .before .before .before .write-setup in
     let q = c .before .before .before .before .before .put-numbers2 in
     let o = c .before .before .before .before .before .before .before .before .before .before .before .before .before .before .before .before .before .before .before .cells-of in
-    let l : length (o .result) ≡ 320 = search needs in
+    let l : length (o .result) ≡ CELLS = search needs in
     let n : length (s .args .table .nodes) ≡ NODES = omega (arith, l, ap length (o .ensures), length-cells (s .args .table .nodes)) in
     (rw (w .ensures .0, p .ensures, o .ensures) at (q .ensures), (rw (w .ensures .1) at (c .before .clear-nodes .ensures), (n, search needs)))
 

@@ -14,7 +14,7 @@ add-t6 : tie.Need-add-t6
 add-t6 c = search needs
 
 returns-2 : tie.Need-returns-2
-returns-2 c = rw (ne-eqb _ _ (c .if1 .left), add-one (c .before .args .node .hi)) refl
+returns-2 c = rw (ne-eqb _ _ (c .if1 .left), add-one (c .before .args .node .span .hi)) refl
 
 pub plain-spec : {M : Type 1} → statement M
 plain-spec = tie.close (tie.spec returns add-t6 returns-2)
