@@ -5,11 +5,12 @@ use tables::Table;
 use text::Field;
 use text::Mark;
 ghost use mathlib.Core.Path.{_≡_};
-ghost use Prim.Native.Nat.{_<_};
+ghost use Prim.Native.Nat.{_+_, _≤_, _<_};
+ghost use lib.ListN.{length};
 ghost use Rattle.grammar.specs.Reading.{leaf-at};
 ghost use Rattle.tables.specs.Tree.{NODES, no-span};
 ghost use Rattle.building.specs.Nodes.{node, empty-table};
-ghost use Rattle.building.specs.Storing.{cells-of, step-of, leaf-cells, pushed-step, pushed-cells, parent-step, wrap-cells, join-cells, closed-step, node-from, table-from};
+ghost use Rattle.building.specs.Storing.{cells-of, step-of, leaf-cells, pushed-step, pushed-cells, parent-step, wrap-cells, join-cells, closed-step, WIDTH, node-read, node-from, table-from};
 
 // A node has so many numbers.
 pub const WIDTH: usize = 5;
@@ -125,24 +126,31 @@ pub fn empty_table() -> Table
     }
 }
 
+// The node whose numbers stand from a place on.
+pub fn read_node(numbers: &[u64], at: usize) -> Node
+    requires { ⌜ at + WIDTH ≤ length (now numbers) ⌝ }
+    ensures { λ r. ⌜ r ≡ node-read (now (numbers .entry)) at ⌝ }
+{
+    Node {
+        kind: numbers[at],
+        left: numbers[at + 1] as usize,
+        right: numbers[at + 2] as usize,
+        span: Span {
+            lo: numbers[at + 3],
+            hi: numbers[at + 4],
+        },
+    }
+}
+
 // The node of a number.
 pub fn node_at(cells: &[u64; CELLS], k: usize) -> Node
     requires { ⌜ k < NODES ⌝ }
     ensures { λ r. ⌜ r ≡ node-from (now (cells .entry)) k ⌝ }
 {
-    let first = WIDTH * k;
-    Node {
-        kind: cells[first],
-        left: cells[first + 1] as usize,
-        right: cells[first + 2] as usize,
-        span: Span {
-            lo: cells[first + 3],
-            hi: cells[first + 4],
-        },
-    }
+    read_node(cells, WIDTH * k)
 }
 
-// The five numbers of each of a table's nodes.
+// The numbers of each of a table's nodes.
 pub fn cells_of(nodes: [Node; tables::NODES]) -> [u64; CELLS]
     ensures { λ r. ⌜ r ≡ cells-of nodes ⌝ }
 {

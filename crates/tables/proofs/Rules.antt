@@ -78,6 +78,11 @@ pub ends-pass : (timed : Bool) (w : Span) → EndsRules timed w → T (ends-obey
 ends-pass true w r = window-passes w r
 ends-pass false w r = rw r tt
 
+-- the numbers of a kind without a window obey as a window's do
+pub window-ruled : (timed : Bool) (w : Span) → EndsRules timed w → WindowRules w
+window-ruled true w r = r
+window-ruled false w r = rw r (record { low = omega arith; high = inr (omega arith, omega arith) })
+
 pub node-rules : (n : Node) (k : ℕ) → T (node-obeys n k) → NodeRules n k
 unfolding node-obeys
 node-rules n k t =

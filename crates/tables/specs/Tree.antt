@@ -34,8 +34,11 @@ abbrev pub no-span : Span
 no-span = span 0 0
 
 -- the window from lo to hi, both counted
+abbrev pub as-read : Span → Window
+as-read w = record { from = w .lo; stop = cond (eqb (w .hi) NO-END) Endless (Before (suc (w .hi))) }
+
 abbrev pub window : Node → Window
-window n = record { from = n .span .lo; stop = cond (eqb (n .span .hi) NO-END) Endless (Before (suc (n .span .hi))) }
+window n = as-read (n .span)
 
 -- what stands left of a single operand: eventually is until from true, always is release from false
 abbrev pub unary-left : Extremum → Formula ℕ

@@ -8,7 +8,8 @@ ghost use Rattle.lists.specs.Fill.{fill};
 ghost use Rattle.recordings.specs.Accepted.{LONGEST-STEP, LARGEST-DRIFT};
 ghost use Rattle.recordings.specs.Verdict.{decide};
 ghost use Rattle.tables.specs.Kind.{operator};
-ghost use Rattle.tables.specs.Tree.{NODES, NO-END, window};
+ghost use Rattle.tables.specs.Tree.{NODES, window};
+ghost use Rattle.tables.specs.Rules.{WindowRules};
 ghost use Rattle.windows.specs.Bounds.{Short};
 ghost use Rattle.verdicts.specs.Cells.{row-value, cells};
 ghost use Rattle.verdicts.specs.Rows.{strong-window, left-sign, row-of, Ready, Filled};
@@ -43,7 +44,7 @@ fn row_for(affirmed: bool, k: usize) -> usize
 
 // The node's window, strengthened; in the negation it is that of the dual operator.
 fn row_window(node: Node, affirmed: bool, step: u64) -> Window
-    requires { ⌜ (node .span .hi ≤ NO-END) × Short (window node) × (step ≤ LONGEST-STEP) ⌝ }
+    requires { ⌜ WindowRules (node .span) × Short (window node) × (step ≤ LONGEST-STEP) ⌝ }
     ensures { λ r. ⌜ r ≡ strong-window affirmed step (operator (node .kind)) node ⌝ }
 {
     let e = logic::turn(affirmed, tables::extremum_of(node.kind));

@@ -20,7 +20,6 @@ ghost use Rattle.watch_cells.specs.Taking.{IsDistance, LeafValue, IsPoin
 use logic::Extremum;
 use recordings::TOP;
 use tables::Node;
-use tables::Span;
 
 // Where the scales, the predicates' numbers and the nodes begin, and the nodes' cells.
 pub const SCALES_AT: usize = 5;
@@ -49,16 +48,7 @@ fn node_of(numbers: &[u64], k: usize) -> Node
     requires { ⌜ (NUMBERS ≤ length (now numbers)) × (k < NODES) ⌝ }
     ensures { λ r. ⌜ r ≡ node-in (now (numbers .entry)) k ⌝ }
 {
-    let at = NODES_AT + building::WIDTH * k;
-    Node {
-        kind: numbers[at],
-        left: numbers[at + 1] as usize,
-        right: numbers[at + 2] as usize,
-        span: Span {
-            lo: numbers[at + 3],
-            hi: numbers[at + 4],
-        },
-    }
+    building::read_node(numbers, NODES_AT + building::WIDTH * k)
 }
 
 // The distance of the row's value from a predicate. Numbers that no making left name some predicate and some scale; TOP where there is no distance.

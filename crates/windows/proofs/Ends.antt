@@ -9,21 +9,24 @@ use Rattle.logic.specs.declared.Stop.the-variants.{Endless, Before}
 use Rattle.tables.specs.declared.Span.{Span}
 use Rattle.tables.specs.declared.Node.{Node}
 use Rattle.tables.specs.Kind.{operator}
-use Rattle.tables.specs.Tree.{NO-END, window}
-use Rattle.tables.specs.Rules.{NodeRules, EndsRules, timed}
+use Rattle.tables.specs.Tree.{NO-END, as-read, window}
+use Rattle.tables.specs.Rules.{WindowRules, NodeRules, timed}
+use Rattle.tables.proofs.Rules.{window-ruled}
 use Rattle.windows.specs.Bounds.{Short, ShortStop}
 
-ends-short : (t : Bool) (w : Span) → EndsRules t w → (w .lo ≤ NO-END) × (w .hi ≤ NO-END)
-ends-short true w e = elim (e .high) [ inl h ↦ (omega (arith, e .low), omega arith) | inr h ↦ (omega (arith, e .low), omega arith) ]
-ends-short false w e = rw e (omega arith)
+pub end-known : {w : Span} → WindowRules w → w .hi ≤ NO-END
+end-known r = elim (r .high) [ inl h ↦ omega arith | inr h ↦ omega arith ]
+
+read-short : (w : Span) → WindowRules w → Short (as-read w)
+read-short w r = record { from = omega (arith, r .low); stop = stop (eqb (w .hi) NO-END) (end-known r) }
+  where
+    stop : (t : Bool) → w .hi ≤ NO-END → ShortStop (cond t Endless (Before (suc (w .hi))))
+    stop true h = tt
+    stop false h = omega arith
 
 module _ {n : Node} {k : ℕ} (r : NodeRules n k) where
-  pub end-known : n .span .hi ≤ NO-END
-  end-known = ends-short (timed (operator (n .kind))) (n .span) (r .ends) .1
+  pub ruled-window : WindowRules (n .span)
+  ruled-window = window-ruled (timed (operator (n .kind))) (n .span) (r .ends)
 
   pub window-short : Short (window n)
-  window-short = record { from = ends-short (timed (operator (n .kind))) (n .span) (r .ends) .0; stop = stop (eqb (n .span .hi) NO-END) end-known }
-    where
-      stop : (t : Bool) → n .span .hi ≤ NO-END → ShortStop (cond t Endless (Before (suc (n .span .hi))))
-      stop true h = tt
-      stop false h = omega arith
+  window-short = read-short (n .span) ruled-window

@@ -3,6 +3,7 @@ ghost use mathlib.Core.Path.{_≡_};
 ghost use Prim.Native.Nat.{_-_, _≤_};
 ghost use Rattle.logic.specs.Strengthening.{sooner, later, delayed, contraction, expansion, strengthen-window};
 ghost use Rattle.tables.specs.Tree.{NO-END, window};
+ghost use Rattle.tables.specs.Rules.{WindowRules};
 ghost use Rattle.windows.specs.Bounds.{Short, ShortStop};
 use logic::Extremum;
 use logic::Stop;
@@ -11,7 +12,7 @@ use tables::Node;
 
 // The window from lo to hi, both counted.
 pub fn plain(node: Node) -> Window
-    requires { ⌜ node .span .hi ≤ NO-END ⌝ }
+    requires { ⌜ WindowRules (node .span) ⌝ }
     ensures { λ r. ⌜ r ≡ window node ⌝ }
 {
     let lo = node.span.lo;

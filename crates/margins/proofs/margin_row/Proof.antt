@@ -11,7 +11,7 @@ use Rattle.recordings.specs.Card.{Card, card}
 use Rattle.tables.specs.Kind.{operator, not-kind}
 use Rattle.tables.specs.Rules.{Used, left-use}
 use Rattle.tables.proofs.EveryKind.{no-not}
-use Rattle.windows.proofs.Ends.{end-known}
+use Rattle.windows.proofs.Ends.{ruled-window}
 use Rattle.rows.specs.Cells.{cell}
 use Rattle.nodes.specs.Values.{node-value}
 use Rattle.nodes.proofs.Operands.{node-asks}
@@ -33,7 +33,7 @@ signed-row-requires c κs =
     (record { earlier = h; room = s .pre .room }, s .pre .bounded _ h)
 
 plain-requires : tie.Need-plain-requires
-plain-requires c κs = end-known (c .before .before .before .pre .ruled)
+plain-requires c κs = ruled-window (c .before .before .before .pre .ruled)
 
 node-row-requires : tie.Need-node-row-requires
 node-row-requires c κs =

@@ -1,6 +1,6 @@
 -- The rows before this one hold what its node reads, so the node's row function fills what row r is to hold.
 -- Assumes nothing.
-use Rattle.windows.proofs.Ends.{end-known, window-short}
+use Rattle.windows.proofs.Ends.{ruled-window, window-short}
 use Rattle.verdicts.proofs.Rows.{rules, left-small, right-small, asks-at, row-filled}
 use borrow.Author.Needs.{needs}
 use Rattle.verdicts.proofs.strong_row.Statement.{statement}
@@ -13,7 +13,7 @@ element-copy-out-node : tie.Need-element-copy-out-node
 element-copy-out-node c = search needs
 
 row-window-requires : tie.Need-row-window-requires
-row-window-requires c κs = (end-known (rules (c .before .before .pre)), window-short (rules (c .before .before .pre)), c .before .before .pre .ready .step-bound)
+row-window-requires c κs = (ruled-window (rules (c .before .before .pre)), window-short (rules (c .before .before .pre)), c .before .before .pre .ready .step-bound)
 
 left-row-requires : tie.Need-left-row-requires
 left-row-requires c κs = left-small (c .before .before .before .pre)
