@@ -49,7 +49,7 @@ sets-append l i (v ∷ vs) ws = let e : i + suc (length vs) ≡ suc i + length v
 
 -- a node's stores are one run
 pub sets-node : (l : List ℕ) (i : ℕ) (x : Node)
-    → set (set (set (set (set l i (x .kind)) (i + 1) (x .left)) (i + 2) (x .right)) (i + 3) (x .span .lo)) (i + 4) (x .span .hi) ≡ sets l i (numbers-of x)
+    → set (set (set (set (set (set (set l i (x .kind)) (i + 1) (x .left)) (i + 2) (x .right)) (i + 3) (x .span .lo)) (i + 4) (x .span .hi)) (i + 5) (x .span .openlo)) (i + 6) (x .span .openhi) ≡ sets l i (numbers-of x)
 sets-node l i x = simp towards-suc
 
 -- nodes after nodes
@@ -65,7 +65,7 @@ sets-nodes l o m xs ys e =
 pub read-alike : (a b : List ℕ) (i j : ℕ) → ((f : ℕ) → f < WIDTH → getD a (i + f) 0 ≡ getD b (j + f) 0) → node-read a i ≡ node-read b j
 read-alike a b i j h =
     let z : getD a i 0 ≡ getD b j 0 = rw (add-zero i, add-zero j) at (h 0 (omega arith)) in
-    rw (z, h 1 (omega arith), h 2 (omega arith), h 3 (omega arith), h 4 (omega arith))
+    rw (z, h 1 (omega arith), h 2 (omega arith), h 3 (omega arith), h 4 (omega arith), h 5 (omega arith), h 6 (omega arith))
 
 -- a node behind other numbers
 read-behind : (front cells : List ℕ) (at : ℕ) → node-read (front ++ cells) (length front + at) ≡ node-read cells at

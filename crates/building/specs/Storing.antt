@@ -10,7 +10,7 @@ use Rattle.text.specs.Bytes.{bytes}
 use Rattle.text.specs.Mark.{mark-at, after-mark}
 use Rattle.tables.specs.declared.Node.{Node}
 use Rattle.tables.specs.declared.Table.{Table}
-use Rattle.tables.specs.Tree.{NODES, span}
+use Rattle.tables.specs.Tree.{NODES, marked}
 use Rattle.tables.specs.declared.Span.{Span}
 use Rattle.grammar.specs.Tree.{size}
 use Rattle.grammar.specs.Reading.{Reading, got, none}
@@ -18,16 +18,16 @@ use Rattle.building.specs.declared.Step.{Step}
 use Rattle.building.specs.declared.Step.the-variants.{Read, Refused}
 use Rattle.building.specs.Nodes.{node, empty-table, nodes-of}
 
--- a node has five numbers
+-- a node has seven numbers
 abbrev pub WIDTH : ℕ
-WIDTH = 5
+WIDTH = 7
 
 -- cells for all nodes of a table
 abbrev pub CELLS : ℕ
 CELLS = WIDTH * NODES
 
 abbrev pub numbers-of : Node → List ℕ
-numbers-of x = x .kind ∷ x .left ∷ x .right ∷ x .span .lo ∷ x .span .hi ∷ []
+numbers-of x = x .kind ∷ x .left ∷ x .right ∷ x .span .lo ∷ x .span .hi ∷ x .span .openlo ∷ x .span .openhi ∷ []
 
 -- the numbers of nodes, one node after the other
 unfoldable pub cells-of : List Node → List ℕ
@@ -90,7 +90,7 @@ node-read cells at =
       kind = getD cells at 0;
       left = getD cells (at + 1) 0;
       right = getD cells (at + 2) 0;
-      span = span (getD cells (at + 3) 0) (getD cells (at + 4) 0);
+      span = marked (getD cells (at + 3) 0) (getD cells (at + 4) 0) (getD cells (at + 5) 0) (getD cells (at + 6) 0);
     }
 
 abbrev pub node-from : List ℕ → ℕ → Node

@@ -1,4 +1,4 @@
-// Where a requirement's nodes are kept while they are read: five cells a node, so that a deep text costs no copy of the table.
+// Where a requirement's nodes are kept while they are read: seven cells a node, so that a deep text costs no copy of the table.
 use tables::Node;
 use tables::Span;
 use tables::Table;
@@ -13,7 +13,7 @@ ghost use Rattle.building.specs.Nodes.{node, empty-table};
 ghost use Rattle.building.specs.Storing.{cells-of, step-of, leaf-cells, pushed-step, pushed-cells, parent-step, wrap-cells, join-cells, closed-step, WIDTH, node-read, node-from, table-from};
 
 // A node has so many numbers.
-pub const WIDTH: usize = 5;
+pub const WIDTH: usize = 7;
 
 // Cells for all nodes of a table.
 pub const CELLS: usize = WIDTH * tables::NODES;
@@ -45,6 +45,8 @@ pub fn push(at: usize, free: usize, x: Node, cells: &mut [u64; CELLS]) -> Step
     cells[first + 2] = x.right as u64;
     cells[first + 3] = x.span.lo;
     cells[first + 4] = x.span.hi;
+    cells[first + 5] = x.span.openlo;
+    cells[first + 6] = x.span.openhi;
     Step::Read(Part {
         end: at,
         root: free,
@@ -138,6 +140,8 @@ pub fn read_node(numbers: &[u64], at: usize) -> Node
         span: Span {
             lo: numbers[at + 3],
             hi: numbers[at + 4],
+            openlo: numbers[at + 5],
+            openhi: numbers[at + 6],
         },
     }
 }

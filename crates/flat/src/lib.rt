@@ -64,7 +64,7 @@ fn value_at(values: &[i64], at: usize) -> i64
     0
 }
 
-// The table of five numbers for each node, copied over zeros.
+// The table of nodes' numbers, copied over zeros.
 pub fn table_from(numbers: &[u64], count: u64) -> Table
     ensures { λ r. ⌜ r ≡ table-from (now (numbers .entry)) count ⌝ }
 {

@@ -1,5 +1,6 @@
 -- Document 01's grammar of requirement text, production by production: which bytes say which tree.
-use Prim.Native.Nat.{ℕ, suc, _≤_}
+use mathlib.Core.Bool.{Bool}
+use Prim.Native.Nat.{ℕ, suc, _+_, _≤_}
 use mathlib.Core.List.{List, _++_}
 use Rattle.text.specs.Bytes.{bytes}
 use Rattle.text.specs.Numeral.{Numeral}
@@ -8,15 +9,16 @@ use Rattle.grammar.specs.declared.Part.{Part}
 use Rattle.grammar.specs.declared.Part.the-variants.{Alternative as alternative, Conjunction as conjunction, Bind as bind, Unary as unary}
 use Rattle.tables.specs.Kind.{true-kind, predicate-kind, not-kind, and-kind, or-kind}
 use Rattle.grammar.specs.Operators.{letter, binders, prefixes, _∈_}
-use Rattle.tables.specs.Tree.{NODES, LONGEST, NO-END, span, no-span}
-use Rattle.grammar.specs.Tree.{Tree, truth, predicate, one, two, size}
+use Rattle.tables.specs.Tree.{NODES, LONGEST, NO-END, marked, no-span}
+use Rattle.grammar.specs.Tree.{opens, closes, mark, Tree, truth, predicate, one, two, size}
 
--- a window is `[lo,hi]`, hi perhaps `*`; the ends obey the table's limits
+-- a window is `[lo,hi]`, hi perhaps `*`, with `(` for an excluded low end and `)` for an excluded high end; without end it closes with `]`. The ends obey the table's limits, and
+-- as read something is left between them.
 pub data WindowText : List ℕ → Span → Type 0 where
-  closed : {v w : List ℕ} {lo hi : ℕ} → Numeral v lo → Numeral w hi → lo ≤ hi → hi ≤ LONGEST
-      → WindowText (bytes "[" ++ (v ++ (bytes "," ++ (w ++ bytes "]")))) (span lo hi)
-  endless : {v : List ℕ} {lo : ℕ} → Numeral v lo → lo ≤ LONGEST
-      → WindowText (bytes "[" ++ (v ++ (bytes "," ++ bytes "*]"))) (span lo NO-END)
+  ended : {v w : List ℕ} {lo hi : ℕ} (low high : Bool) → Numeral v lo → Numeral w hi → lo + mark low + mark high ≤ hi → hi ≤ LONGEST
+      → WindowText (opens low ++ (v ++ (bytes "," ++ (w ++ closes high)))) (marked lo hi (mark low) (mark high))
+  endless : {v : List ℕ} {lo : ℕ} (low : Bool) → Numeral v lo → lo ≤ LONGEST
+      → WindowText (opens low ++ (v ++ (bytes "," ++ bytes "*]"))) (marked lo NO-END (mark low) 0)
 
 -- `Derives part d text tree`: the text is such a part, says the tree, and at most d of `!`, `G`, `F` and `(` enclose one another in it
 pub data Derives : Part → ℕ → List ℕ → Tree → Type 0 where

@@ -1,11 +1,13 @@
 -- How the readers read the grammar: each part from a place of a text on, to its tree and the place after it.
-use Prim.Native.Nat.{ℕ, zero, suc}
+use Prim.Native.Nat.{ℕ, zero, suc, _+_}
 use mathlib.Core.List.{List, [], _∷_}
-use mathlib.Core.Bool.{cond}
+use mathlib.Core.Bool.{true, false, cond}
 use lib.ListN.{length}
-use lib.Dec.{leb, ltb, eqb}
+use lib.Dec.{leb, eqb}
 use Rattle.text.specs.Bytes.{bytes}
 use Rattle.text.specs.Mark.{mark-at, after-mark}
+use Rattle.text.specs.declared.Field.{Field}
+use Rattle.text.specs.declared.Field.the-variants.{Number, Bad as Field·Bad}
 use Rattle.text.specs.Number.{number-at, field-at, after-number}
 use Rattle.grammar.specs.declared.Window.{Window}
 use Rattle.grammar.specs.declared.Window.the-variants.{Ends, Bad as Window·Bad}
@@ -13,20 +15,31 @@ use Rattle.grammar.specs.declared.Operator.{Operator}
 use Rattle.grammar.specs.declared.Operator.the-variants.{Absent, Over, Bad as Operator·Bad}
 use Rattle.tables.specs.Kind.{true-kind, predicate-kind, not-kind, and-kind, or-kind}
 use Rattle.grammar.specs.Operators.{letter, binders, prefixes}
-use Rattle.tables.specs.Tree.{NODES, LONGEST, NO-END, span, no-span}
+use Rattle.tables.specs.Tree.{NODES, LONGEST, NO-END, marked, no-span}
 use Rattle.grammar.specs.Grammar.{ENCLOSINGS}
-use Rattle.grammar.specs.Tree.{Tree, truth, predicate, one, two, size}
+use Rattle.grammar.specs.Tree.{opens, closes, Tree, truth, predicate, one, two, size}
 
--- a window: `[lo,hi]` or `[lo,*]`
+-- the bracket at an end of a window, and the mark that it stands for: 0 where the end is counted, 1 where it is excluded
+unfoldable pub bracket-at : List ℕ → List ℕ → List ℕ → ℕ → Field
+bracket-at counted excluded s at = after-mark (mark-at counted s at) (λ n. Number 0 n) (after-mark (mark-at excluded s at) (λ n. Number 1 n) Field·Bad)
+
+-- the high end of a window, after its comma: `*]`, or a number and its bracket
+unfoldable pub high-end-at : ℕ → ℕ → List ℕ → ℕ → Window
+high-end-at lo openlo s at =
+    after-mark (mark-at (bytes "*]") s at)
+    (λ next. Ends (marked lo NO-END openlo 0) next)
+    (after-number (number-at s at LONGEST)
+    (λ hi close. after-number (bracket-at (closes false) (closes true) s close)
+    (λ openhi next. cond (leb (lo + openlo + openhi) hi) (Ends (marked lo hi openlo openhi) next) Window·Bad)
+    Window·Bad)
+    Window·Bad)
+
+-- a window
 unfoldable pub window-at : List ℕ → ℕ → Window
 window-at s at =
-    after-number (field-at (bytes "[") s at LONGEST)
-    (λ lo comma. after-mark (mark-at (bytes ",") s comma)
-    (λ end. after-mark (mark-at (bytes "*]") s end)
-    (λ next. Ends (span lo NO-END) next)
-    (after-number (number-at s end LONGEST)
-    (λ hi close. after-mark (mark-at (bytes "]") s close) (λ next. cond (ltb hi lo) Window·Bad (Ends (span lo hi) next)) Window·Bad)
-    Window·Bad))
+    after-number (bracket-at (opens false) (opens true) s at)
+    (λ openlo first. after-number (number-at s first LONGEST)
+    (λ lo comma. after-mark (mark-at (bytes ",") s comma) (λ end. high-end-at lo openlo s end) Window·Bad)
     Window·Bad)
     Window·Bad
 

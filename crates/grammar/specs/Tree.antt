@@ -1,6 +1,20 @@
 -- Requirements as trees: what a text says, before its nodes have numbers.
 use Prim.Native.Nat.{ℕ, _+_}
+use mathlib.Core.Bool.{Bool, true, false, cond}
+use mathlib.Core.List.{List}
+use Rattle.text.specs.Bytes.{bytes}
 use Rattle.tables.specs.declared.Span.{Span}
+
+-- the brackets of a window: an end that is excluded has a round one, and its mark is 1
+abbrev pub opens : Bool → List ℕ
+opens excluded = cond excluded (bytes "(") (bytes "[")
+
+abbrev pub closes : Bool → List ℕ
+closes excluded = cond excluded (bytes ")") (bytes "]")
+
+abbrev pub mark : Bool → ℕ
+mark false = 0
+mark true = 1
 
 -- true, a predicate, or a kind with its window over one or two requirements
 pub data Tree : Type 0 where

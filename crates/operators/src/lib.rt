@@ -5,11 +5,12 @@ use tables::Span;
 use text::Field;
 use text::Mark;
 ghost use mathlib.Core.Path.{_≡_};
-ghost use Prim.Native.Nat.{_<_};
+ghost use Prim.Native.Nat.{_≤_, _<_};
 ghost use lib.ListN.{length, getD};
 ghost use Rattle.text.specs.Mark.{mark-at};
+ghost use Rattle.tables.specs.Tree.{LONGEST};
 ghost use Rattle.grammar.specs.Operators.{letters, letter};
-ghost use Rattle.grammar.specs.Reading.{window-at, over-window, timed-at, or-else, binder-at, prefix-at};
+ghost use Rattle.grammar.specs.Reading.{bracket-at, high-end-at, window-at, over-window, timed-at, or-else, binder-at, prefix-at};
 
 fn letter_among(letters: &[u8], kind: u64) -> u8
     requires { ⌜ kind < length (now letters) ⌝ }
@@ -37,35 +38,69 @@ pub fn read_letter(s: &[u8], at: usize, kind: u64) -> Mark
     text::read_mark(s, at, &mark)
 }
 
-// A window, `[lo,hi]` or `[lo,*]`.
+// The bracket at an end of a window as its mark: 0 where the end is counted, 1 where it is excluded.
+fn read_bracket(s: &[u8], at: usize, counted: &[u8], excluded: &[u8]) -> Field
+    ensures { λ r. ⌜ r ≡ bracket-at (now (counted .entry)) (now (excluded .entry)) (now (s .entry)) at ⌝ }
+{
+    if let Mark::Next(next) = text::read_mark(s, at, counted) {
+        return Field::Number(0, next);
+    }
+    if let Mark::Next(next) = text::read_mark(s, at, excluded) {
+        return Field::Number(1, next);
+    }
+    Field::Bad
+}
+
+// The high end of a window, after its comma: `*]`, or a number and its bracket. As it is read, something must be left of the window.
+fn read_high_end(s: &[u8], at: usize, lo: u64, openlo: u64) -> Window
+    requires { ⌜ (lo ≤ LONGEST) × (openlo ≤ 1) ⌝ }
+    ensures { λ r. ⌜ r ≡ high-end-at lo openlo (now (s .entry)) at ⌝ }
+{
+    if let Mark::Next(past) = text::read_mark(s, at, b"*]") {
+        return Window::Ends(
+            Span {
+                lo: lo,
+                hi: tables::NO_END,
+                openlo: openlo,
+                openhi: 0,
+            },
+            past,
+        );
+    }
+    let Field::Number(hi, close) = text::read_number(s, at, tables::LONGEST) else {
+        return Window::Bad;
+    };
+    let Field::Number(openhi, next) = read_bracket(s, close, b"]", b")") else {
+        return Window::Bad;
+    };
+    if hi < lo + openlo + openhi {
+        return Window::Bad;
+    }
+    Window::Ends(
+        Span {
+            lo: lo,
+            hi: hi,
+            openlo: openlo,
+            openhi: openhi,
+        },
+        next,
+    )
+}
+
+// A window: `[lo,hi]` or `[lo,*]`, with `(` and `)` for excluded ends.
 fn read_window(s: &[u8], at: usize) -> Window
     ensures { λ r. ⌜ r ≡ window-at (now (s .entry)) at ⌝ }
 {
-    let Field::Number(lo, comma) = text::read_field(s, at, b"[", tables::LONGEST) else {
+    let Field::Number(openlo, first) = read_bracket(s, at, b"[", b"(") else {
+        return Window::Bad;
+    };
+    let Field::Number(lo, comma) = text::read_number(s, first, tables::LONGEST) else {
         return Window::Bad;
     };
     let Mark::Next(end) = text::read_mark(s, comma, b",") else {
         return Window::Bad;
     };
-    if let Mark::Next(past) = text::read_mark(s, end, b"*]") {
-        return Window::Ends(
-            Span {
-                lo: lo,
-                hi: tables::NO_END,
-            },
-            past,
-        );
-    }
-    let Field::Number(hi, close) = text::read_number(s, end, tables::LONGEST) else {
-        return Window::Bad;
-    };
-    let Mark::Next(next) = text::read_mark(s, close, b"]") else {
-        return Window::Bad;
-    };
-    if hi < lo {
-        return Window::Bad;
-    }
-    Window::Ends(Span { lo: lo, hi: hi }, next)
+    read_high_end(s, end, lo, openlo)
 }
 
 fn over(kind: u64, w: Window) -> Operator

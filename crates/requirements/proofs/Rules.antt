@@ -19,9 +19,9 @@ use Rattle.tables.specs.Rules.{Use, child, number, unused, is-child, left-use, 
 use Rattle.tables.proofs.Rules.{child-is, table-passes}
 use Rattle.tables.specs.declared.Span.{Span}
 use Rattle.grammar.specs.Operators.{binders, prefixes, _∈_}
-use Rattle.grammar.specs.Tree.{Tree, truth, predicate, one, two, size}
+use Rattle.grammar.specs.Tree.{mark, Tree, truth, predicate, one, two, size}
 use Rattle.grammar.specs.declared.Part.{Part}
-use Rattle.grammar.specs.Grammar.{WindowText, closed, endless, Derives, alternative-one, alternative-more, conjunction-one, conjunction-more, bind-one, bind-two, unary-not, unary-timed, unary-true, unary-predicate, unary-group, Requires}
+use Rattle.grammar.specs.Grammar.{WindowText, ended, endless, Derives, alternative-one, alternative-more, conjunction-one, conjunction-more, bind-one, bind-two, unary-not, unary-timed, unary-true, unary-predicate, unary-group, Requires}
 use Rattle.grammar.proofs.Letters.{all-in}
 use Rattle.building.specs.Nodes.{node, empty-node, nodes-of, table-of}
 use Rattle.building.specs.Order.{NodeOrdered, LeftRightParent}
@@ -43,9 +43,13 @@ Proper (predicate p) = p ≤ 15
 Proper (one k w a) = KindRules k unused w × Proper a
 Proper (two k w a b) = KindRules k child w × Proper a × Proper b
 
-window-ends : {x : List ℕ} {r : Span} → WindowText x r → WindowRules r
-window-ends (closed a b l m) = record { low = omega arith; high = inr (m, l) }
-window-ends (endless a l) = record { low = l; high = inl refl }
+pub mark-small : (b : Bool) → mark b ≤ 1
+mark-small false = omega arith
+mark-small true = omega arith
+
+pub window-ends : {x : List ℕ} {r : Span} → WindowText x r → WindowRules r
+window-ends (ended low high a b l m) = record { low = omega arith; marks = (mark-small low, mark-small high); high = inr (m, l) }
+window-ends (endless low a l) = record { low = l; marks = (mark-small low, omega arith); high = inl (refl, refl) }
 
 -- whether a kind has a window, a child on the left, and on the right what a test of uses asks for
 suits : (Use → Bool) → ℕ → Bool

@@ -4,7 +4,7 @@ use Prim.Native.String.{String}
 use mathlib.Core.List.{List, [], _∷_, _++_}
 use Rattle.text.specs.Bytes.{bytes}
 use Rattle.tables.specs.Kind.{not-kind, and-kind, or-kind, until-kind, release-kind, eventually-kind, always-kind}
-use Rattle.tables.specs.Tree.{NO-END, span, no-span}
+use Rattle.tables.specs.Tree.{NO-END, marked, span, no-span}
 use Rattle.grammar.specs.Tree.{Tree, truth, predicate, one, two}
 use Rattle.requirements.specs.declared.Requirement.{Requirement}
 use Rattle.requirements.specs.Requirement.{accepted, refused}
@@ -92,4 +92,18 @@ examples =
     -- 64 nodes and 65
     ∷ reads-as (bytes "!T" ++ times 31 "&T") (ands 31 (no truth))
     ∷ is-none (bytes "!!T" ++ times 31 "&T")
+    -- excluded ends; something must be left, and without end there is none to exclude
+    ∷ reads-as (bytes "F(5,6]p0") (one eventually-kind (marked 5 6 1 0) (p 0))
+    ∷ reads-as (bytes "p0U[5,6)p1") (two until-kind (marked 5 6 0 1) (p 0) (p 1))
+    ∷ reads-as (bytes "G(1000000000,*]p0") (one always-kind (marked 1_000_000_000 NO-END 1 0) (p 0))
+    ∷ is-none (bytes "F(5,5]p0")
+    ∷ is-none (bytes "F[5,5)p0")
+    ∷ is-none (bytes "F(5,6)p0")
+    ∷ is-none (bytes "F[0,*)p0")
+    -- a window's bracket is no parenthesis
+    ∷ reads-as (bytes "F(0,1](p0)") (one eventually-kind (marked 0 1 1 0) (p 0))
+    ∷ is-none (bytes "F (0,1]p0")
+    ∷ is-none (bytes "F(p0)")
+    ∷ reads-as (times 31 "!" ++ bytes "F(0,1]T") (nots 31 (one eventually-kind (marked 0 1 1 0) truth))
+    ∷ is-none (times 31 "!" ++ bytes "F(0,1](T)")
     ∷ []

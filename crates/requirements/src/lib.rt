@@ -94,7 +94,12 @@ fn read_conjunction(
         };
         p = building::join(
             tables::AND,
-            Span { lo: 0, hi: 0 },
+            Span {
+                lo: 0,
+                hi: 0,
+                openlo: 0,
+                openhi: 0,
+            },
             part.root,
             read_bind(s, next, depth, part.free, cells),
             cells,
@@ -122,7 +127,12 @@ fn read_alternative(
         };
         p = building::join(
             tables::OR,
-            Span { lo: 0, hi: 0 },
+            Span {
+                lo: 0,
+                hi: 0,
+                openlo: 0,
+                openhi: 0,
+            },
             part.root,
             read_conjunction(s, next, depth, part.free, cells),
             cells,

@@ -3,7 +3,7 @@
 use Prim.Native.Nat.{ℕ}
 use mathlib.Core.Bool.{Bool, true, false, cond}
 use mathlib.Core.List.{List, [], _++_}
-use lib.Dec.{leb, eqb}
+use lib.Dec.{leb, ltb, eqb}
 use Rattle.logic.specs.declared.Extremum.the-variants.{Largest, Smallest}
 use Rattle.text.specs.Bytes.{bytes}
 use Rattle.printing.specs.Decimal.{decimal}
@@ -14,7 +14,7 @@ use Rattle.tables.specs.declared.Span.{Span}
 use Rattle.grammar.specs.declared.Part.{Part}
 use Rattle.grammar.specs.declared.Part.the-variants.{Alternative as alternative, Conjunction as conjunction, Bind as bind, Unary as unary}
 use Rattle.grammar.specs.Operators.{letter}
-use Rattle.grammar.specs.Tree.{Tree, truth, predicate, one, two}
+use Rattle.grammar.specs.Tree.{opens, closes, Tree, truth, predicate, one, two}
 
 -- ---- parts
 
@@ -61,9 +61,20 @@ stands-as due own = leb (rank due) (rank own)
 abbrev pub grouped : Part → Part → List ℕ → List ℕ
 grouped due own w = cond (stands-as due own) w (bytes "(" ++ (w ++ bytes ")"))
 
--- a window as it is read: `[lo,hi]`, or `[lo,*]` without end; nothing for a kind that has none
+-- the brackets of a mark: square where the end is counted, round where it is excluded
+abbrev pub opening-of : ℕ → List ℕ
+opening-of mark = opens (ltb 0 mark)
+
+abbrev pub closing-of : ℕ → List ℕ
+closing-of mark = closes (ltb 0 mark)
+
+-- what follows a window's comma
+abbrev pub end-text : Span → List ℕ
+end-text w = cond (eqb (w .hi) NO-END) (bytes "*]") (decimal (w .hi) ++ closing-of (w .openhi))
+
+-- a window as it is read, nothing for a kind that has none
 abbrev pub window-text : Bool → Span → List ℕ
-window-text true w = bytes "[" ++ (decimal (w .lo) ++ (bytes "," ++ cond (eqb (w .hi) NO-END) (bytes "*]") (decimal (w .hi) ++ bytes "]")))
+window-text true w = opening-of (w .openlo) ++ (decimal (w .lo) ++ (bytes "," ++ end-text w))
 window-text false w = []
 
 -- an operator: its letter and its window

@@ -4,13 +4,14 @@ use grammar::Part;
 use tables::Span;
 ghost use mathlib.Core.Path.{_≡_};
 ghost use mathlib.Core.List.{_++_};
-ghost use mathlib.Core.Bool.{true};
+ghost use mathlib.Core.Bool.{true, cond};
+ghost use lib.Dec.{ltb};
 ghost use Rattle.printing.specs.Decimal.{decimal};
 ghost use Rattle.printing.specs.Output.{output, printed};
 ghost use Rattle.tables.specs.Kind.{predicate-kind};
 ghost use Rattle.grammar.specs.Operators.{letter};
-ghost use Rattle.spelling.specs.Text.{part-of, left-part, right-part, rank, stands-as, window-text, sign};
-ghost use Rattle.spelling.specs.Pieces.{opening, closing, end-text};
+ghost use Rattle.spelling.specs.Text.{part-of, left-part, right-part, rank, stands-as, end-text, window-text, sign};
+ghost use Rattle.spelling.specs.Pieces.{opening, closing};
 
 // The part of the grammar that a kind makes. A number that is no kind's makes a unary, as the definitions have it.
 pub fn part_of(kind: u64) -> Part
@@ -97,25 +98,36 @@ fn write_letter(out: &mut [u8], at: usize, kind: u64) -> usize
     printing::word(out, at, &mark)
 }
 
-// What follows a window's comma: its end, or `*` where it has none.
-fn write_end(out: &mut [u8], at: usize, hi: u64) -> usize
-    ensures { λ r. ⌜ output (out .exit) r ≡ printed (output (out .entry) at) (end-text hi) ⌝ }
+// The bracket at an end of a window: another where a mark excludes that end.
+fn write_bracket(out: &mut [u8], at: usize, mark: u64, counted: &[u8], excluded: &[u8]) -> usize
+    ensures { λ r. ⌜ output (out .exit) r ≡ printed (output (out .entry) at) (cond (ltb 0 mark) (now (excluded .entry)) (now (counted .entry))) ⌝ }
 {
+    if 0 < mark {
+        return printing::word(out, at, excluded);
+    }
+    printing::word(out, at, counted)
+}
+
+// What follows a window's comma: its end, or `*` where it has none.
+fn write_end(out: &mut [u8], at: usize, span: Span) -> usize
+    ensures { λ r. ⌜ output (out .exit) r ≡ printed (output (out .entry) at) (end-text span) ⌝ }
+{
+    let hi = span.hi;
     if hi == tables::NO_END {
         return printing::word(out, at, b"*]");
     }
     let at = printing::number(out, at, hi);
-    printing::word(out, at, b"]")
+    write_bracket(out, at, span.openhi, b"]", b")")
 }
 
-// A window, `[lo,hi]` or `[lo,*]`.
+// A window: `[lo,hi]` or `[lo,*]`, with `(` and `)` for excluded ends.
 fn write_window(out: &mut [u8], at: usize, span: Span) -> usize
     ensures { λ r. ⌜ output (out .exit) r ≡ printed (output (out .entry) at) (window-text true span) ⌝ }
 {
-    let at = printing::word(out, at, b"[");
+    let at = write_bracket(out, at, span.openlo, b"[", b"(");
     let at = printing::number(out, at, span.lo);
     let at = printing::word(out, at, b",");
-    write_end(out, at, span.hi)
+    write_end(out, at, span)
 }
 
 // An operator: its letter, and its window where its kind has one.

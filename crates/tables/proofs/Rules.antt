@@ -1,20 +1,22 @@
 -- Each test of the table's rules holds exactly where its sentence does. A test is taken apart into its parts and put together from them.
 -- Assumes nothing.
-use mathlib.Core.Path.{_≡_, refl, sym, ap₂, subst}
-use mathlib.Core.Bool.{Bool, true, false, _&&_, _||_}
-use mathlib.Core.Logic.{inl, inr}
-use Prim.Native.Nat.{ℕ, _<_}
+use mathlib.Core.Path.{_≡_, refl, sym, subst}
+use mathlib.Core.Bool.{Bool, true, false, cond, _&&_}
+use mathlib.Core.Logic.{_⊎_, inl, inr}
+use Prim.Native.Nat.{ℕ, _+_, _≤_, _<_}
 use native.Mathlib.Omega.{arith}
 use lib.Dec.{T, leb, ltb, eqb, leb→le, le→leb, ltb→lt, lt→ltb, eqb→eq}
 use lib.ListN.{length}
-use mir.Facts.{and-yes, yes-and, or-yes, yes-eqb}
-use Rattle.lists.proofs.Below.{yes-or, all-at, at-all}
+use mir.Facts.{and-yes, yes-and, yes-eqb}
+use native.Mathlib.Decide.{ℕ-discrete}
+use borrow.Author.Tests.{eq-eqb, ne-eqb}
+use Rattle.lists.proofs.Below.{all-at, at-all}
 use Rattle.tables.specs.declared.Span.{Span}
 use Rattle.tables.specs.declared.Node.{Node}
 use Rattle.tables.specs.declared.Table.{Table}
 use Rattle.tables.specs.Kind.{kinds, operator}
-use Rattle.tables.specs.Tree.{NODES, LONGEST, NO-END, span, no-span, node-at}
-use Rattle.tables.specs.Rules.{Use, child, number, unused, is-child, left-use, right-use, timed, use-obeys, Used, window-obeys, WindowRules, is-blank, ends-obey, EndsRules, node-obeys, NodeRules, nodes-obey, table-obeys, TableRules}
+use Rattle.tables.specs.Tree.{NODES, LONGEST, NO-END, no-span, node-at}
+use Rattle.tables.specs.Rules.{Use, child, number, unused, is-child, left-use, right-use, timed, use-obeys, Used, in-limits, window-obeys, WindowRules, is-blank, ends-obey, EndsRules, node-obeys, NodeRules, nodes-obey, table-obeys, TableRules}
 
 pub used : (u : Use) (k x : ℕ) → T (use-obeys u k x) → Used u k x
 used child k x t = ltb→lt x k t
@@ -44,31 +46,44 @@ use-small unused k x h l = omega arith
 pub named-small : {n : Node} {k : ℕ} → NodeRules n k → k < NODES → (n .left < NODES) × (n .right < NODES)
 named-small {n} {k} r h = (use-small (left-use (operator (n .kind))) k (n .left) (r .left) h, use-small (right-use (operator (n .kind))) k (n .right) (r .right) h)
 
+pub limits-are : (w : Span) → T (in-limits w) → (w .lo ≤ LONGEST) × (w .openlo ≤ 1) × (w .openhi ≤ 1)
+limits-are w t =
+    let a = and-yes (leb (w .lo) LONGEST) _ t in
+    let b = and-yes (leb (w .openlo) 1) (leb (w .openhi) 1) (a .1) in
+    (leb→le (w .lo) LONGEST (a .0), leb→le (w .openlo) 1 (b .0), leb→le (w .openhi) 1 (b .1))
+
+pub limits-pass : (w : Span) → w .lo ≤ LONGEST → w .openlo ≤ 1 → w .openhi ≤ 1 → T (in-limits w)
+limits-pass w l a b = yes-and (leb (w .lo) LONGEST) _ (le→leb (w .lo) LONGEST l) (yes-and (leb (w .openlo) 1) (leb (w .openhi) 1) (le→leb (w .openlo) 1 a) (le→leb (w .openhi) 1 b))
+
 pub window-rules : (w : Span) → T (window-obeys w) → WindowRules w
 window-rules w t =
-    let a = and-yes (leb (w .lo) LONGEST) _ t in
-    record {
-      low = leb→le (w .lo) LONGEST (a .0);
-      high = elim (or-yes (eqb (w .hi) NO-END) (leb (w .hi) LONGEST && leb (w .lo) (w .hi)) (a .1)) [
-        | inl h ↦ inl (eqb→eq (w .hi) NO-END h)
-        | inr h ↦ let b = and-yes (leb (w .hi) LONGEST) (leb (w .lo) (w .hi)) h in inr (leb→le (w .hi) LONGEST (b .0), leb→le (w .lo) (w .hi) (b .1))
-      ];
-    }
+    let a = and-yes (in-limits w) _ t in
+    let l = limits-are w (a .0) in
+    record { low = l .0; marks = (l .1, l .2); high = high (ℕ-discrete (w .hi) NO-END) (a .1) }
+  where
+    high : Dec (w .hi ≡ NO-END) → T (cond (eqb (w .hi) NO-END) (eqb (w .openhi) 0) (leb (w .hi) LONGEST && leb (w .lo + w .openlo + w .openhi) (w .hi)))
+        → ((w .hi ≡ NO-END) × (w .openhi ≡ 0)) ⊎ ((w .hi ≤ LONGEST) × (w .lo + w .openlo + w .openhi ≤ w .hi))
+    high (yes e) t = inl (e, eqb→eq (w .openhi) 0 (rw (eq-eqb (w .hi) NO-END e) at t))
+    high (no e) t =
+        let b = and-yes (leb (w .hi) LONGEST) _ (rw (ne-eqb (w .hi) NO-END e) at t) in
+        inr (leb→le (w .hi) LONGEST (b .0), leb→le (w .lo + w .openlo + w .openhi) (w .hi) (b .1))
 
 pub window-passes : (w : Span) → WindowRules w → T (window-obeys w)
 window-passes w r =
-    yes-and (leb (w .lo) LONGEST) (eqb (w .hi) NO-END || (leb (w .hi) LONGEST && leb (w .lo) (w .hi))) (le→leb (w .lo) LONGEST (r .low))
-    (yes-or (eqb (w .hi) NO-END) (leb (w .hi) LONGEST && leb (w .lo) (w .hi)) (elim (r .high) [
-      | inl h ↦ inl (yes-eqb h)
-      | inr h ↦ inr (yes-and (leb (w .hi) LONGEST) (leb (w .lo) (w .hi)) (le→leb (w .hi) LONGEST (h .0)) (le→leb (w .lo) (w .hi) (h .1)))
-    ]))
+    yes-and (in-limits w) _ (limits-pass w (r .low) (r .marks .0) (r .marks .1))
+    (elim (r .high) [
+      | inl h ↦ rw (eq-eqb (w .hi) NO-END (h .0)) (yes-eqb (h .1))
+      | inr h ↦
+          rw (ne-eqb (w .hi) NO-END (λ (e : w .hi ≡ NO-END). omega arith))
+          (yes-and (leb (w .hi) LONGEST) (leb (w .lo + w .openlo + w .openhi) (w .hi)) (le→leb (w .hi) LONGEST (h .0)) (le→leb _ (w .hi) (h .1)))
+    ])
 
 blank-is : (w : Span) → T (is-blank w) → w ≡ no-span
 blank-is w t =
-    let a = and-yes (eqb (w .lo) 0) (eqb (w .hi) 0) t in
-    let x : w .lo ≡ 0 = eqb→eq (w .lo) 0 (a .0) in
-    let y : w .hi ≡ 0 = eqb→eq (w .hi) 0 (a .1) in
-    ap₂ span x y
+    let a = and-yes (eqb (w .lo) 0) _ t in
+    let b = and-yes (eqb (w .hi) 0) _ (a .1) in
+    let c = and-yes (eqb (w .openlo) 0) (eqb (w .openhi) 0) (b .1) in
+    rw (eqb→eq (w .lo) 0 (a .0), eqb→eq (w .hi) 0 (b .0), eqb→eq (w .openlo) 0 (c .0), eqb→eq (w .openhi) 0 (c .1)) refl
 
 pub ends-rules : (timed : Bool) (w : Span) → T (ends-obey timed w) → EndsRules timed w
 ends-rules true w t = window-rules w t
@@ -81,7 +96,7 @@ ends-pass false w r = rw r tt
 -- the numbers of a kind without a window obey as a window's do
 pub window-ruled : (timed : Bool) (w : Span) → EndsRules timed w → WindowRules w
 window-ruled true w r = r
-window-ruled false w r = rw r (record { low = omega arith; high = inr (omega arith, omega arith) })
+window-ruled false w r = rw r (record { low = omega arith; marks = (omega arith, omega arith); high = inr (omega arith, omega arith) })
 
 pub node-rules : (n : Node) (k : ℕ) → T (node-obeys n k) → NodeRules n k
 unfolding node-obeys

@@ -1,10 +1,10 @@
 -- Refusal 3, of the table alone: the rules of a requirement table, each as a test and as the sentence that the test stands for. `proofs/Rules` shows the two equal.
 -- Assumes nothing.
 use mathlib.Core.Path.{_≡_}
-use mathlib.Core.Bool.{Bool, true, false, _&&_, _||_}
+use mathlib.Core.Bool.{Bool, true, false, cond, _&&_}
 use mathlib.Core.Logic.{_⊎_}
 use mathlib.Core.List.{List}
-use Prim.Native.Nat.{ℕ, _≤_, _<_}
+use Prim.Native.Nat.{ℕ, _+_, _≤_, _<_}
 use lib.Dec.{leb, ltb, eqb}
 use lib.ListN.{length}
 use Rattle.lists.specs.Fold.{all-below}
@@ -62,17 +62,21 @@ Used child k x = x < k
 Used number k x = x ≤ 15
 Used unused k x = x ≡ 0
 
--- a window has lo and hi up to 1,000,000,000, lo ≤ hi, or hi 4,294,967,295 for no end
+-- a window has lo and hi up to 1,000,000,000, or hi 4,294,967,295 for no end; its marks are 0 or 1, without end the high one 0; as read it is not empty
+abbrev pub in-limits : Span → Bool
+in-limits w = leb (w .lo) LONGEST && (leb (w .openlo) 1 && leb (w .openhi) 1)
+
 abbrev pub window-obeys : Span → Bool
-window-obeys w = leb (w .lo) LONGEST && (eqb (w .hi) NO-END || (leb (w .hi) LONGEST && leb (w .lo) (w .hi)))
+window-obeys w = in-limits w && cond (eqb (w .hi) NO-END) (eqb (w .openhi) 0) (leb (w .hi) LONGEST && leb (w .lo + w .openlo + w .openhi) (w .hi))
 
 pub record WindowRules (w : Span) : Type 0 where
   pub low : w .lo ≤ LONGEST
-  pub high : (w .hi ≡ NO-END) ⊎ ((w .hi ≤ LONGEST) × (w .lo ≤ w .hi))
+  pub marks : (w .openlo ≤ 1) × (w .openhi ≤ 1)
+  pub high : ((w .hi ≡ NO-END) × (w .openhi ≡ 0)) ⊎ ((w .hi ≤ LONGEST) × (w .lo + w .openlo + w .openhi ≤ w .hi))
 
 -- where there is no window its numbers are unused
 abbrev pub is-blank : Span → Bool
-is-blank w = eqb (w .lo) 0 && eqb (w .hi) 0
+is-blank w = eqb (w .lo) 0 && (eqb (w .hi) 0 && (eqb (w .openlo) 0 && eqb (w .openhi) 0))
 
 abbrev pub ends-obey : Bool → Span → Bool
 ends-obey true w = window-obeys w

@@ -2,7 +2,7 @@
 -- Assumes nothing.
 use mathlib.Core.Bool.{cond}
 use mathlib.Core.List.{List, [], _∷_, _++_}
-use Prim.Native.Nat.{ℕ, zero, suc, _-_}
+use Prim.Native.Nat.{ℕ, zero, suc, _+_, _-_}
 use lib.Dec.{eqb}
 use lib.ListN.{getD}
 use Rattle.logic.specs.declared.Stop.the-variants.{Endless, Before}
@@ -26,16 +26,19 @@ LONGEST = 1_000_000_000
 abbrev pub NO-END : ℕ
 NO-END = 4_294_967_295
 
--- a window's ends as they are written, and those of a kind without a window
+-- a window as it is written: its ends, and for each the mark that excludes it; with both ends counted; and the numbers of a kind without a window
+abbrev pub marked : ℕ → ℕ → ℕ → ℕ → Span
+marked lo hi openlo openhi = record { lo = lo; hi = hi; openlo = openlo; openhi = openhi }
+
 abbrev pub span : ℕ → ℕ → Span
-span lo hi = record { lo = lo; hi = hi }
+span lo hi = marked lo hi 0 0
 
 abbrev pub no-span : Span
 no-span = span 0 0
 
--- the window from lo to hi, both counted
+-- the window as it is read: an excluded low end reads as lo + 1, an excluded high end as hi - 1; what is read is counted, so the first second past it is hi + 1, or hi
 abbrev pub as-read : Span → Window
-as-read w = record { from = w .lo; stop = cond (eqb (w .hi) NO-END) Endless (Before (suc (w .hi))) }
+as-read w = record { from = w .lo + w .openlo; stop = cond (eqb (w .hi) NO-END) Endless (Before (suc (w .hi) - w .openhi)) }
 
 abbrev pub window : Node → Window
 window n = as-read (n .span)

@@ -1,10 +1,10 @@
-// The requirement table: up to 64 nodes of five numbers each, the root last; and the test of its rules, which specs/Rules.antt states.
-// The tests take every number that the types hold: none of them adds to a number.
+// The requirement table: up to 64 nodes of seven numbers each, the root last; and the test of its rules, which specs/Rules.antt states.
+// The tests take every number that the types hold: none of them adds to a number that it has not bounded.
 ghost use mathlib.Core.Path.{_≡_};
 ghost use Rattle.tables.specs.Kind.{operator, operator-extremum};
 ghost use Prim.Native.Nat.{_≤_};
 ghost use Rattle.tables.specs.Tree.{NODES, no-span};
-ghost use Rattle.tables.specs.Rules.{is-child, left-use, right-use, timed, use-obeys, window-obeys, is-blank, ends-obey, node-obeys, nodes-obey, table-obeys};
+ghost use Rattle.tables.specs.Rules.{is-child, left-use, right-use, timed, use-obeys, in-limits, window-obeys, is-blank, ends-obey, node-obeys, nodes-obey, table-obeys};
 use logic::Extremum;
 
 // The kinds of nodes; the definitions have them in specs/Kind.antt.
@@ -38,10 +38,12 @@ pub const LONGEST: u64 = 1_000_000_000;
 // `hi` of a window without end.
 pub const NO_END: u64 = 4_294_967_295;
 
-// A window as it is written: its two ends. Kinds without a window have both at 0.
+// A window as it is written: its two ends, and a mark for each, 1 where that end is excluded. Kinds without a window have all at 0.
 pub struct Span {
     pub lo: u64,
     pub hi: u64,
+    pub openlo: u64,
+    pub openhi: u64,
 }
 
 // One node: its kind, its children (for a predicate, the predicate's number in left), and its window.
@@ -62,7 +64,12 @@ pub struct Table {
 pub fn no_span() -> Span
     ensures { λ r. ⌜ r ≡ no-span ⌝ }
 {
-    Span { lo: 0, hi: 0 }
+    Span {
+        lo: 0,
+        hi: 0,
+        openlo: 0,
+        openhi: 0,
+    }
 }
 
 // Whether a kind's left number is a child.
@@ -119,16 +126,33 @@ fn right_obeys(kind: u64, right: usize, k: usize) -> bool
     right == 0
 }
 
-fn window_obeys(w: Span) -> bool
+// Whether a window's low end and its marks are within their limits.
+fn in_limits(w: Span) -> bool
+    ensures { λ r. ⌜ r ≡ in-limits w ⌝ }
+{
+    (w.lo <= LONGEST) & ((w.openlo <= 1) & (w.openhi <= 1))
+}
+
+// Whether a window obeys: nothing is added to its ends before they are known to be within their limits.
+pub fn window_obeys(w: Span) -> bool
     ensures { λ r. ⌜ r ≡ window-obeys w ⌝ }
 {
-    (w.lo <= LONGEST) & ((w.hi == NO_END) | ((w.hi <= LONGEST) & (w.lo <= w.hi)))
+    if !in_limits(w) {
+        return false;
+    }
+    let lo = w.lo;
+    let hi = w.hi;
+    if hi == NO_END {
+        return w.openhi == 0;
+    }
+    let least = lo + w.openlo + w.openhi;
+    (hi <= LONGEST) & (least <= hi)
 }
 
 fn is_blank(w: Span) -> bool
     ensures { λ r. ⌜ r ≡ is-blank w ⌝ }
 {
-    (w.lo == 0) & (w.hi == 0)
+    (w.lo == 0) & ((w.hi == 0) & ((w.openlo == 0) & (w.openhi == 0)))
 }
 
 fn ends_obey(kind: u64, w: Span) -> bool

@@ -3,7 +3,8 @@
 use mathlib.Core.Path.{_≡_, refl, sym, ap, _∙_, subst}
 use mathlib.Core.List.{List}
 use mathlib.Core.Bool.{Bool, true, false, cond, _&&_}
-use Prim.Native.Nat.{ℕ, zero, suc, _+_, _≤_, _<_}
+use Prim.Native.Nat.{ℕ, zero, suc, _+_, _-_, _≤_, _<_}
+use native.Mathlib.Nat.{add-zero}
 use native.Mathlib.Omega.{arith}
 use native.Mathlib.Decide.{ℕ-discrete}
 use lib.Dec.{T, leb, ltb, eqb, leb→le, le→leb, ltb→lt, lt→ltb}
@@ -25,21 +26,29 @@ use Rattle.recordings.specs.declared.Range.{Range}
 use Rattle.recordings.specs.Distance.{TOP, scaled-distance}
 use Rattle.tables.specs.declared.Node.{Node}
 use Rattle.tables.specs.Kind.{binary, unary, kinds, operator, predicate-kind}
-use Rattle.tables.specs.Tree.{NODES, NO-END, window}
-use Rattle.watch_cells.specs.State.{held-in}
+use Rattle.tables.specs.Tree.{NODES, NO-END}
+use Rattle.tables.specs.Rules.{window-obeys, WindowRules}
+use Rattle.tables.specs.Closed.{closed-node}
+use Rattle.tables.proofs.Rules.{window-passes}
+use Rattle.refusals.proofs.First.{answers}
+use Rattle.watch_cells.specs.State.{kept-node, kept-window, held-in}
 use Rattle.watch_cells.specs.Taking.{point-of, IsDistance, LeafValue, TimedAsks}
 
 pub clash : {b : Bool} → b ≡ true → b ≡ false → ⊥
 clash e f = subst T (sym e ∙ f) tt
 
-reached : (d hi : ℕ) → d ≤ NO-END → leb d hi ≡ reaches (cond (eqb hi NO-END) Endless (Before (suc hi))) d
+reached : (d hi : ℕ) → d ≤ NO-END → leb d hi ≡ reaches (cond (eqb hi NO-END) Endless (Before (suc hi - 0))) d
 reached d hi h = elim (ℕ-discrete hi NO-END) [
   | yes e ↦ rw (eq-eqb hi NO-END e) (le-leb d hi (omega arith))
-  | no e ↦ rw (ne-eqb hi NO-END e) (same-test (λ h. lt→ltb d (suc hi) (omega (arith, leb→le d hi h))) (λ h. le→leb d hi (omega (arith, ltb→lt d (suc hi) h))))
+  | no e ↦ rw (ne-eqb hi NO-END e) (same-test (λ h. lt→ltb d (suc hi - 0) (omega (arith, leb→le d hi h))) (λ h. le→leb d hi (omega (arith, ltb→lt d (suc hi - 0) h))))
 ]
 
-pub inside-is : (n : Node) (d : ℕ) → d ≤ NO-END → (leb (n .span .lo) d && leb d (n .span .hi)) ≡ inside (window n) d
-inside-is n d h = ap (λ (b : Bool). leb (n .span .lo) d && b) (reached d (n .span .hi) h)
+pub inside-is : (n : Node) (d : ℕ) → d ≤ NO-END → (leb (n .span .lo) d && leb d (n .span .hi)) ≡ inside (kept-window n) d
+inside-is n d h = rw (add-zero (n .span .lo)) (ap (λ (b : Bool). leb (n .span .lo) d && b) (reached d (n .span .hi) h))
+
+-- a node that obeys the rules is kept with its window closed
+pub kept-closed : (n : Node) → WindowRules (n .span) → kept-node n ≡ closed-node n
+kept-closed n r = let e : window-obeys (n .span) ≡ true = answers (window-passes (n .span) r) in rw e refl
 
 -- true and predicates come first
 pub leaf-point : (kind : ℕ) (leaf l r : ℤ) → kind ≤ 1 → leaf ≡ point-of (operator kind) leaf l r

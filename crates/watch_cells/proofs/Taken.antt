@@ -25,18 +25,20 @@ use Rattle.tables.specs.declared.Node.{Node}
 use Rattle.tables.specs.declared.Table.{Table}
 use Rattle.tables.specs.Kind.{kinds, operator, predicate-kind}
 use Rattle.tables.specs.Tree.{NODES, node-at, window, formula, tree}
-use Rattle.tables.specs.Rules.{Use, is-child, Used, left-use, right-use, timed, NodeRules}
-use Rattle.tables.proofs.Rules.{child-is, child-before}
+use Rattle.tables.specs.Rules.{Use, is-child, Used, left-use, right-use, timed, WindowRules, NodeRules}
+use Rattle.tables.specs.Closed.{closed-node}
+use Rattle.tables.proofs.Rules.{child-is, child-before, window-ruled}
 use Rattle.tables.proofs.Trees.{tree-node}
+use Rattle.tables.proofs.Windows.{closed-formula}
 use Rattle.nesting.specs.Nesting.{momentary, unnested}
 use Rattle.nesting.proofs.Nesting.{inside-momentary}
 use Rattle.arrivals.specs.Arrivals.{Row, with-row}
 use Rattle.arrivals.specs.Fits.{carried}
 use Rattle.arrivals.proofs.Growth.{rows-next, before, value-newest, newest-distance}
-use Rattle.watch_cells.specs.State.{HELD-AT, held-in, carried-by, part-of}
+use Rattle.watch_cells.specs.State.{HELD-AT, kept-node, kept-window, held-in, carried-by, part-of}
 use Rattle.watch_cells.specs.Taking.{point-of, Operand, PointAsks, IsPoint, LeafAsks, LeafValue, TimedAsks, so-far, margin-after, newest-of, Arriving, Taking}
 use Rattle.watch_cells.proofs.Own.{Only, next, cell-is, three-parts}
-use Rattle.watch_cells.proofs.Points.{leaf-point}
+use Rattle.watch_cells.proofs.Points.{kept-closed, leaf-point}
 use Rattle.watch_cells.proofs.Steps.{leaf-at, point-margin, own-untimed, own-momentary, left-of, right-of, timed-form, timed-left, unary-left-margin, carries-nothing, margin-taken, carried-taken, newest-taken, margin-before, carried-before}
 
 same-either : {X : Type 0} (b : Bool) (x : X) → cond b x x ≡ x
@@ -54,7 +56,7 @@ running : (n : ℕ) {b : Bool} → b ≡ eqb n 0 → b ≡ false → 1 ≤ n
 running zero e f = absurd (subst T (sym e ∙ f) tt)
 running (suc n) e f = omega arith
 
-module _ {numbers : List ℕ} {cells values : List ℤ} {opening : Bool} {since : ℕ} {t : Table} {c : Card} {r : Row} {k : ℕ} {n : Node} (A : Arriving values opening since t c r) (small : k < t .count) (n-is : n ≡ node-at (t .nodes) k) (K : Taking numbers cells t c r k) where
+module _ {numbers : List ℕ} {cells values : List ℤ} {opening : Bool} {since : ℕ} {t : Table} {c : Card} {r : Row} {k : ℕ} {n : Node} (A : Arriving values opening since t c r) (small : k < t .count) (n-is : n ≡ kept-node (node-at (t .nodes) k)) (K : Taking numbers cells t c r k) where
   few : k < NODES
   few = omega (arith, A .ruled .few-nodes, small)
 
@@ -64,14 +66,33 @@ module _ {numbers : List ℕ} {cells values : List ℤ} {opening : Bool} {since 
   abbrev longer : Card
   longer = with-row c r
 
-  rules : NodeRules n k
-  rules = subst (λ (m : Node). NodeRules m k) (sym n-is) (A .ruled .each k small)
+  -- the table's own node, which is kept with its window closed
+  abbrev given : Node
+  given = node-at (t .nodes) k
+
+  rules : NodeRules given k
+  rules = A .ruled .each k small
+
+  ruled : WindowRules (given .span)
+  ruled = window-ruled (timed (operator (given .kind))) (given .span) (rules .ends)
+
+  closed-is : n ≡ closed-node given
+  closed-is = n-is ∙ kept-closed given ruled
 
   pub known : n .kind < length kinds
-  known = rules .known
+  known = subst (λ (m : Node). m .kind < length kinds) (sym closed-is) (rules .known)
+
+  left-used : Used (left-use (operator (n .kind))) k (n .left)
+  left-used = subst (λ (m : Node). Used (left-use (operator (m .kind))) k (m .left)) (sym closed-is) (rules .left)
+
+  right-used : Used (right-use (operator (n .kind))) k (n .right)
+  right-used = subst (λ (m : Node). Used (right-use (operator (m .kind))) k (m .right)) (sym closed-is) (rules .right)
+
+  window-is : window n ≡ kept-window n
+  window-is = subst (λ (m : Node). window m ≡ kept-window m) (sym closed-is) refl
 
   tree-is : tree (t .nodes) k ≡ formula (operator (n .kind)) n φ
-  tree-is = tree-node (t .nodes) k (A .ruled .each k small) ∙ ap (λ (m : Node). formula (operator (m .kind)) m φ) (sym n-is)
+  tree-is = tree-node (t .nodes) k rules ∙ sym (closed-formula (operator (given .kind)) given ruled (λ c. refl)) ∙ ap (λ (m : Node). formula (operator (m .kind)) m φ) (sym closed-is)
 
   pub room : (part : ℕ) → part < 3 → HELD-AT + NODES * part + k < length cells
   room part h = omega (arith, K .planned .wide, few)
@@ -110,7 +131,7 @@ module _ {numbers : List ℕ} {cells values : List ℤ} {opening : Bool} {since 
   -- ---- without window
   -- what a predicate's node reads is there: it names one that is set, so its channel is one of the row's
   named-set : n .kind ≡ predicate-kind → predicate c (n .left) .range ≡ Unset → ⊥
-  named-set = subst (λ (m : Node). m .kind ≡ predicate-kind → predicate c (m .left) .range ≡ Unset → ⊥) (sym n-is) (A .named .set k small)
+  named-set = subst (λ (m : Node). m .kind ≡ predicate-kind → predicate c (m .left) .range ≡ Unset → ⊥) (sym closed-is) (A .named .set k small)
 
   module _ (e : n .kind ≡ predicate-kind) where
     named-channel : predicate c (n .left) .channel < c .setup .channels
@@ -123,7 +144,7 @@ module _ {numbers : List ℕ} {cells values : List ℤ} {opening : Bool} {since 
     leaf-asks =
         let few = A .fits .measured .channels .few-channels in
         let at : predicate c (n .left) .channel < 8 = omega (arith, named-channel, few) in
-        let named : n .left ≤ 15 = subst (λ (x : ℕ). Used (left-use (operator x)) k (n .left)) e (rules .left) in
+        let named : n .left ≤ 15 = subst (λ (x : ℕ). Used (left-use (operator x)) k (n .left)) e left-used in
         record {
           numbered = named;
           predicate-is = K .planned .predicates (n .left) (omega arith);
@@ -148,8 +169,8 @@ module _ {numbers : List ℕ} {cells values : List ℤ} {opening : Bool} {since 
 
     point-asks : PointAsks cells n k part (margin longer (φ (n .left)) i) (margin longer (φ (n .right)) i)
     point-asks = record {
-      left = λ e. operand-of (left-use (operator (n .kind))) (n .left) e (rules .left);
-      right = λ e. operand-of (right-use (operator (n .kind))) (n .right) e (rules .right);
+      left = λ e. operand-of (left-use (operator (n .kind))) (n .left) e left-used;
+      right = λ e. operand-of (right-use (operator (n .kind))) (n .right) e right-used;
       bounded = λ e. margin-bounded (A .fits-next .measured) (φ (n .left)) i;
     }
 
@@ -203,17 +224,17 @@ module _ {numbers : List ℕ} {cells values : List ℤ} {opening : Bool} {since 
     abbrev right : Formula ℕ
     right = right-of two n φ
 
-    temporal-is : φ k ≡ temporal future e (window n) left right
-    temporal-is = rw (a .extremum-is) at (tree-is ∙ timed-form (operator (n .kind)) n φ (a .windowed))
+    temporal-is : φ k ≡ temporal future e (kept-window n) left right
+    temporal-is = rw (a .extremum-is, window-is) at (tree-is ∙ timed-form (operator (n .kind)) n φ (a .windowed))
 
     both-momentary : T (momentary left) × T (momentary right)
-    both-momentary = inside-momentary future e (window n) left right (subst (λ (ψ : Formula ℕ). T (unnested ψ)) temporal-is (A .unnested .each k small))
+    both-momentary = inside-momentary future e (kept-window n) left right (subst (λ (ψ : Formula ℕ). T (unnested ψ)) temporal-is (A .unnested .each k small))
 
     left-earlier : n .left < k
-    left-earlier = earlier (left-use (operator (n .kind))) k (n .left) (timed-left (operator (n .kind)) (a .windowed)) (rules .left)
+    left-earlier = earlier (left-use (operator (n .kind))) k (n .left) (timed-left (operator (n .kind)) (a .windowed)) left-used
 
     right-earlier : two ≡ true → n .right < k
-    right-earlier z = earlier (right-use (operator (n .kind))) k (n .right) z (rules .right)
+    right-earlier z = earlier (right-use (operator (n .kind))) k (n .right) z right-used
 
     -- the operands at the new sample
     left-value : (b : Bool) → two ≡ b → lv ≡ margin longer (left-of b e n φ) (rows c)
@@ -224,24 +245,24 @@ module _ {numbers : List ℕ} {cells values : List ℤ} {opening : Bool} {since 
     right-value true z = a .right-two z (omega (arith, right-earlier z, few)) ∙ newest-held (n .right) (right-earlier z)
     right-value false z = a .right-one z (omega (arith, left-earlier, few)) ∙ newest-held (n .left) left-earlier
 
-    module _ (m x : ℤ) (here : Bool) (hm : m ≡ so-far cells opening (margin-nothing TOP e) k 1) (hx : x ≡ so-far cells opening (margin-nothing TOP (dual e)) k 2) (hh : here ≡ inside (window n) since) where
-      margin-was : m ≡ margin c (temporal future e (window n) left right) 0
-      margin-was = hm ∙ held-before (margin-nothing TOP e) _ 1 (margin-before c e (window n) left right) (λ some. waiting-part 1 (omega arith) some ∙ ap (λ (ψ : Formula ℕ). margin c ψ 0) temporal-is)
+    module _ (m x : ℤ) (here : Bool) (hm : m ≡ so-far cells opening (margin-nothing TOP e) k 1) (hx : x ≡ so-far cells opening (margin-nothing TOP (dual e)) k 2) (hh : here ≡ inside (kept-window n) since) where
+      margin-was : m ≡ margin c (temporal future e (kept-window n) left right) 0
+      margin-was = hm ∙ held-before (margin-nothing TOP e) _ 1 (margin-before c e (kept-window n) left right) (λ some. waiting-part 1 (omega arith) some ∙ ap (λ (ψ : Formula ℕ). margin c ψ 0) temporal-is)
 
       carried-was : x ≡ carried c e left
       carried-was = hx ∙ held-before (margin-nothing TOP (dual e)) _ 2 (carried-before c e left) (λ some. waiting-part 2 (omega arith) some ∙ ap (carried-by c) temporal-is)
 
       newest-now : newest-of n e rv ≡ margin longer (φ k) (rows c)
-      newest-now = newest-taken c r (A .fits-next .measured) e (window n) left right (right-value two refl) ∙ ap (λ (ψ : Formula ℕ). margin longer ψ (rows c)) (sym temporal-is)
+      newest-now = newest-taken c r (A .fits-next .measured) e (kept-window n) left right (right-value two refl) ∙ ap (λ (ψ : Formula ℕ). margin longer ψ (rows c)) (sym temporal-is)
 
       margin-now : margin-after e m x rv here ≡ margin longer (φ k) 0
       margin-now =
-          margin-taken c r (A .fits) e (window n) left right (both-momentary .0) (both-momentary .1) margin-was carried-was (right-value two refl) (hh ∙ ap (inside (window n)) (A .since-is))
+          margin-taken c r (A .fits) e (kept-window n) left right (both-momentary .0) (both-momentary .1) margin-was carried-was (right-value two refl) (hh ∙ ap (inside (kept-window n)) (A .since-is))
           ∙ ap (λ (ψ : Formula ℕ). margin longer ψ 0) (sym temporal-is)
 
       carried-now : margin-extreme (dual e) x lv ≡ carried-by longer (φ k)
       carried-now =
-          carried-taken c r (A .fits) e (window n) left right (both-momentary .0) (both-momentary .1) carried-was (left-value two refl)
+          carried-taken c r (A .fits) e (kept-window n) left right (both-momentary .0) (both-momentary .1) carried-was (left-value two refl)
           ∙ ap (carried-by longer) (sym temporal-is)
 
       pub timed-taken : {after : List ℤ} → Only cells after k → held-in after k 0 ≡ newest-of n e rv → held-in after k 1 ≡ margin-after e m x rv here → held-in after k 2 ≡ margin-extreme (dual e) x lv → Taking numbers after t c r (suc k)

@@ -1,5 +1,5 @@
 -- How a watch lies in two slices. Numbers: its refusal, the count of nodes, the first time, the least time that the next row may have, the count of channels; then
--- eight scales, two numbers for each of sixteen predicates, five for each of 64 nodes. Cells: each predicate's two ends, then three runs with a cell for each node.
+-- eight scales, two numbers for each of sixteen predicates, seven for each of 64 nodes. Cells: each predicate's two ends, then three runs with a cell for each node.
 -- Assumes nothing.
 use mathlib.Core.Path.{_≡_}
 use mathlib.Core.List.{List}
@@ -8,6 +8,7 @@ use Prim.Native.Nat.{ℕ, zero, suc, _+_, _-_, _*_, _≤_, _<_}
 use lib.Dec.{leb, ltb}
 use lib.ListN.{length, getD}
 use lib.IntN.{ℤ, pos}
+use Rattle.logic.specs.declared.Window.{Window}
 use Rattle.logic.specs.Formula.{Formula, truth, atom, negation, junction, temporal}
 use Rattle.recordings.specs.declared.Predicate.{Predicate}
 use Rattle.recordings.specs.declared.Setup.{Setup}
@@ -16,7 +17,9 @@ use Rattle.recordings.specs.Margin.{margin}
 use Rattle.recordings.specs.Accepted.{MOST-CHANNELS}
 use Rattle.tables.specs.declared.Node.{Node}
 use Rattle.tables.specs.declared.Table.{Table}
-use Rattle.tables.specs.Tree.{NODES, node-at, tree}
+use Rattle.tables.specs.Tree.{NODES, span, as-read, node-at, tree}
+use Rattle.tables.specs.Rules.{window-obeys}
+use Rattle.tables.specs.Closed.{closed-span}
 use Rattle.building.specs.Storing.{WIDTH, node-read}
 use Rattle.flat.specs.Predicates.{range-from}
 use Rattle.arrivals.specs.Fits.{carried, next-time}
@@ -40,6 +43,14 @@ NUMBERS = NODES-AT + WIDTH * NODES
 
 abbrev pub CELLS : ℕ
 CELLS = 224
+
+-- a node as a watch keeps it: its window closed, so that no row asks for marks; one that breaks the rules, of a refused making, stays as it is
+abbrev pub kept-node : Node → Node
+kept-node n = record { kind = n .kind; left = n .left; right = n .right; span = cond (window-obeys (n .span)) (closed-span (n .span)) (n .span) }
+
+-- and its window, both ends counted: the marks are not looked at
+abbrev pub kept-window : Node → Window
+kept-window n = as-read (span (n .span .lo) (n .span .hi))
 
 -- node k
 abbrev pub node-in : List ℕ → ℕ → Node
@@ -83,7 +94,7 @@ pub record Planned (numbers : List ℕ) (cells : List ℤ) (t : Table) (s : Setu
   pub channels : getD numbers 4 0 ≡ s .channels
   pub scales : (ch : ℕ) → ch < MOST-CHANNELS → getD numbers (SCALES-AT + ch) 0 ≡ getD (s .scales .each) ch 0
   pub predicates : (p : ℕ) → p < 16 → predicate-in numbers cells p ≡ predicate-at (s .predicates) p
-  pub nodes : (k : ℕ) → k < NODES → node-in numbers k ≡ node-at (t .nodes) k
+  pub nodes : (k : ℕ) → k < NODES → node-in numbers k ≡ kept-node (node-at (t .nodes) k)
 
 -- ---- the times of the rows so far
 pub record Clock (numbers : List ℕ) (c : Card) : Type 0 where

@@ -19,13 +19,13 @@ use Rattle.recordings.specs.Accepted.{MOST-CHANNELS, ScaleInRange, InRange, Pro
 use Rattle.tables.specs.declared.Node.{Node}
 use Rattle.tables.specs.declared.Table.{Table}
 use Rattle.tables.specs.Kind.{Operator, constant, named, negated, unknown, joined, binary, unary, operator, operator-extremum, predicate-kind}
-use Rattle.tables.specs.Tree.{NODES, window}
+use Rattle.tables.specs.Tree.{NODES}
 use Rattle.tables.specs.Rules.{is-child, left-use, right-use, timed, TableRules}
 use Rattle.predicates.specs.Predicates.{Named}
 use Rattle.nesting.specs.Nesting.{Unnested}
 use Rattle.arrivals.specs.Arrivals.{Row, with-row}
 use Rattle.arrivals.specs.Fits.{Fits}
-use Rattle.watch_cells.specs.State.{CELLS, SCALES-AT, HELD-AT, predicate-in, held-in, Planned, Held}
+use Rattle.watch_cells.specs.State.{CELLS, SCALES-AT, HELD-AT, kept-window, predicate-in, held-in, Planned, Held}
 
 -- a node without window at one place, from its operands' values there; `leaf` is its own where it has none
 abbrev pub point-of : Operator → ℤ → ℤ → ℤ → ℤ
@@ -93,7 +93,7 @@ margin-after e margin carried r here = cond here (margin-extreme e margin (margi
 
 -- a temporal operator at the row itself, behind which there is no sample yet: right there, if its window starts now
 abbrev pub newest-of : Node → Extremum → ℤ → ℤ
-newest-of n e r = cond (inside (window n) 0) r (margin-nothing TOP e)
+newest-of n e r = cond (inside (kept-window n) 0) r (margin-nothing TOP e)
 
 -- places outside the nodes' cells keep their contents, whatever the slices hold
 pub record SameBeyond (before after : List ℤ) : Type 0 where

@@ -13,9 +13,9 @@ ghost use Rattle.recordings.specs.Card.{Card};
 ghost use Rattle.recordings.specs.Accepted.{Values};
 ghost use Rattle.tables.specs.declared.Table.{Table};
 ghost use Rattle.tables.specs.Kind.{operator, negated, joined, binary, unary};
-ghost use Rattle.tables.specs.Tree.{NODES, NO-END, window};
+ghost use Rattle.tables.specs.Tree.{NODES, NO-END};
 ghost use Rattle.arrivals.specs.Arrivals.{Row};
-ghost use Rattle.watch_cells.specs.State.{NUMBERS, CELLS, node-in, held-in};
+ghost use Rattle.watch_cells.specs.State.{NUMBERS, CELLS, node-in, kept-window, held-in};
 ghost use Rattle.watch_cells.specs.Taking.{IsDistance, LeafValue, IsPoint, TimedAsks, so-far, margin-after, newest-of, SameBeyond, Arriving, Taking, NodeTakes};
 use logic::Extremum;
 use recordings::TOP;
@@ -111,10 +111,10 @@ fn junction_at(cells: &[i64], node: Node, e: Extremum, part: usize) -> i64
     points::extreme(e, a, b)
 }
 
-// Whether a sample so many seconds after the first is in the window of the first. A window without end needs no test: no sample is so late.
+// Whether a sample so many seconds after the first is in the window of the first. Both ends of a kept window count, and one without end needs no test: no sample is so late.
 fn in_window(node: Node, since: u64) -> bool
     requires { ⌜ since ≤ NO-END ⌝ }
-    ensures { λ r. ⌜ r ≡ inside (window node) since ⌝ }
+    ensures { λ r. ⌜ r ≡ inside (kept-window node) since ⌝ }
 {
     (node.span.lo <= since) & (since <= node.span.hi)
 }

@@ -1,11 +1,11 @@
 -- A fresh watch is that of no rows: each run of numbers stands where it was put, and no later run was put over it; the nodes' cells hold nothing yet.
 -- Assumes nothing.
 use mathlib.Core.Path.{_≡_, refl, sym, ap, _∙_}
-use mathlib.Core.List.{List, [], _∷_, _++_}
+use mathlib.Core.List.{List, [], _∷_, _++_, map}
 use Prim.Native.Nat.{ℕ, _+_, _-_, _*_, _≤_, _<_}
 use native.Mathlib.Omega.{arith}
 use native.Mathlib.Decide.{decLt}
-use lib.ListN.{length, getD, replicate, length-replicate, drop}
+use lib.ListN.{length, getD, replicate, length-replicate, length-map, drop}
 use lib.Seq.{getD-drop}
 use lib.IntN.{ℤ, pos}
 use Rattle.refusals.specs.First.{first}
@@ -25,7 +25,7 @@ use Rattle.flat.proofs.Back.{front-at}
 use Rattle.arrivals.specs.Arrivals.{watch-setup, no-rows, making-checks}
 use Rattle.arrivals.proofs.Growth.{getD-behind}
 use Rattle.arrivals.proofs.Fitting.{fits-none}
-use Rattle.watch_cells.specs.State.{NUMBERS, CELLS, SCALES-AT, RANGES-AT, NODES-AT, HELD-AT}
+use Rattle.watch_cells.specs.State.{NUMBERS, CELLS, SCALES-AT, RANGES-AT, NODES-AT, HELD-AT, kept-node}
 use Rattle.watches.specs.Watches.{plan-of, watch-numbers, watch-cells, Watches, SameBehind, put-at, fresh-numbers, fresh-cells}
 use Rattle.watches.proofs.Places.{length-written, of-node, ends-long, head-at, plan-at, scale-at, range-at, node-number, end-at, cell-at}
 
@@ -47,7 +47,7 @@ written-behind new old i d h l =
 
 module _ (number : ℕ) (t : Table) (ps : List Predicate) (ks : Scales) (old : List ℕ) (ends : List ℤ) (hn : length (t .nodes) ≡ NODES) (hp : length ps ≡ 16) (long : NUMBERS ≤ length old) (wide : CELLS ≤ length ends) where
   abbrev nodes : List ℕ
-  nodes = cells-of (t .nodes)
+  nodes = cells-of (map kept-node (t .nodes))
 
   abbrev ranges : List ℕ
   ranges = written (ranges-of ps) (replicate 32 0)
@@ -71,7 +71,7 @@ module _ (number : ℕ) (t : Table) (ps : List Predicate) (ks : Scales) (old : L
   numbers = fresh-numbers number t ps ks old
 
   nodes-long : length nodes ≡ WIDTH * NODES
-  nodes-long = length-cells (t .nodes) ∙ omega (arith, hn)
+  nodes-long = length-cells (map kept-node (t .nodes)) ∙ omega (arith, length-map (t .nodes) kept-node, hn)
 
   ranges-long : length ranges ≡ 32
   ranges-long = length-written (ranges-of ps) (replicate 32 0) ∙ length-replicate {A = ℕ} 32 0

@@ -21,7 +21,9 @@ use Rattle.arrivals.specs.Arrivals.{Row, with-row, making-checks, row-checks, o
 use Rattle.arrivals.specs.Fits.{next-time}
 use Rattle.arrivals.proofs.Growth.{rows-next, time-before, time-newest}
 use Rattle.arrivals.proofs.Fitting.{made, offered, fits-next}
-use Rattle.watch_cells.specs.State.{NUMBERS, CELLS, HELD-AT, cell-of, part-of, Planned}
+use Rattle.building.specs.Storing.{WIDTH}
+use Rattle.building.proofs.Cells.{read-alike}
+use Rattle.watch_cells.specs.State.{NUMBERS, CELLS, NODES-AT, HELD-AT, cell-of, part-of, Planned}
 use Rattle.watch_cells.specs.Taking.{Arriving, Taking, SameBeyond}
 use Rattle.watches.specs.Watches.{head-of, watch-numbers, watch-cells, Kept, Watches, begun}
 use Rattle.watches.proofs.Places.{of-node, head-at, plan-at, end-at, cell-at, kept-is, no-row-yet}
@@ -65,7 +67,7 @@ planned-same {numbers} {moved} l f P =
       channels = g 4 (omega arith) ∙ P .channels;
       scales = λ ch h. g (5 + ch) (omega arith) ∙ P .scales ch h;
       predicates = λ p h. rw (g (13 + 2 * p + 1) (omega arith), g (13 + 2 * p) (omega arith)) (P .predicates p h);
-      nodes = λ k h. rw (g (45 + 5 * k) (omega arith), g (45 + 5 * k + 1) (omega arith), g (45 + 5 * k + 2) (omega arith), g (45 + 5 * k + 3) (omega arith), g (45 + 5 * k + 4) (omega arith)) (P .nodes k h);
+      nodes = λ k h. read-alike moved numbers (NODES-AT + WIDTH * k) (NODES-AT + WIDTH * k) (λ b u. g (NODES-AT + WIDTH * k + b) (omega arith)) ∙ P .nodes k h;
     }
 
 module _ {numbers : List ℕ} {cells : List ℤ} {t : Table} {c : Card} (r : Row) (W : Watches numbers cells t c) (e : offer-refusal c t r ≡ 0) where

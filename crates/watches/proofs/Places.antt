@@ -3,21 +3,23 @@
 -- Assumes nothing.
 use mathlib.Core.Path.{_≡_, refl, sym, ap, _∙_}
 use mathlib.Core.Bool.{Bool, true, false, cond}
-use mathlib.Core.List.{List, [], _++_, append-nil}
+use mathlib.Core.List.{List, [], _++_, append-nil, map}
 use Prim.Native.Nat.{ℕ, suc, _+_, _-_, _*_, _≤_, _<_}
 use native.Mathlib.Omega.{arith}
 use native.Mathlib.Decide.{decLt}
 use lib.Dec.{eqb}
 use borrow.Author.Tests.{ne-eqb}
-use lib.ListN.{length, getD, replicate, length-replicate, length-append, length-take, length-drop, List·getD-append}
+use lib.ListN.{length, getD, replicate, length-replicate, length-append, length-take, length-drop, length-map, List·getD-append}
 use lib.IntN.{ℤ, pos}
 use Rattle.lists.specs.Front.{written}
 use Rattle.lists.proofs.Filled.{rows-in}
+use Rattle.lists.proofs.Maps.{map-at}
 use Rattle.recordings.specs.declared.Predicate.{Predicate}
 use Rattle.recordings.specs.Card.{Card, rows, predicate-at}
 use Rattle.tables.specs.declared.Table.{Table}
 use Rattle.tables.specs.Tree.{NODES, node-at}
 use Rattle.refusals.specs.First.{first}
+use Rattle.building.specs.Nodes.{empty-node}
 use Rattle.building.specs.Storing.{WIDTH, cells-of}
 use Rattle.building.proofs.Cells.{read-alike, node-back}
 use Rattle.flat.specs.Predicates.{lo-of, hi-of, ranges-of, ends-of}
@@ -25,7 +27,7 @@ use Rattle.flat.proofs.Padded.{padded-at}
 use Rattle.flat.proofs.Back.{front-at, length-pairs, predicate-back}
 use Rattle.arrivals.specs.Arrivals.{making-checks}
 use Rattle.arrivals.proofs.Growth.{getD-behind}
-use Rattle.watch_cells.specs.State.{NUMBERS, CELLS, SCALES-AT, RANGES-AT, NODES-AT, HELD-AT, node-in, predicate-in, cell-of}
+use Rattle.watch_cells.specs.State.{NUMBERS, CELLS, SCALES-AT, RANGES-AT, NODES-AT, HELD-AT, kept-node, node-in, predicate-in, cell-of}
 use Rattle.watches.specs.Watches.{head-of, plan-of, watch-numbers, watch-cells, Watches, Kept}
 
 pub length-written : {X : Type 0} (new old : List X) → length (written new old) ≡ length old
@@ -76,16 +78,16 @@ module _ (t : Table) (c : Card) where
   plan-at j = getD-behind (head-of t c) plan j 0
 
   pub scale-at : (j : ℕ) → j < 8 → getD plan j 0 ≡ getD (c .setup .scales .each) j 0
-  scale-at j h = List·getD-append scales (ranges ++ cells-of (t .nodes)) 0 j (omega (arith, scales-long)) ∙ padded-at (c .setup .scales .each) 8 j h
+  scale-at j h = List·getD-append scales (ranges ++ cells-of (map kept-node (t .nodes))) 0 j (omega (arith, scales-long)) ∙ padded-at (c .setup .scales .each) 8 j h
 
-  behind-scales : (j : ℕ) → getD plan (8 + j) 0 ≡ getD (ranges ++ cells-of (t .nodes)) j 0
-  behind-scales j = rw (sym scales-long) (getD-behind scales (ranges ++ cells-of (t .nodes)) j 0)
+  behind-scales : (j : ℕ) → getD plan (8 + j) 0 ≡ getD (ranges ++ cells-of (map kept-node (t .nodes))) j 0
+  behind-scales j = rw (sym scales-long) (getD-behind scales (ranges ++ cells-of (map kept-node (t .nodes))) j 0)
 
   pub range-at : (j : ℕ) → j < 32 → getD plan (8 + j) 0 ≡ getD ranges j 0
-  range-at j h = behind-scales j ∙ List·getD-append ranges (cells-of (t .nodes)) 0 j (omega (arith, ranges-long))
+  range-at j h = behind-scales j ∙ List·getD-append ranges (cells-of (map kept-node (t .nodes))) 0 j (omega (arith, ranges-long))
 
-  pub node-number : (j : ℕ) → getD plan (8 + (32 + j)) 0 ≡ getD (cells-of (t .nodes)) j 0
-  node-number j = behind-scales (32 + j) ∙ rw (sym ranges-long) (getD-behind ranges (cells-of (t .nodes)) j 0)
+  pub node-number : (j : ℕ) → getD plan (8 + (32 + j)) 0 ≡ getD (cells-of (map kept-node (t .nodes))) j 0
+  node-number j = behind-scales (32 + j) ∙ rw (sym ranges-long) (getD-behind ranges (cells-of (map kept-node (t .nodes))) j 0)
 
   -- ---- cells
   module _ (sixteen : length (c .setup .predicates) ≡ 16) where
@@ -108,11 +110,12 @@ module _ {numbers : List ℕ} {cells : List ℤ} {t : Table} {c : Card} (W : Wat
   pub refused-is : getD numbers 0 0 ≡ first (making-checks c t)
   refused-is = W .numbers-are 0 (omega arith) ∙ head-at t c 0 (omega arith)
 
-  node-is : (k : ℕ) → k < NODES → node-in numbers k ≡ node-at (t .nodes) k
+  node-is : (k : ℕ) → k < NODES → node-in numbers k ≡ kept-node (node-at (t .nodes) k)
   node-is k h =
-      read-alike numbers (cells-of (t .nodes)) (NODES-AT + WIDTH * k) (WIDTH * k) (λ f l.
+      read-alike numbers (cells-of (map kept-node (t .nodes))) (NODES-AT + WIDTH * k) (WIDTH * k) (λ f l.
       number-at (NODES-AT + WIDTH * k + f) (8 + (32 + (WIDTH * k + f))) (omega arith) (omega arith) ∙ node-number t c (WIDTH * k + f))
-      ∙ (rw append-nil at (node-back (t .nodes) [] k (omega (arith, W .nodes-are))))
+      ∙ (rw append-nil at (node-back (map kept-node (t .nodes)) [] k (omega (arith, length-map (t .nodes) kept-node, W .nodes-are))))
+      ∙ map-at kept-node (t .nodes) k empty-node
 
   range-number-at : (j : ℕ) → j < 32 → getD numbers (RANGES-AT + j) 0 ≡ getD (ranges t c) j 0
   range-number-at j h = number-at (RANGES-AT + j) (8 + j) (omega arith) (omega arith) ∙ range-at t c j h

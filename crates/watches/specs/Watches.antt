@@ -2,7 +2,7 @@
 -- Assumes nothing.
 use mathlib.Core.Path.{_≡_}
 use mathlib.Core.Bool.{_&&_, cond}
-use mathlib.Core.List.{List, [], _∷_, _++_}
+use mathlib.Core.List.{List, [], _∷_, _++_, map}
 use Prim.Native.Nat.{ℕ, _*_, _≤_, _<_}
 use lib.Dec.{leb, eqb}
 use lib.ListN.{length, getD, set, replicate}
@@ -21,15 +21,15 @@ use Rattle.building.specs.Storing.{cells-of}
 use Rattle.flat.specs.Predicates.{ranges-of, ends-of}
 use Rattle.arrivals.specs.Arrivals.{no-rows, making-checks}
 use Rattle.arrivals.specs.Fits.{Fits, next-time}
-use Rattle.watch_cells.specs.State.{NUMBERS, CELLS, SCALES-AT, RANGES-AT, NODES-AT, HELD-AT, cell-of, Planned, Clock, Held}
+use Rattle.watch_cells.specs.State.{NUMBERS, CELLS, SCALES-AT, RANGES-AT, NODES-AT, HELD-AT, kept-node, cell-of, Planned, Clock, Held}
 
 -- ---- its numbers: what its making was refused by, the count of nodes, the first time, the least time that the next row may have, the count of channels;
--- then the scales, each predicate's range and channel, and the nodes
+-- then the scales, each predicate's range and channel, and the nodes, their windows closed
 abbrev pub head-of : Table → Card → List ℕ
 head-of t c = first (making-checks c t) ∷ t .count ∷ first-time c ∷ next-time c ∷ c .setup .channels ∷ []
 
 abbrev pub plan-of : List Node → List Predicate → Scales → List ℕ
-plan-of ns ps ks = written (ks .each) (replicate 8 0) ++ (written (ranges-of ps) (replicate 32 0) ++ cells-of ns)
+plan-of ns ps ks = written (ks .each) (replicate 8 0) ++ (written (ranges-of ps) (replicate 32 0) ++ cells-of (map kept-node ns))
 
 abbrev pub watch-numbers : Table → Card → List ℕ
 watch-numbers t c = head-of t c ++ plan-of (t .nodes) (c .setup .predicates) (c .setup .scales)
@@ -79,7 +79,7 @@ abbrev pub setup-numbers : List Predicate → Scales → List ℕ → List ℕ
 setup-numbers ps ks old = put-at SCALES-AT 0 (written (ks .each) (replicate 8 0)) (put-at RANGES-AT 0 (written (ranges-of ps) (replicate 32 0)) old)
 
 abbrev pub fresh-numbers : ℕ → Table → List Predicate → Scales → List ℕ → List ℕ
-fresh-numbers number t ps ks old = put-at 0 0 (number ∷ t .count ∷ 0 ∷ 0 ∷ ks .count ∷ []) (setup-numbers ps ks (put-at NODES-AT 0 (cells-of (t .nodes)) old))
+fresh-numbers number t ps ks old = put-at 0 0 (number ∷ t .count ∷ 0 ∷ 0 ∷ ks .count ∷ []) (setup-numbers ps ks (put-at NODES-AT 0 (cells-of (map kept-node (t .nodes))) old))
 
 abbrev pub fresh-cells : List Predicate → List ℤ → List ℤ
 fresh-cells ps old = fill HELD-AT (3 * NODES) (λ i. pos 0) (written (ends-of ps) old)

@@ -1,6 +1,7 @@
 // A margin while the card runs. A watch is made from a table, its predicates and scales, takes one row at a time and tells the margin of the rows that it has accepted, without
 // storing them: its size is fixed. It is a struct by value; `make`, `take` and `tell` are the same for a watch that a caller lends as two slices, and nothing is copied there.
 ghost use mathlib.Core.Path.{_≡_};
+ghost use mathlib.Core.List.{map};
 ghost use Prim.Native.Nat.{_≤_, _<_, _+_, _-_, _*_, min};
 ghost use lib.Dec.{eqb};
 ghost use lib.IntN.{pos};
@@ -17,13 +18,14 @@ ghost use Rattle.tables.specs.Rules.{TableRules};
 ghost use Rattle.refusals.specs.First.{first};
 ghost use Rattle.margins.specs.Answers.{margin-outcome};
 ghost use Rattle.arrivals.specs.Arrivals.{watch-setup, no-rows, with-row, offer-refusal, accepted, margin-so-far};
-ghost use Rattle.watch_cells.specs.State.{NUMBERS, CELLS, HELD-AT};
+ghost use Rattle.watch_cells.specs.State.{NUMBERS, CELLS, HELD-AT, kept-node};
 ghost use Rattle.watches.specs.Watches.{Kept, Watches, Roomy, room-check, lent-checks, SameBehind, setup-numbers, fresh-numbers, fresh-cells, begun};
 ghost use Rattle.watches.specs.Run.{lent, Watching, Took, Told};
 use margins::Answer;
 use recordings::Predicate;
 use recordings::Scales;
 use recordings::Setup;
+use tables::Node;
 use tables::Table;
 use watch_cells::HELD_AT;
 use watch_cells::NODES_AT;
@@ -140,6 +142,33 @@ fn clear_nodes(cells: &mut [i64])
     rows::fill_same(3 * tables::NODES, 0, &mut cells[from..]);
 }
 
+// A node as a watch keeps it: its window closed, so that no row asks for marks. A window that breaks the rules, of a refused making, stays as it is.
+fn kept_node(node: Node) -> Node
+    ensures { λ r. ⌜ r ≡ kept-node node ⌝ }
+{
+    if !tables::window_obeys(node.span) {
+        return node;
+    }
+    let w = windows::closed(node.span);
+    Node {
+        kind: node.kind,
+        left: node.left,
+        right: node.right,
+        span: w,
+    }
+}
+
+fn kept_nodes(nodes: [Node; tables::NODES]) -> [Node; tables::NODES]
+    ensures { λ r. ⌜ r ≡ map kept-node nodes ⌝ }
+{
+    let mut kept = nodes;
+    for k in 0..tables::NODES {
+        let node = nodes[k];
+        kept[k] = kept_node(node);
+    }
+    kept
+}
+
 // A fresh watch, whatever its making was refused by.
 fn write_fresh(
     number: u64,
@@ -155,7 +184,8 @@ fn write_fresh(
     ensures arrays { λ _. ⌜ (length (table .nodes) ≡ NODES) × (length predicates ≡ 16) ⌝ }
 {
     let nodes = table.nodes;
-    let places = building::cells_of(nodes);
+    let kept = kept_nodes(nodes);
+    let places = building::cells_of(kept);
     put_numbers(&places, numbers, NODES_AT);
     write_setup(predicates, scales, numbers, cells);
     let head = [number, table.count as u64, 0, 0, scales.count as u64];

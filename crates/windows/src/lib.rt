@@ -4,19 +4,35 @@ ghost use Prim.Native.Nat.{_-_, _≤_};
 ghost use Rattle.logic.specs.Strengthening.{sooner, later, delayed, contraction, expansion, strengthen-window};
 ghost use Rattle.tables.specs.Tree.{NO-END, window};
 ghost use Rattle.tables.specs.Rules.{WindowRules};
+ghost use Rattle.tables.specs.Closed.{closed-span};
 ghost use Rattle.windows.specs.Bounds.{Short, ShortStop};
 use logic::Extremum;
 use logic::Stop;
 use logic::Window;
 use tables::Node;
+use tables::Span;
 
-// The window from lo to hi, both counted.
+// The same window with both ends counted: an excluded low end is read as lo + 1, an excluded high end as hi - 1. Nothing else reads a mark for what it means.
+pub fn closed(w: Span) -> Span
+    requires { ⌜ WindowRules w ⌝ }
+    ensures { λ r. ⌜ r ≡ closed-span w ⌝ }
+{
+    Span {
+        lo: w.lo + w.openlo,
+        hi: w.hi - w.openhi,
+        openlo: 0,
+        openhi: 0,
+    }
+}
+
+// The window as it is read.
 pub fn plain(node: Node) -> Window
     requires { ⌜ WindowRules (node .span) ⌝ }
     ensures { λ r. ⌜ r ≡ window node ⌝ }
 {
-    let lo = node.span.lo;
-    let hi = node.span.hi;
+    let w = closed(node.span);
+    let lo = w.lo;
+    let hi = w.hi;
     if hi == tables::NO_END {
         return Window {
             from: lo,

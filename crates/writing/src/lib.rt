@@ -145,7 +145,12 @@ fn write_leaf(out: &mut [u8], at: usize, node: Node) -> usize
     if node.kind == tables::PREDICATE {
         return spelling::write_predicate(out, at, node.left);
     }
-    let span = Span { lo: 0, hi: 0 };
+    let span = Span {
+        lo: 0,
+        hi: 0,
+        openlo: 0,
+        openhi: 0,
+    };
     spelling::write_sign(out, at, tables::TRUE, span)
 }
 

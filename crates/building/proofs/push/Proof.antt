@@ -60,6 +60,24 @@ mul-cells-5 c = search needs
 element-write-cells-5 : tie.Need-element-write-cells-5
 element-write-cells-5 c = search needs
 
+add-cells-5 : tie.Need-add-cells-5
+add-cells-5 c = search needs
+
+mul-cells-6 : tie.Need-mul-cells-6
+mul-cells-6 c = search needs
+
+element-write-cells-6 : tie.Need-element-write-cells-6
+element-write-cells-6 c = search needs
+
+add-cells-6 : tie.Need-add-cells-6
+add-cells-6 c = search needs
+
+mul-cells-7 : tie.Need-mul-cells-7
+mul-cells-7 c = search needs
+
+element-write-cells-7 : tie.Need-element-write-cells-7
+element-write-cells-7 c = search needs
+
 add-t11 : tie.Need-add-t11
 add-t11 c = search needs
 
@@ -86,5 +104,11 @@ push-spec =
     add-cells-4
     mul-cells-5
     element-write-cells-5
+    add-cells-5
+    mul-cells-6
+    element-write-cells-6
+    add-cells-6
+    mul-cells-7
+    element-write-cells-7
     add-t11
     returns-2)

@@ -21,17 +21,20 @@ returns c = rw (eq-eqb _ _ (c .before .before .before .before .before .if1 .take
 number-requires : tie.Need-number-requires
 number-requires c κs = search needs
 
-slice-aggregate-word-2 : tie.Need-slice-aggregate-word-2
-slice-aggregate-word-2 c = search needs
+slice-aggregate-write-bracket : tie.Need-slice-aggregate-write-bracket
+slice-aggregate-write-bracket c = search needs
 
-word-requires-2 : tie.Need-word-requires-2
-word-requires-2 c κs = search needs
+slice-aggregate-write-bracket-2 : tie.Need-slice-aggregate-write-bracket-2
+slice-aggregate-write-bracket-2 c = search needs
+
+write-bracket-requires : tie.Need-write-bracket-requires
+write-bracket-requires c κs = search needs
 
 same-length-2 : tie.Need-same-length-2
 same-length-2 c = search needs
 
 returns-2 : tie.Need-returns-2
-returns-2 c = rw (ne-eqb _ _ (c .before .before .before .before .before .before .before .before .before .if1 .left)) (printed-then _ _ _ (c .before .before .before .before .before .before .before .number .ensures) (c .before .before .word2 .ensures))
+returns-2 c = rw (ne-eqb _ _ (c .before .before .before .before .before .before .before .before .before .before .if1 .left)) (printed-then _ _ _ (c .before .before .before .before .before .before .before .before .number .ensures) (c .before .before .write-bracket .ensures))
 
 pub write-end-spec : {M : Type 1} → statement M
 write-end-spec =
@@ -42,7 +45,8 @@ write-end-spec =
     same-length
     returns
     number-requires
-    slice-aggregate-word-2
-    word-requires-2
+    slice-aggregate-write-bracket
+    slice-aggregate-write-bracket-2
+    write-bracket-requires
     same-length-2
     returns-2)

@@ -1,14 +1,19 @@
 -- The nodes, the setup and the numbers in front, one run after the other; then the nodes' cells.
 -- Assumes nothing.
-use mathlib.Core.Path.{_≡_, ap}
+use mathlib.Core.Path.{_≡_, ap, _∙_}
+use mathlib.Core.List.{map}
 use native.Mathlib.Omega.{arith}
-use lib.ListN.{length}
+use lib.ListN.{length, length-map}
 use Rattle.tables.specs.Tree.{NODES}
-use Rattle.building.specs.Storing.{CELLS}
+use Rattle.building.specs.Storing.{CELLS, cells-of}
 use Rattle.building.proofs.Cells.{length-cells}
+use Rattle.watch_cells.specs.State.{kept-node}
 use borrow.Author.Needs.{needs}
 use Rattle.watches.proofs.write_fresh.Statement.{statement}
 use Rattle.watches.proofs.write_fresh.Tie as tie
+
+kept-nodes-requires : tie.Need-kept-nodes-requires
+kept-nodes-requires c κs = search needs
 
 cells-of-requires : tie.Need-cells-of-requires
 cells-of-requires c κs = search needs
@@ -39,19 +44,21 @@ same-length-2 c = search needs
 
 returns : tie.Need-returns
 returns c =
-    let s = c .before .before .before .before .before .before .before .before .before .before .before .before .before .before .before .before .before .before .before .before .before .before in
+    let s = c .before .before .before .before .before .before .before .before .before .before .before .before .before .before .before .before .before .before .before .before .before .before .before in
     let p = c .before .before .before .before .before .before .before .before .before .before .before .before .before .before .before .before .put-numbers in
     let w = c .before .before .before .before .before .before .before .before .before .before .before .write-setup in
     let q = c .before .before .before .before .before .put-numbers2 in
     let o = c .before .before .before .before .before .before .before .before .before .before .before .before .before .before .before .before .before .before .before .cells-of in
+    let k = c .before .before .before .before .before .before .before .before .before .before .before .before .before .before .before .before .before .before .before .before .kept-nodes in
     let l : length (o .result) ≡ CELLS = search needs in
-    let n : length (s .args .table .nodes) ≡ NODES = omega (arith, l, ap length (o .ensures), length-cells (s .args .table .nodes)) in
-    (rw (w .ensures .0, p .ensures, o .ensures) at (q .ensures), (rw (w .ensures .1) at (c .before .clear-nodes .ensures), (n, search needs)))
+    let n : length (s .args .table .nodes) ≡ NODES = omega (arith, l, ap length (o .ensures ∙ ap cells-of (k .ensures)), length-cells (map kept-node (s .args .table .nodes)), length-map (s .args .table .nodes) kept-node) in
+    (rw (w .ensures .0, p .ensures, o .ensures, k .ensures) at (q .ensures), (rw (w .ensures .1) at (c .before .clear-nodes .ensures), (n, search needs)))
 
 pub write-fresh-spec : {M : Type 1} → statement M
 write-fresh-spec =
     tie.close
     (tie.spec
+    kept-nodes-requires
     cells-of-requires
     slice-aggregate-put-numbers
     put-numbers-requires
