@@ -26,22 +26,6 @@
 extern "C" {
 #endif
 
-/* Lengths that lose nothing, in elements. */
-#define VARMITYEP_NODES 320  /* nodes: kind, left, right, lo, hi of each of 64 */
-#define VARMITYEP_RANGES 32  /* ranges: range and channel of each of 16 predicates */
-#define VARMITYEP_ENDS 32    /* ends: lo and hi of each of 16 predicates */
-#define VARMITYEP_NUMBERS 5  /* numbers of a sheet, see VARMITYEP_SHEET_.. */
-#define VARMITYEP_PLACES 32  /* places: from and to of each of 16 requirements */
-#define VARMITYEP_SCALES 8   /* scales of a sheet: one for each of 8 channels */
-#define VARMITYEP_COUNTS 2   /* counts of rows: measured, filled */
-#define VARMITYEP_RESULT 3   /* result of a verdict: verdict, hold, fail */
-#define VARMITYEP_LINES 2688 /* lines, in bytes: no answer is longer */
-/* text of a written requirement, in bytes: 64 nodes of at most 26, so none is longer */
-#define VARMITYEP_REQUIREMENT_BYTES 1664
-/* numbers and cells of a watch: shorter ones hold none, and are refused by 8 */
-#define VARMITYEP_WATCH_NUMBERS 365
-#define VARMITYEP_WATCH_CELLS 224
-
 /* Limits of what is accepted. */
 #define VARMITYEP_MOST_BYTES 65536
 #define VARMITYEP_MOST_ROWS 4096
@@ -50,9 +34,27 @@ extern "C" {
 #define VARMITYEP_MOST_REQUIREMENTS 16 /* of a sheet */
 #define VARMITYEP_MOST_NODES 64
 #define VARMITYEP_PREDICATES 16
-#define VARMITYEP_NODE_NUMBERS 5
 #define VARMITYEP_NO_END UINT64_C(4294967295) /* hi of a window without end */
 #define VARMITYEP_TOP INT64_C(4000000000000)  /* margin of what cannot be missed */
+
+/* Lengths that lose nothing, in elements. */
+#define VARMITYEP_NODE_NUMBERS 7 /* of a node: kind, left, right, lo, hi, open_lo, open_hi */
+#define VARMITYEP_NODES (VARMITYEP_MOST_NODES * VARMITYEP_NODE_NUMBERS)
+#define VARMITYEP_RANGES (2 * VARMITYEP_PREDICATES) /* range and channel of each predicate */
+#define VARMITYEP_ENDS (2 * VARMITYEP_PREDICATES)   /* lo and hi of each predicate */
+#define VARMITYEP_NUMBERS 5 /* numbers of a sheet, see VARMITYEP_SHEET_.. */
+#define VARMITYEP_PLACES (2 * VARMITYEP_MOST_REQUIREMENTS) /* from and to of each requirement */
+#define VARMITYEP_SCALES VARMITYEP_MOST_CHANNELS           /* scales of a sheet, or of a watch */
+#define VARMITYEP_COUNTS 2   /* counts of rows: measured, filled */
+#define VARMITYEP_RESULT 3   /* result of a verdict: verdict, hold, fail */
+#define VARMITYEP_LINES 2688 /* lines, in bytes: no answer is longer */
+/* text of a written requirement, in bytes: no node needs more, so none is longer */
+#define VARMITYEP_NODE_BYTES 26
+#define VARMITYEP_REQUIREMENT_BYTES (VARMITYEP_MOST_NODES * VARMITYEP_NODE_BYTES)
+/* numbers and cells of a watch: shorter ones hold none, and are refused by 8. Numbers: five of its
+   own, then its scales, ranges and nodes. Cells: its predicates' ends, then three for each node */
+#define VARMITYEP_WATCH_NUMBERS (5 + VARMITYEP_SCALES + VARMITYEP_RANGES + VARMITYEP_NODES)
+#define VARMITYEP_WATCH_CELLS (VARMITYEP_ENDS + 3 * VARMITYEP_MOST_NODES)
 
 /* What varmityep_answer, and with it the program, has room for. */
 #define VARMITYEP_ANSWER_ROWS 2048
@@ -97,9 +99,12 @@ enum {
 };
 
 /*
- * Kinds of node k, at nodes[5k]; left, right, lo and hi follow it, and those that a kind does not use
- * are 0. A child is the number of an earlier node, the root is the last one. A window has lo and hi up
- * to 1,000,000,000 seconds, lo not above hi, or hi VARMITYEP_NO_END.
+ * Kinds of node k, at nodes[7k]; left, right, lo, hi, open_lo and open_hi follow it, and those that a
+ * kind does not use are 0. A child is the number of an earlier node, the root is the last one. A window
+ * has lo and hi up to 1,000,000,000 seconds, or hi VARMITYEP_NO_END. The two marks are 1 where that end
+ * itself is excluded, else 0: with open_lo the window is read from lo + 1 on, with open_hi up to
+ * hi - 1. In text `(` and `)` then stand for `[` and `]`. A window that is left empty, or an open_hi
+ * without an end, is refused: by 3 in a table, by 2 in text.
  */
 enum {
     VARMITYEP_KIND_TRUE = 0,
@@ -107,7 +112,7 @@ enum {
     VARMITYEP_KIND_NOT = 2,        /* child left */
     VARMITYEP_KIND_AND = 3,        /* children left and right; so in or, until and release */
     VARMITYEP_KIND_OR = 4,
-    VARMITYEP_KIND_UNTIL = 5,      /* window lo and hi; so in the kinds below */
+    VARMITYEP_KIND_UNTIL = 5,      /* a window; so in the kinds below */
     VARMITYEP_KIND_RELEASE = 6,
     VARMITYEP_KIND_EVENTUALLY = 7, /* child left */
     VARMITYEP_KIND_ALWAYS = 8      /* child left */
@@ -182,7 +187,7 @@ struct varmityep_written {
  * VARMITYEP_REQUIREMENT_BYTES are enough for every text).
  * The text is that of the last node, the root. Parentheses stand only where the grammar would
  * otherwise read another requirement or none; a node that several nodes use is written once for each
- * use; a window whose hi is VARMITYEP_NO_END ends in `*`. The text stands in text from its first
+ * use; a window whose hi is VARMITYEP_NO_END ends in `*]`. The text stands in text from its first
  * byte on, without a closing 0; bytes behind it keep their contents.
  * Read by varmityep_requirement, it gives back the table where that is one that a text can give, and
  * otherwise the root's tree as a text gives it: nodes stand left, right, parent, none shared.

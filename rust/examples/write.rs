@@ -34,7 +34,7 @@ impl Form {
     }
 
     fn until(&mut self, seconds: u64, left: u64, right: u64) -> u64 {
-        self.add(Node { kind: kind::UNTIL, left, right, lo: 0, hi: seconds })
+        self.add(Node { kind: kind::UNTIL, left, right, hi: seconds, ..Node::default() })
     }
 }
 

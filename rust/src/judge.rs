@@ -101,7 +101,7 @@ pub fn verdict(
     drift: u64,
     work: &mut [i64],
 ) -> Result<Judgement, Refusal> {
-    let mut result = [0; 3];
+    let mut result = [0; names::RESULT];
     let ask = |c: &names::Call| names::verdict(c, step, drift, work, &mut result);
     Refusal::check(call(table, predicates, recording, ask))?;
     let verdict = match result[0] {

@@ -145,13 +145,31 @@ extern "C" {
     ) -> u64;
 }
 
+pub const MOST_NODES: usize = 64;
+pub const PREDICATES: usize = 16;
+pub const MOST_CHANNELS: usize = 8;
+pub const MOST_REQUIREMENTS: usize = 16;
+/// Of a node: kind, left, right, lo, hi, and whether each end is excluded.
+pub const NODE_NUMBERS: usize = 7;
+
+/// Lengths that lose nothing, in elements.
+pub const NODES: usize = MOST_NODES * NODE_NUMBERS;
+pub const RANGES: usize = 2 * PREDICATES;
+pub const ENDS: usize = 2 * PREDICATES;
+pub const NUMBERS: usize = 5;
+pub const PLACES: usize = 2 * MOST_REQUIREMENTS;
+pub const SCALES: usize = MOST_CHANNELS;
+pub const COUNTS: usize = 2;
+pub const RESULT: usize = 3;
 /// No answer is longer, in bytes.
 pub const LINES: usize = 2_688;
-/// No written requirement is longer, in bytes.
-pub const REQUIREMENT_BYTES: usize = 1_664;
-/// Numbers and cells that a watch stands in.
-pub const WATCH_NUMBERS: usize = 365;
-pub const WATCH_CELLS: usize = 224;
+/// No node needs more of a requirement's text, and no text is longer, in bytes.
+const NODE_BYTES: usize = 26;
+pub const REQUIREMENT_BYTES: usize = MOST_NODES * NODE_BYTES;
+/// What a watch stands in. Numbers: five of its own, its scales, its predicates' and its nodes'. Cells:
+/// its predicates' ends, and three for each node.
+pub const WATCH_NUMBERS: usize = 5 + SCALES + RANGES + NODES;
+pub const WATCH_CELLS: usize = ENDS + 3 * MOST_NODES;
 
 /// What a requirement's writing hands back: the refusal, 0 for none, and the length of the text.
 #[repr(C)]

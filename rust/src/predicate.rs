@@ -36,16 +36,16 @@ impl Predicate {
 }
 
 /// Predicates 0 to 15.
-pub type Predicates = [Predicate; 16];
+pub type Predicates = [Predicate; names::PREDICATES];
 
 /// Range and channel, lo and hi of each predicate, as the library takes them.
 pub(crate) struct Flat {
-    pub ranges: [u64; 32],
-    pub ends: [i64; 32],
+    pub ranges: [u64; names::RANGES],
+    pub ends: [i64; names::ENDS],
 }
 
 impl Flat {
-    pub const BLANK: Flat = Flat { ranges: [0; 32], ends: [0; 32] };
+    pub const BLANK: Flat = Flat { ranges: [0; names::RANGES], ends: [0; names::ENDS] };
 }
 
 /// A range's number and its ends, 0 where it has no such end.

@@ -5,7 +5,7 @@ use crate::predicate::{self, Predicates};
 use crate::refusal::Refusal;
 
 /// Requirements that a sheet may have; one more is refused by 12.
-pub const MOST_REQUIREMENTS: usize = 16;
+pub const MOST_REQUIREMENTS: usize = names::MOST_REQUIREMENTS;
 
 /// What a sheet says, its requirements and its rows as parts of its text.
 #[derive(Clone, PartialEq, Eq, Debug)]
@@ -27,8 +27,8 @@ pub struct Sheet<'a> {
 /// by rising number, gaps allowed; any other order, or a number twice, is refused by 1. A scale out
 /// of range is read; margin and verdict refuse it.
 pub fn read_sheet(text: &[u8]) -> Result<Sheet<'_>, Refusal> {
-    let (mut numbers, mut places) = ([0; 5], [0; 2 * MOST_REQUIREMENTS]);
-    let mut scales = [0; 8];
+    let (mut numbers, mut places) = ([0; names::NUMBERS], [0; names::PLACES]);
+    let mut scales = [0; names::SCALES];
     let mut flat = predicate::Flat::BLANK;
     let lent = names::Sheet {
         numbers: &mut numbers,
@@ -40,7 +40,7 @@ pub fn read_sheet(text: &[u8]) -> Result<Sheet<'_>, Refusal> {
     Refusal::check(names::sheet(text, lent))?;
     let [channels, step, drift, rows, count] = numbers;
     // Those of the channels are in front; where channels is not 1 to 8, none was read.
-    let own = if channels <= 8 { channels as usize } else { 0 };
+    let own = if channels <= names::SCALES as u64 { channels as usize } else { 0 };
     let part = |place: &[u64]| &text[place[0] as usize..place[1] as usize];
     Ok(Sheet {
         channels,
@@ -71,7 +71,7 @@ pub fn read_rows(
     times: &mut [u64],
     values: &mut [i64],
 ) -> Result<Counts, Refusal> {
-    let mut counts = [0; 2];
+    let mut counts = [0; names::COUNTS];
     Refusal::check(names::rows(text, channels, times, values, &mut counts))?;
     Ok(Counts { measured: counts[0] as usize, filled: counts[1] as usize })
 }

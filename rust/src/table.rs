@@ -21,7 +21,7 @@ pub mod kind {
     pub const ALWAYS: u64 = 8;
 }
 
-/// Five numbers; those that a kind does not use are 0. [`kind`] has names for the kinds.
+/// Seven numbers; those that a kind does not use are 0. [`kind`] has names for the kinds.
 ///
 /// | Kind | Meaning |
 /// |---|---|
@@ -31,6 +31,11 @@ pub mod kind {
 /// | 3, 4 | `left` and `right`, `left` or `right` |
 /// | 5, 6 | `left` until `right`, `left` release `right`, in the window `lo` to `hi` |
 /// | 7, 8 | eventually `left`, always `left`, in the window `lo` to `hi` |
+///
+/// A window has `lo` and `hi` up to 1,000,000,000 seconds, or `hi` [`NO_END`]. Both ends are counted,
+/// unless they are excluded: `open_lo` 1 reads as from `lo` + 1 on, `open_hi` 1 as up to `hi` − 1; in
+/// text `(` and `)` stand for `[` and `]` then, as in `F[0,3600)p0`, before the hour is over. No window
+/// is left empty, and one without end has `open_hi` 0.
 #[derive(Clone, Copy, PartialEq, Eq, Hash, Debug, Default)]
 pub struct Node {
     pub kind: u64,
@@ -38,6 +43,10 @@ pub struct Node {
     pub right: u64,
     pub lo: u64,
     pub hi: u64,
+    /// 1 where the low end is excluded, else 0.
+    pub open_lo: u64,
+    /// 1 where the high end is excluded, else 0.
+    pub open_hi: u64,
 }
 
 /// A requirement: 1 to 64 nodes, each behind its children, the root last. Several nodes may use the
@@ -75,27 +84,36 @@ impl Table {
     }
 }
 
-const NUMBERS: usize = 5;
-pub(crate) type Flat = [u64; 320];
+pub(crate) type Flat = [u64; names::NODES];
 
 /// The nodes' numbers one behind the other. A node beyond the 64th has no place; the count alone
 /// refuses such a table.
 pub(crate) fn to_flat(table: &Table) -> Flat {
-    let mut flat = [0; 320];
-    for (place, node) in flat.chunks_exact_mut(NUMBERS).zip(&table.nodes) {
-        place.copy_from_slice(&[node.kind, node.left, node.right, node.lo, node.hi]);
+    let mut flat = [0; names::NODES];
+    for (place, node) in flat.chunks_exact_mut(names::NODE_NUMBERS).zip(&table.nodes) {
+        let &Node { kind, left, right, lo, hi, open_lo, open_hi } = node;
+        place.copy_from_slice(&[kind, left, right, lo, hi, open_lo, open_hi]);
     }
     flat
 }
 
 fn of_flat(flat: &Flat, count: u64) -> Table {
-    let node = |n: &[u64]| Node { kind: n[0], left: n[1], right: n[2], lo: n[3], hi: n[4] };
-    Table { nodes: flat.chunks_exact(NUMBERS).take(count as usize).map(node).collect() }
+    let node = |numbers: &[u64]| Node {
+        kind: numbers[0],
+        left: numbers[1],
+        right: numbers[2],
+        lo: numbers[3],
+        hi: numbers[4],
+        open_lo: numbers[5],
+        open_hi: numbers[6],
+    };
+    let own = flat.chunks_exact(names::NODE_NUMBERS).take(count as usize);
+    Table { nodes: own.map(node).collect() }
 }
 
 /// Reads requirement text, such as `F[0,7200]G[0,*]p0`. Refusal 2.
 pub fn read_requirement(text: &[u8]) -> Result<Table, Refusal> {
-    let (mut flat, mut count) = ([0; 320], [0]);
+    let (mut flat, mut count) = ([0; names::NODES], [0]);
     Refusal::check(names::requirement(text, &mut flat, &mut count))?;
     Ok(of_flat(&flat, count[0]))
 }

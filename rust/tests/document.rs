@@ -1,5 +1,5 @@
-//! Document 01's example, whole and by its parts, windows from now, predicates by number, scales,
-//! several requirements, tables written out, watches, and every refusal number.
+//! Document 01's example, whole and by its parts, windows from now and without their ends, predicates
+//! by number, scales, several requirements, tables written out, watches, and every refusal number.
 
 use varmityep::{
     answer, kind, margin, read_requirement, read_rows, read_sheet, verdict, Counts, Judgement,
@@ -78,6 +78,73 @@ fn a_window_that_starts_now_still_does_when_strengthened() {
     // A later start moves inward as the end does.
     let late = format!("rows=5 filled=0 margin=7 hold=-{TOP} fail=-7 verdict=unshown\n");
     assert_eq!(asked("F[1,2]p0"), late);
+}
+
+/// An eventually over predicate 0.
+fn eventually(lo: u64, hi: u64, open_lo: u64, open_hi: u64) -> Table {
+    let root = Node { lo, hi, open_lo, open_hi, ..of(kind::EVENTUALLY, 0, 0) };
+    Table { nodes: vec![LEAF, root] }
+}
+
+#[test]
+fn a_window_may_exclude_its_ends() {
+    let hour = 3_600;
+    for (text, table) in [
+        ("F[0,3600)p0", eventually(0, hour, 0, 1)),
+        ("F(0,3600]p0", eventually(0, hour, 1, 0)),
+        ("F(0,3600)p0", eventually(0, hour, 1, 1)),
+        ("F(1000000000,*]p0", eventually(1_000_000_000, NO_END, 1, 0)),
+    ] {
+        assert_eq!(read_requirement(text.as_bytes()).as_ref(), Ok(&table));
+        assert_eq!(table.write().as_deref(), Ok(text));
+    }
+    // Each reads as the window with its end moved by one.
+    for (open, closed) in [
+        ("F[0,1)p0", "F[0,0]p0"),
+        ("F[0,2)p0", "F[0,1]p0"),
+        ("G(0,3]p0", "G[1,3]p0"),
+        ("p0U(0,4)!p0", "p0U[1,3]!p0"),
+        ("p0R(1,*]p0", "p0R[2,*]p0"),
+    ] {
+        assert_eq!(asked(open), asked(closed));
+        let mut watches = [watch(open), watch(closed)];
+        for time in 0..5 {
+            let margins = watches.each_mut().map(|watch| {
+                assert_eq!(watch.row(time, &[10 - time as i64]), Ok(()));
+                watch.margin()
+            });
+            assert_eq!(margins[0], margins[1], "{open}");
+        }
+    }
+    // From 0 without 0 is no window from now.
+    let late = format!("rows=5 filled=0 margin=7 hold=-{TOP} fail=-7 verdict=unshown\n");
+    assert_eq!(asked("F(0,1]p0"), late);
+}
+
+#[test]
+fn a_window_left_empty_is_refused() {
+    for text in ["F(5,5]p0", "F[5,5)p0", "F(5,6)p0", "F[0,*)p0", "F (0,1]p0", "F(p0)"] {
+        assert_eq!(read_requirement(text.as_bytes()), Err(Refusal::Requirement), "{text}");
+        assert_eq!(asked(text), "refused=2\n");
+    }
+    let predicates = whole().predicates;
+    let mut tables = vec![
+        eventually(5, 5, 1, 0),
+        eventually(5, 5, 0, 1),
+        eventually(5, 6, 1, 1),
+        eventually(0, NO_END, 0, 1),
+        eventually(0, 9, 2, 0),
+        eventually(0, 9, 0, u64::MAX),
+    ];
+    // A kind without a window has no marks, in a node that the root does not reach either.
+    let marked = Node { open_lo: 1, ..of(kind::NOT, 0, 0) };
+    tables.push(Table { nodes: vec![LEAF, marked] });
+    tables.push(Table { nodes: vec![LEAF, marked, LEAF] });
+    for table in tables {
+        assert_eq!(table.write(), Err(Refusal::Table));
+        assert_eq!(refusals(&Call { table: table.clone(), ..whole() }).0, Some(Refusal::Table));
+        assert_eq!(Watch::fresh(&table, &predicates, &[1]).refusal(), Some(Refusal::Table));
+    }
 }
 
 #[test]
@@ -313,10 +380,11 @@ fn written(nodes: &[Node]) -> Result<String, Refusal> {
 }
 
 /// Predicate 0, and nodes that have no window.
-const LEAF: Node = Node { kind: kind::PREDICATE, left: 0, right: 0, lo: 0, hi: 0 };
+const LEAF: Node =
+    Node { kind: kind::PREDICATE, left: 0, right: 0, lo: 0, hi: 0, open_lo: 0, open_hi: 0 };
 
 fn of(kind: u64, left: u64, right: u64) -> Node {
-    Node { kind, left, right, lo: 0, hi: 0 }
+    Node { kind, left, right, ..Node::default() }
 }
 
 #[test]
@@ -339,7 +407,7 @@ fn a_table_is_written_with_the_parentheses_that_it_needs() {
 
 #[test]
 fn a_shared_table_is_read_back_unshared() {
-    let always = Node { kind: kind::ALWAYS, left: 2, right: 0, lo: 3, hi: NO_END };
+    let always = Node { lo: 3, hi: NO_END, ..of(kind::ALWAYS, 2, 0) };
     let second = Node { left: 1, ..LEAF };
     // Node 4 is not reached.
     let shared =

@@ -1,6 +1,7 @@
-//! What claims on until and eventually are about: where the window starts, and where the samples
-//! lie that show the claim. Counted, so that a run fails in which histories are not asked about each.
+//! What claims on until and eventually are about: where the window starts, which ends it excludes, and
+//! where the samples lie that show the claim. Counted, so that a run fails in which histories are not asked about each.
 
+use crate::marked::{form, forms};
 use peer::answer::Answer;
 use peer::between::Claim;
 use peer::margin::Margins;
@@ -10,7 +11,7 @@ use peer::window::Window;
 use std::rc::Rc;
 
 const LETTERS: [char; 2] = ['U', 'F'];
-/// The low end as it is written.
+/// The low end as it is read.
 const STARTS: [&str; 4] =
     ["from now", "from below the step", "from the step", "from past the step"];
 /// Some second that is asked about comes after every sample that shows the claim.
@@ -20,7 +21,7 @@ const EARLIER: &str = "shown by earlier samples alone";
 pub fn all() -> Vec<String> {
     let each =
         |letter| STARTS.into_iter().chain([EARLIER]).map(move |what| format!("{letter} {what}"));
-    LETTERS.into_iter().flat_map(each).collect()
+    LETTERS.into_iter().flat_map(each).chain(forms(&LETTERS)).collect()
 }
 
 /// What the claim is about, if it is one on until or eventually once "not" is pushed down.
@@ -33,13 +34,13 @@ pub fn about(claim: &Claim, accepted: &Answer) -> Vec<String> {
         Tree::Eventually(window, left) => (LETTERS[1], atom(Atom::True), *window, left.clone()),
         _ => return Vec::new(),
     };
-    let start = match window.lo {
+    let start = match window.as_read().lo {
         0 => STARTS[0],
         lo if lo < step => STARTS[1],
         lo if lo == step => STARTS[2],
         _ => STARTS[3],
     };
-    let mut about = vec![format!("{letter} {start}")];
+    let mut about = vec![format!("{letter} {start}"), format!("{letter} {}", form(window))];
     // The claim again, by those samples alone that are not before the last second asked about.
     let last = recording.time(recording.rows() - 1).min(claim.time + step);
     let contracted = window.contracted(step);
@@ -77,26 +78,34 @@ mod tests {
     #[test]
     fn starts_and_samples() {
         for (requirement, wanted) in [
-            ("TU[1,*]p0", &[(0, "U from below the step"), (1, "U from below the step")][..]),
-            ("TU[2,*]p0", &[(0, "U from the step")]),
-            ("!TR[2,*]!p0", &[(0, "U from the step")]),
-            ("TU[3,*]p0", &[(0, "U from past the step")]),
+            (
+                "TU[1,*]p0",
+                &[(0, "U from below the step, U [,*]"), (1, "U from below the step, U [,*]")][..],
+            ),
+            ("TU[2,*]p0", &[(0, "U from the step, U [,*]")]),
+            ("!TR[2,*]!p0", &[(0, "U from the step, U [,*]")]),
+            ("TU[3,*]p0", &[(0, "U from past the step, U [,*]")]),
             // The first sample says it of the seconds 1 and 2 too.
             (
                 "F[0,4]p0",
                 &[
-                    (0, "F from now, F shown by earlier samples alone"),
-                    (2, "F from now"),
-                    (3, "F from now"),
+                    (0, "F from now, F [,], F shown by earlier samples alone"),
+                    (2, "F from now, F [,]"),
+                    (3, "F from now, F [,]"),
                 ],
             ),
             (
-                "TU[0,4]p0",
+                "TU[0,5)p0",
                 &[
-                    (0, "U from now, U shown by earlier samples alone"),
-                    (2, "U from now"),
-                    (3, "U from now"),
+                    (0, "U from now, U [,), U shown by earlier samples alone"),
+                    (2, "U from now, U [,)"),
+                    (3, "U from now, U [,)"),
                 ],
+            ),
+            // From 0 without 0 is from 1.
+            (
+                "F(0,*]p0",
+                &[(0, "F from below the step, F (,*]"), (1, "F from below the step, F (,*]")],
             ),
             // The last sample claims it, and an always is not counted.
             ("G[0,1]p0", &[]),

@@ -207,28 +207,38 @@ impl Flat {
     }
 }
 
-/// Refusal numbers of margin and verdict.
-pub fn calls(others: &Others, call: &Call, lengths: [usize; 4]) -> Result<(u64, u64), String> {
-    let margin = margins(others, call, lengths)?.0;
+/// A refusal's number, and what the result and the work hold then.
+pub type Found = (u64, [i64; RESULT + BEHIND], Vec<i64>);
+
+/// What the margin comes to.
+pub fn margins(others: &Others, call: &Call, lengths: [usize; 4]) -> Result<Found, String> {
     let flat = Flat::of(&call.table, &call.predicates, call.recording.rows());
-    let (asked, lent) = (asked(&flat, call, lengths), ..lengths[3]);
-    let (step, drift) = (call.step, call.drift);
-    let verdict = same(others, "verdict", |library| {
-        let (mut work, mut result) = (call.work.clone(), [SIGNED_NOISE; RESULT + BEHIND]);
-        (library.verdict(&asked, step, drift, &mut work, &mut result[lent]), result, work)
-    })?;
-    Ok((margin, verdict.0))
+    let asked = asked(&flat, call, lengths);
+    found(others, "margin", call, lengths, |library, work, result| {
+        library.margin(&asked, work, result)
+    })
 }
 
-/// The refusal number of the margin, and what stands in the first place then.
-pub fn margins(others: &Others, call: &Call, lengths: [usize; 4]) -> Result<(u64, i64), String> {
+/// What the verdict comes to.
+pub fn verdicts(others: &Others, call: &Call, lengths: [usize; 4]) -> Result<Found, String> {
     let flat = Flat::of(&call.table, &call.predicates, call.recording.rows());
-    let (asked, lent) = (asked(&flat, call, lengths), ..lengths[3]);
-    let (number, result, _) = same(others, "margin", |library| {
+    let asked = asked(&flat, call, lengths);
+    found(others, "verdict", call, lengths, |library, work, result| {
+        library.verdict(&asked, call.step, call.drift, work, result)
+    })
+}
+
+fn found(
+    others: &Others,
+    what: &str,
+    call: &Call,
+    lengths: [usize; 4],
+    ask: impl Fn(&dyn Library, &mut [i64], &mut [i64]) -> u64,
+) -> Result<Found, String> {
+    same(others, what, |library| {
         let (mut work, mut result) = (call.work.clone(), [SIGNED_NOISE; RESULT + BEHIND]);
-        (library.margin(&asked, &mut work, &mut result[lent]), result, work)
-    })?;
-    Ok((number, result[0]))
+        (ask(library, &mut work, &mut result[..lengths[3]]), result, work)
+    })
 }
 
 fn asked<'a>(flat: &'a Flat, call: &'a Call, lengths: [usize; 4]) -> names::Call<'a> {

@@ -2,8 +2,10 @@
 
 use crate::checks::{self, Tried};
 use crate::claimed;
-use crate::compare::{self, Others, SIGNED_NOISE, WHOLE_CALL, WHOLE_SHEET, WHOLE_TABLE};
-use crate::library::COUNTS;
+use crate::compare::{self, Others, BEHIND, SIGNED_NOISE, WHOLE_CALL, WHOLE_SHEET, WHOLE_TABLE};
+use crate::half_open::{limit_windows, same_when_moved};
+use crate::library::{COUNTS, NODES, NODE_NUMBERS};
+use crate::marked;
 use crate::names::LINES;
 use crate::ordered;
 use crate::scaled;
@@ -23,6 +25,7 @@ use peer::generate::windows::{long, windows, Shaped};
 use peer::recording::channels_broken;
 use peer::refusal::Refusal;
 use peer::sheet::read_sheet;
+use peer::table::Table;
 use peer::verdict::Verdict;
 
 /// What a case needs: whom to ask, and where to count.
@@ -99,12 +102,39 @@ fn answered(bench: &mut Bench, text: &[u8]) -> Result<Result<Vec<Entry>, Refusal
         }
         Ok(entries) => {
             entries.iter().for_each(|entry| bench.tally.add(kind_of_entry(entry)));
+            tally_marks(bench.tally, text, entries);
             if entries.len() > 1 {
                 each_alone(bench, text, &lines, entries.len())?;
             }
         }
     }
     Ok(judged)
+}
+
+/// The marks of the requirements that are accepted, and those that alone refuse one.
+fn tally_marks(tally: &mut Tally, text: &[u8], entries: &[Entry]) {
+    let Ok(sheet) = read_sheet(text) else { return };
+    for (entry, places) in entries.iter().zip(sheet.requirements) {
+        match entry {
+            Ok(answer) => {
+                for form in marked::reached(&answer.table) {
+                    tally.add(format!("answer: {form}"));
+                }
+            }
+            Err(Refusal::Requirement) => {
+                let refusal = marked::refused_text(&text[places]);
+                refusal.iter().for_each(|refusal| tally.add(format!("answer: {refusal}")));
+            }
+            Err(_) => {}
+        }
+    }
+}
+
+/// The marks of a table that alone refuse it.
+pub fn tally_refused(tally: &mut Tally, table: &Table) {
+    if let Some(refusal) = marked::refused_table(table) {
+        tally.add(format!("table: {refusal}"));
+    }
 }
 
 /// Whether the text lacks nothing but the line feed of the last of several `req=` lines.
@@ -251,6 +281,10 @@ fn library_call(bench: &mut Bench, rng: &mut Prng) -> Result<(), Failure> {
         bench.tally.add(format!("distance refused={number}"));
     }
     foretold_call(bench, &foretold)?;
+    tally_refused(bench.tally, &foretold.call.table);
+    if foretold.margin == 0 && rng.once_in(2) {
+        at(&shown, same_when_moved(bench, &foretold.call))?;
+    }
     bench.tally.add(format!("margin call refused={}", foretold.margin));
     bench.tally.add(format!("verdict call refused={}", foretold.verdict));
     let recording = &foretold.call.recording;
@@ -259,9 +293,10 @@ fn library_call(bench: &mut Bench, rng: &mut Prng) -> Result<(), Failure> {
     }
     if rng.once_in(4) {
         // What a slice does not have reads as 0: the table or a predicate may be another.
-        let nodes = (5 * foretold.call.table.count() + 3).min(WHOLE_CALL[0] + 3);
+        let nodes = (NODE_NUMBERS * foretold.call.table.count() + BEHIND).min(NODES + BEHIND);
         let lengths = [rng.below(nodes + 1), rng.below(36), rng.below(36), rng.below(5)];
-        let (_, verdict) = at(&shown, compare::calls(bench.others, &foretold.call, lengths))?;
+        at(&shown, compare::margins(bench.others, &foretold.call, lengths))?;
+        let (verdict, ..) = at(&shown, compare::verdicts(bench.others, &foretold.call, lengths))?;
         bench.tally.add(format!("cut call refused={verdict}"));
     }
     Ok(())
@@ -291,9 +326,10 @@ fn shaped_call(bench: &mut Bench, family: &str, shaped: &Shaped) -> Result<(), F
     Ok(())
 }
 
-fn foretold_call(bench: &Bench, foretold: &Foretold) -> Result<(), Failure> {
+pub fn foretold_call(bench: &Bench, foretold: &Foretold) -> Result<(), Failure> {
     let shown = format!("{:?}\n", foretold.call).into_bytes();
-    let (margin, verdict) = at(&shown, compare::calls(bench.others, &foretold.call, WHOLE_CALL))?;
+    let (margin, _, _) = at(&shown, compare::margins(bench.others, &foretold.call, WHOLE_CALL))?;
+    let (verdict, _, _) = at(&shown, compare::verdicts(bench.others, &foretold.call, WHOLE_CALL))?;
     if (margin, verdict) != (foretold.margin, foretold.verdict) {
         let wanted = (foretold.margin, foretold.verdict);
         return at(&shown, Err(format!("refused by {:?}, foretold {wanted:?}", (margin, verdict))));
@@ -311,6 +347,9 @@ fn requirement_text(bench: &mut Bench, rng: &mut Prng) -> Result<(), Failure> {
         return at(&text, Err("a bad requirement was read".to_string()));
     }
     bench.tally.add(format!("requirement refused={refusal}"));
+    if let Some(marks) = marked::refused_text(&text) {
+        bench.tally.add(format!("requirement: {marks}"));
+    }
     at(&text, read_again(bench, &text))
 }
 
@@ -354,6 +393,7 @@ pub fn limit_sheets(bench: &mut Bench) -> Result<(), Failure> {
     limit_rows(bench)?;
     limit_distances(bench)?;
     limit_tables(bench)?;
+    limit_windows(bench)?;
     limit_watches(bench)
 }
 

@@ -1,8 +1,9 @@
 //! The peer's types as flat numbers, and the peer in the library's place.
 
 use crate::kept;
-use crate::library::{Library, ENDS, NODES, NUMBERS, PLACES, RANGES, SCALES};
+use crate::library::{Library, ENDS, NODES, NODE_NUMBERS, NUMBERS, PLACES, RANGES, SCALES};
 use crate::names::{self, Call, Making, Written};
+use peer::limits::MOST_NODES;
 use peer::predicate::{Predicate, Predicates, Range, UNSET};
 use peer::recording::Recording;
 use peer::refusal::Refusal;
@@ -11,11 +12,13 @@ use peer::table::{Node, Table};
 use peer::verdict::Verdict;
 use peer::watch::Watch;
 
-/// Five numbers for each of 64 nodes: kind, left, right, lo, hi. Places beyond the count are 0.
+/// Seven numbers for each of 64 nodes: kind, left, right, lo, hi, and its two marks. Places beyond the
+/// count are 0.
 pub fn flat_nodes(table: &Table) -> [u64; NODES] {
     let mut nodes = [0; NODES];
-    for (place, node) in nodes.chunks_mut(5).zip(&table.nodes) {
-        place.copy_from_slice(&[node.kind, node.left, node.right, node.lo, node.hi]);
+    for (place, node) in nodes.chunks_mut(NODE_NUMBERS).zip(&table.nodes) {
+        let &Node { kind, left, right, lo, hi, open_lo, open_hi } = node;
+        place.copy_from_slice(&[kind, left, right, lo, hi, open_lo, open_hi]);
     }
     nodes
 }
@@ -79,10 +82,12 @@ pub fn table(nodes: &[u64], count: u64) -> Table {
         right: numbers[2],
         lo: numbers[3],
         hi: numbers[4],
+        open_lo: numbers[5],
+        open_hi: numbers[6],
     };
-    let mut nodes: Vec<Node> = padded::<_, NODES>(nodes).chunks(5).map(node).collect();
+    let mut nodes: Vec<Node> = padded::<_, NODES>(nodes).chunks(NODE_NUMBERS).map(node).collect();
     // A count beyond 64 is refused whatever it is; one node too many stands for it.
-    nodes.resize(count.min(65) as usize, Node::default());
+    nodes.resize(count.min(MOST_NODES as u64 + 1) as usize, Node::default());
     Table { nodes }
 }
 

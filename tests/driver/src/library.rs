@@ -7,17 +7,10 @@
 //! too.
 
 use crate::names::{Call, Making, Sheet, Written};
-use peer::limits::{MOST_CHANNELS, MOST_NODES, MOST_REQUIREMENTS, PREDICATES};
 
-/// Lengths that lose nothing.
-pub const NODES: usize = 5 * MOST_NODES;
-pub const RANGES: usize = 2 * PREDICATES;
-pub const ENDS: usize = 2 * PREDICATES;
-pub const NUMBERS: usize = 5;
-pub const PLACES: usize = 2 * MOST_REQUIREMENTS;
-pub const SCALES: usize = MOST_CHANNELS as usize;
-pub const COUNTS: usize = 2;
-pub const RESULT: usize = 3;
+pub use crate::names::{
+    COUNTS, ENDS, NODES, NODE_NUMBERS, NUMBERS, PLACES, RANGES, RESULT, SCALES,
+};
 
 pub trait Library {
     /// The whole answer: the length of the printed lines together. A refusal is a line too.

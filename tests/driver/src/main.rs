@@ -7,10 +7,12 @@ mod claimed;
 mod compare;
 mod families;
 mod flat;
+mod half_open;
 #[cfg(test)]
 mod header;
 mod kept;
 mod library;
+mod marked;
 // Without a library the functions are unused, the forms of what is lent are not.
 #[cfg_attr(not(any(feature = "proved", test)), allow(dead_code))]
 #[path = "../../../rust/src/names.rs"]
@@ -194,8 +196,8 @@ fn run_long(others: &Others, tally: &mut Tally, run: u64) -> bool {
 
 /// What must come up, and how often: every refusal and every verdict, of every entry point, every
 /// order of predicates, every fault of `c=` lines, cards with unequal scales, all that claims may
-/// be about, every kind of table that is written and of pair in its text, every kind of watch and of
-/// row that is offered to one, every shape of window.
+/// be about, every pair of marks, every kind of table that is written and of pair in its text, every
+/// kind of watch and of row that is offered to one, every shape of window.
 fn wanted(thousands: u64, long: bool) -> Vec<(String, u64)> {
     let mut wanted = wanted_refusals(thousands);
     for verdict in ["holds", "fails", "unshown"] {
@@ -222,6 +224,7 @@ fn wanted(thousands: u64, long: bool) -> Vec<(String, u64)> {
         wanted.push((format!("histories: {histories}"), 10 * thousands));
     }
     wanted.extend(claimed::all().iter().map(|about| (format!("histories: {about}"), thousands)));
+    wanted.extend(wanted_marks(thousands));
     wanted.extend(wanted_writings(thousands));
     wanted.extend(watchable::all().iter().map(|kind| (format!("{WATCH}: {kind}"), thousands / 2)));
     for shape in shapes::all() {
@@ -252,6 +255,24 @@ fn wanted_refusals(thousands: u64) -> Vec<(String, u64)> {
     each(&format!("{WATCH}, refused watch, row refused="), &[3, 4, 13, 16], 10);
     each(&format!("{WATCH}, short refused="), &[3, 4, 13, 16, 8], 1);
     each(&format!("{WATCH}, cut refused="), &[0, 3], 1);
+    wanted
+}
+
+/// Each pair of marks of each operator, and each refusal for marks alone. Those of windows, watches and
+/// claims stand among what these may be about.
+fn wanted_marks(thousands: u64) -> Vec<(String, u64)> {
+    let mut wanted = vec![("margin call: excluded ends moved".to_string(), 10 * thousands)];
+    for form in marked::all() {
+        wanted.push((format!("answer: {form}"), thousands));
+        wanted.push((format!("{WRITTEN}: {form}"), thousands));
+    }
+    for refusal in marked::TEXT_REFUSALS {
+        wanted.push((format!("answer: {refusal}"), thousands / 5));
+        wanted.push((format!("requirement: {refusal}"), thousands / 10));
+    }
+    for refusal in marked::TABLE_REFUSALS {
+        wanted.push((format!("table: {refusal}"), thousands / 5));
+    }
     wanted
 }
 

@@ -1,5 +1,6 @@
 //! The pairs of parentheses of a requirement's text, looked at from outside: as its bytes.
 
+use crate::marked::windows;
 use peer::grammar::read_tree;
 use peer::tree::Tree;
 
@@ -10,11 +11,13 @@ pub struct Pair {
     close: usize,
 }
 
-/// The pairs of a text that the grammar has, inner ones first.
+/// The pairs of a text that the grammar has, inner ones first. A window's brackets are none.
 pub fn pairs(text: &[u8]) -> Vec<Pair> {
+    let windows = windows(text);
     let (mut open, mut pairs) = (Vec::new(), Vec::new());
     for (place, byte) in text.iter().enumerate() {
         match byte {
+            _ if windows.iter().any(|window| window.contains(&place)) => {}
             b'(' => open.push(place),
             b')' => pairs.extend(open.pop().map(|open| Pair { open, close: place })),
             _ => {}
@@ -67,12 +70,10 @@ pub fn about(text: &[u8], pair: Pair) -> String {
 
 /// Where a unary stands, by what is before it and the byte behind it: what binds strongest has it.
 fn place(before: &[u8], behind: Option<&u8>) -> &'static str {
-    // A window's letter stands before its bracket.
-    let last = match before.last() {
-        Some(b']') => before.iter().rposition(|byte| *byte == b'[').map(|at| before[at - 1]),
-        other => other.copied(),
-    };
-    match (last, behind) {
+    // A window's letter stands before its brackets.
+    let window = windows(before).pop().filter(|window| window.end == before.len());
+    let end = window.map_or(before.len(), |window| window.start);
+    match (before[..end].last(), behind) {
         (Some(b'!'), _) => UNDER_NOT,
         (Some(b'G' | b'F'), _) => UNDER_WINDOW,
         (Some(b'U' | b'R'), _) => RIGHT_OF_BIND,
@@ -106,6 +107,15 @@ mod tests {
         let nested = ["conjunction left of a bind", "bind under always or eventually"];
         assert_eq!(of("p0|G[0,*]((p1&T)U[2,3]T)"), nested);
         assert_eq!(of("(p0)"), ["unary where none is needed"]);
+    }
+
+    #[test]
+    fn a_windows_brackets_are_no_pair() {
+        assert!(of("F(0,2)p0U[0,1)p1").is_empty());
+        assert_eq!(of("F(0,1](p0&p1)"), ["conjunction under always or eventually"]);
+        assert_eq!(of("G[0,1)(p0|p1)"), ["alternative under always or eventually"]);
+        assert_eq!(of("(p0&p1)U(0,2)p2"), ["conjunction left of a bind"]);
+        assert_eq!(of("p0R(0,2)(p1U(3,*]p2)"), ["bind right of a bind"]);
     }
 
     #[test]

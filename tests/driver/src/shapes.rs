@@ -1,19 +1,23 @@
 //! Which windows a call reads, by operator, start and end: counted from the numbers themselves, so
 //! that a shape that no longer comes up is seen.
 
+use crate::marked::{self, form};
 use peer::generate::calls::Call;
 use peer::generate::windows::{Shaped, SPACINGS, VALUES};
 use peer::table::{kind, Node};
 use peer::window::Window;
 
-const LETTERS: [char; 4] = ['U', 'R', 'F', 'G'];
+pub const LETTERS: [char; 4] = ['U', 'R', 'F', 'G'];
 const STARTS: [&str; 4] = ["now", "within a step", "late", "past the recording"];
 const ENDS: [&str; 4] = ["no end", "one instant", "an end inside", "an end past the recording"];
 const EMPTY: &str = "emptied";
+/// A low end of 0 that is excluded: no window from now.
+const FROM_OPEN_0: &str = "from 0 without 0";
 
 /// Everything that is to be counted. What contraction leaves is counted by itself.
 pub fn all() -> Vec<String> {
-    let mut all = Vec::new();
+    let mut all = marked::all();
+    all.extend(marked::all().iter().map(|form| format!("strengthened {form}")));
     for letter in LETTERS {
         for start in STARTS {
             all.extend(ends(start).map(|end| format!("{letter} {start}, {end}")));
@@ -23,6 +27,7 @@ pub fn all() -> Vec<String> {
                 all.extend(left.map(|end| format!("contracted {letter} {start}, {end}")));
             }
         }
+        all.extend(contracts(letter).then(|| format!("contracted {letter} {FROM_OPEN_0}")));
         all.extend(VALUES.map(|values| format!("{letter} over {}", values.name())));
         all.extend(SPACINGS.map(|spacing| format!("{letter} over {}", spacing.name())));
     }
@@ -39,11 +44,13 @@ fn ends(start: &str) -> impl Iterator<Item = &'static str> {
 pub fn read_by(shaped: &Shaped) -> Vec<String> {
     let call = &shaped.foretold.call;
     let mut read = Vec::new();
-    for (letter, node) in call.table.nodes.iter().filter_map(lettered) {
-        let window = Window::of_numbers(node.lo, node.hi);
+    for (letter, node) in call.table.nodes.iter().filter_map(|node| Some((letter(node)?, node))) {
+        let window = node.window();
         read.push(described(letter, window, call));
+        read.push(format!("{letter} {}", form(window)));
         if shaped.foretold.verdict == 0 {
-            read.extend([letter, dual(letter)].map(|letter| strengthened(letter, window, call)));
+            let both = [letter, dual(letter)];
+            read.extend(both.iter().flat_map(|letter| strengthened(*letter, window, call)));
         }
         read.push(format!("{letter} over {}", shaped.values.name()));
         read.push(format!("{letter} over {}", shaped.spacing.name()));
@@ -51,9 +58,10 @@ pub fn read_by(shaped: &Shaped) -> Vec<String> {
     read
 }
 
-fn lettered(node: &Node) -> Option<(char, &Node)> {
+/// Of a temporal operator.
+pub fn letter(node: &Node) -> Option<char> {
     let place = node.kind.checked_sub(kind::UNTIL)?;
-    Some((LETTERS[place as usize], node))
+    LETTERS.get(place as usize).copied()
 }
 
 fn dual(letter: char) -> char {
@@ -70,16 +78,22 @@ fn contracts(letter: char) -> bool {
     matches!(letter, 'U' | 'F')
 }
 
-fn strengthened(letter: char, window: Window, call: &Call) -> String {
+/// What strengthening makes of an operator's window.
+fn strengthened(letter: char, window: Window, call: &Call) -> Vec<String> {
     let step = call.step as i64;
+    let mut read = vec![format!("strengthened {letter} {}", form(window))];
     if contracts(letter) {
-        format!("contracted {}", described(letter, window.contracted(step), call))
+        read.push(format!("contracted {}", described(letter, window.contracted(step), call)));
+        let open_0 = window.open_lo && window.lo == 0;
+        read.extend(open_0.then(|| format!("contracted {letter} {FROM_OPEN_0}")));
     } else {
-        described(letter, window.expanded(step), call)
+        read.push(described(letter, window.expanded(step), call));
     }
+    read
 }
 
 fn described(letter: char, window: Window, call: &Call) -> String {
+    let window = window.as_read();
     let times = &call.recording.times;
     let (step, span) = (call.step as i64, (times[times.len() - 1] - times[0]) as i64);
     let start = match window.lo {

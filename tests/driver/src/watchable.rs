@@ -1,15 +1,13 @@
 //! What watches and their rows are about, counted from the numbers themselves, and slices that hold no
 //! watch.
 
+use crate::marked;
 use crate::play::State;
 use peer::generate::prng::Prng;
 use peer::generate::tables::{children, uses};
 use peer::generate::watches::{below, is_temporal, Offer, Watching};
-use peer::limits::{LARGEST_VALUE, LAST_TIME, NO_END};
+use peer::limits::{LARGEST_VALUE, LAST_TIME};
 use peer::table::{kind, Table};
-
-const LETTERS: [char; 4] = ['U', 'R', 'F', 'G'];
-const ENDS: [&str; 2] = ["with an end", "without end"];
 
 const ABOVE: &str = "not, and, or above a temporal operator";
 const BELOW: &str = "not, and, or below a temporal operator";
@@ -39,13 +37,13 @@ const OVERTAKEN: &str = "an accepted row not later than a refused one";
 
 /// What a watch and its rows may be about, and every kind of slices without a watch.
 pub fn all() -> Vec<String> {
-    let letters = LETTERS.iter().flat_map(|letter| ENDS.map(|end| format!("{letter} {end}")));
     let others = [
         ABOVE, BELOW, SHARED, UNREACHED, NESTED_REACHED, NESTED_UNREACHED, NESTED_AT_ONCE,
         NESTED_DEEP, NESTED_LEFT, NESTED_RIGHT, NO_VALUE, ONE_LESS, ONE_MORE, EQUAL_TIME, EARLIER,
         PAST_TIME, BAD_VALUE, FIVE_SIX, FIVE_SEVEN, SIX_SEVEN, AT_ZERO, AT_LAST, OVERTAKEN,
     ];
-    letters.chain(others.into_iter().chain(NO_WATCHES).map(str::to_string)).collect()
+    let others = others.into_iter().chain(NO_WATCHES).map(str::to_string);
+    marked::all().into_iter().chain(others).collect()
 }
 
 /// What the watch and its rows are about.
@@ -53,7 +51,7 @@ pub fn about(watching: &Watching) -> Vec<String> {
     let (letters, others) = match watching.number {
         0 => {
             let others = [about_table(&watching.table), about_rows(watching)].concat();
-            (lettered(&watching.table), others)
+            (marked::reached(&watching.table), others)
         }
         16 => (Vec::new(), about_nested(&watching.table)),
         _ => (Vec::new(), Vec::new()),
@@ -64,18 +62,6 @@ pub fn about(watching: &Watching) -> Vec<String> {
 /// Those of these that there are.
 fn found<const N: usize>(kinds: [(&'static str, bool); N]) -> Vec<&'static str> {
     kinds.into_iter().filter(|(_, is)| *is).map(|(what, _)| what).collect()
-}
-
-/// The temporal operators that the root reaches.
-fn lettered(table: &Table) -> Vec<String> {
-    let nodes = table.nodes.iter().zip(uses(table));
-    let reached = nodes.filter(|(node, uses)| is_temporal(node) && *uses > 0);
-    reached
-        .map(|(node, _)| {
-            let letter = LETTERS[(node.kind - kind::UNTIL) as usize];
-            format!("{letter} {}", ENDS[usize::from(node.hi == NO_END)])
-        })
-        .collect()
 }
 
 fn is_boolean(kind: u64) -> bool {
@@ -225,8 +211,7 @@ mod tests {
 
     #[test]
     fn tables_are_told_apart() {
-        assert_eq!(lettered(&of("p0U[0,*]p1&G[0,3]p0")), ["U without end", "G with an end"]);
-        assert!(lettered(&unreached("F[0,1]p0")).is_empty());
+        assert!(marked::reached(&unreached("F[0,1]p0")).is_empty());
         assert_eq!(about_table(&of("F[0,1]p0&G[0,*]p0")), [ABOVE]);
         assert_eq!(about_table(&of("!p0R[0,1]p1")), [BELOW]);
         assert!(about_table(&of("F[0,1]p0")).is_empty());

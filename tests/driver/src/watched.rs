@@ -2,7 +2,7 @@
 //! and to their slices place by place.
 
 use crate::compare::{self, making, same, Flat, BEHIND, SIGNED_NOISE, WHOLE_CALL, WHOLE_MAKING};
-use crate::families::{at, Bench, Failure};
+use crate::families::{at, tally_refused, Bench, Failure};
 use crate::library::{Library, ENDS, NODES, RANGES};
 use crate::names::{Making, WATCH_CELLS, WATCH_NUMBERS};
 use crate::play::{unlike, Margin, Plan, State, Step, WHOLE_WATCH};
@@ -104,8 +104,9 @@ fn as_a_recording(bench: &Bench, watching: &Watching, margin: i64) -> Result<(),
     let work = vec![0; watching.table.count() * recording.rows()];
     let (table, predicates) = (watching.table.clone(), watching.predicates);
     let call = Call { table, predicates, recording, step: 1, drift: 0, work };
-    let found = compare::margins(bench.others, &call, WHOLE_CALL)?;
-    if found != (0, margin) {
+    let (number, result, _) = compare::margins(bench.others, &call, WHOLE_CALL)?;
+    if (number, result[0]) != (0, margin) {
+        let found = (number, result[0]);
         return Err(format!("the margin of the rows is {found:?}, watched {margin}"));
     }
     Ok(())
@@ -185,6 +186,7 @@ fn no_watch(
 fn tally(bench: &mut Bench, watching: &Watching, steps: &[Step]) {
     let made = watching.number == 0;
     bench.tally.add(format!("{WATCH} refused={}", watching.number));
+    tally_refused(bench.tally, &watching.table);
     for (number, margin) in &steps[1..] {
         let row = if made { "row" } else { "refused watch, row" };
         bench.tally.add(format!("{WATCH}, {row} refused={number}"));
@@ -203,25 +205,29 @@ const LONG_ROWS: usize = 5_000;
 /// Watches over more rows than a recording may have: the same in every run.
 pub fn limit_watches(bench: &mut Bench) -> Result<(), Failure> {
     for text in [
-        "p0U[0,*]p1", "p0R[0,*]p1", "p0U[4000,4500]p1&!(p1R[4999,4999]p0)",
-        "F[4097,*]p1|G[0,4999](p0&!p1)",
+        "p0U[0,*]p1", "p0R[0,*]p1", "p0U(3999,4501)p1&!(p1R(4998,4999]p0)",
+        "F(4096,*]p1|G[0,5000)(p0&!p1)",
     ] {
-        let watching = long(text);
         let shown = format!("{text}, {LONG_ROWS} rows\n").into_bytes();
-        let flat = Flat::of(&watching.table, &watching.predicates, 0);
-        let whole = making(&flat, &watching.scales, WHOLE_MAKING);
-        let plan = Plan {
-            blank: State::noisy(&mut Prng::new(7), WHOLE_WATCH),
-            asked: Some(vec![0, 4_095, 4_096, 4_097, LONG_ROWS - 1]),
-            room: 1,
-            copied: None,
-            remade: false,
-        };
-        let steps = at(&shown, compare::watches(bench.others, &whole, &watching, &plan))?;
-        at(&shown, held(&watching, &plan, &steps))?;
+        let asked = vec![0, 4_095, 4_096, 4_097, LONG_ROWS - 1];
+        at(&shown, plainly_watched(bench, &long(text), Some(asked)))?;
         bench.tally.add("limits");
     }
     Ok(())
+}
+
+/// A watch that is offered its rows once; margins are asked for behind these, or behind all.
+pub fn plainly_watched(
+    bench: &Bench,
+    watching: &Watching,
+    asked: Option<Vec<usize>>,
+) -> Result<(), String> {
+    let flat = Flat::of(&watching.table, &watching.predicates, 0);
+    let whole = making(&flat, &watching.scales, WHOLE_MAKING);
+    let blank = State::noisy(&mut Prng::new(7), WHOLE_WATCH);
+    let plan = Plan { blank, asked, room: 1, copied: None, remade: false };
+    let steps = compare::watches(bench.others, &whole, watching, &plan)?;
+    held(watching, &plan, &steps).map(|_| ())
 }
 
 /// One-second rows whose values fall: p0 is missed in the end, p1 kept ever more.

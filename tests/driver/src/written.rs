@@ -2,9 +2,10 @@
 //! what the reader makes of the text.
 
 use crate::compare::{self, pattern};
-use crate::families::{at, Bench, Failure};
+use crate::families::{at, tally_refused, Bench, Failure};
 use crate::flat::{self, flat_nodes};
-use crate::library::NODES;
+use crate::library::{NODES, NODE_NUMBERS};
+use crate::marked;
 use crate::names::{Written, REQUIREMENT_BYTES};
 use crate::pairs::{about, pairs, without};
 use peer::generate::known_tables::known;
@@ -12,7 +13,7 @@ use peer::generate::prng::Prng;
 use peer::generate::requirements::{enclosings, least};
 use peer::generate::tables::{unshared, uses, writing, Writing};
 use peer::grammar::{read_requirement, read_tree};
-use peer::limits::{MOST_ENCLOSINGS, MOST_NODES, NO_END};
+use peer::limits::{MOST_ENCLOSINGS, MOST_NODES};
 use peer::refusal::Refusal;
 use peer::table::{Node, Table};
 use peer::writer::write_requirement;
@@ -24,7 +25,6 @@ const AS_READ: &str = "as the reader lays it out";
 const OTHERWISE: &str = "laid out otherwise";
 const SHARED: &str = "a node shared";
 const UNREACHED: &str = "a node unreached";
-const NO_END_THERE: &str = "a window without end";
 const MOST_NODES_THERE: &str = "64 nodes";
 const MOST_ENCLOSINGS_THERE: &str = "32 enclosings";
 const NODE_TOO_MANY: &str = "65 nodes";
@@ -35,17 +35,16 @@ const BROKEN_UNREACHED: &str = "broken where the root does not reach";
 const BROKEN_AND_LARGE: &str = "broken and too large";
 
 /// What a table that is written, or refused, may be about.
-pub const ALL: [&str; 13] = [
-    AS_READ, OTHERWISE, SHARED, UNREACHED, NO_END_THERE, MOST_NODES_THERE, MOST_ENCLOSINGS_THERE,
-    NODE_TOO_MANY, ENCLOSING_TOO_MANY, PAIRS_TOO_MANY, BROKEN_REACHED, BROKEN_UNREACHED,
-    BROKEN_AND_LARGE,
+pub const ALL: [&str; 12] = [
+    AS_READ, OTHERWISE, SHARED, UNREACHED, MOST_NODES_THERE, MOST_ENCLOSINGS_THERE, NODE_TOO_MANY,
+    ENCLOSING_TOO_MANY, PAIRS_TOO_MANY, BROKEN_REACHED, BROKEN_UNREACHED, BROKEN_AND_LARGE,
 ];
 
 pub fn written_table(bench: &mut Bench, rng: &mut Prng) -> Result<(), Failure> {
     let writing = writing(rng);
     let shown = format!("{:?}\n", writing.table).into_bytes();
     let nodes = with_noise(&writing.table);
-    let own = (5 * writing.table.count()).min(NODES);
+    let own = (NODE_NUMBERS * writing.table.count()).min(NODES);
     // Any count beyond the nodes there are is refused alike.
     let count = match writing.table.count() {
         count if count > MOST_NODES => rng.pick(&[65, 66, 1 << 32, u64::MAX]),
@@ -57,6 +56,12 @@ pub fn written_table(bench: &mut Bench, rng: &mut Prng) -> Result<(), Failure> {
     for about in about_table(&writing) {
         bench.tally.add(format!("{WRITTEN}: {about}"));
     }
+    if writing.number == 0 {
+        for form in marked::reached(&writing.table) {
+            bench.tally.add(format!("{WRITTEN}: {form}"));
+        }
+    }
+    tally_refused(bench.tally, &writing.table);
     if rng.once_in(4) {
         // What the slice does not have reads as 0: the table may be another one.
         let number = at(&shown, cut_table(bench, &nodes[..rng.below(own + 1)], count))?;
@@ -194,13 +199,11 @@ fn about_table(writing: &Writing) -> Vec<&'static str> {
     }
     let tree = table.trees().remove(table.count() - 1);
     let mut about = Vec::new();
-    let endless = table.nodes.iter().zip(&uses).any(|(node, uses)| node.hi == NO_END && *uses > 0);
     for (what, found) in [
         (AS_READ, writing.as_read),
         (OTHERWISE, !writing.as_read),
         (SHARED, uses.iter().any(|uses| *uses > 1)),
         (UNREACHED, uses.contains(&0)),
-        (NO_END_THERE, endless),
         (MOST_NODES_THERE, tree.size() == MOST_NODES),
         (MOST_ENCLOSINGS_THERE, enclosings(&tree).0 == MOST_ENCLOSINGS),
     ] {

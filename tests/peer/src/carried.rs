@@ -46,7 +46,7 @@ impl<'a> Carried<'a> {
         for (node, part) in self.table.nodes.iter().zip(&mut self.parts) {
             let Some(sign) = sign(node) else { continue };
             let (left, right) = signed_operands(node, sign, &now);
-            if node.lo <= since && (node.hi == NO_END || since <= node.hi) {
+            if in_window(node, since) {
                 part.found = part.found.max(right.min(part.left));
             }
             part.left = part.left.min(left);
@@ -85,6 +85,13 @@ impl<'a> Carried<'a> {
         }
         joined
     }
+}
+
+/// Whether so many seconds lie in the node's window. An end that is excluded is no such count itself.
+fn in_window(node: &Node, since: u64) -> bool {
+    let late = node.lo < since || (node.lo == since && node.open_lo == 0);
+    let early = since < node.hi || (node.hi == since && node.open_hi == 0);
+    late && (early || node.hi == NO_END)
 }
 
 /// Of a temporal operator: 1 for until and eventually, −1 for release and always.

@@ -125,17 +125,27 @@ impl Reader<'_> {
         }
     }
 
-    /// `[lo,hi]`, hi perhaps `*`.
+    /// `[lo,hi]`, hi perhaps `*`; `(` for `[` and `)` for `]` where that end is excluded. "This `(` is
+    /// no enclosing."
     fn window(&mut self) -> Read<Window> {
-        self.due(b'[')?;
+        let open_lo = self.bracket(b'[', b'(')?;
         let lo = self.number(LARGEST_END)? as i64;
         self.due(b',')?;
         let hi = if self.take(b'*') { None } else { Some(self.number(LARGEST_END)? as i64) };
-        self.due(b']')?;
-        if hi.is_some_and(|hi| lo > hi) {
+        let open_hi = self.bracket(b']', b')')?;
+        let window = Window { lo, hi, open_lo, open_hi };
+        if window.is_refused() {
             return Err(Outside);
         }
-        Ok(Window { lo, hi })
+        Ok(window)
+    }
+
+    /// Whether an end is excluded: one of the two brackets is due.
+    fn bracket(&mut self, counted: u8, excluded: u8) -> Read<bool> {
+        if self.take(excluded) {
+            return Ok(true);
+        }
+        self.due(counted).map(|()| false)
     }
 
     /// All digits that stand there; no leading zero, and at most the largest.

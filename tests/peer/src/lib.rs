@@ -1,4 +1,4 @@
-//! Document 01 with Changes 1 and 3 to 7 of document 02 as literal definitions.
+//! Document 01 with Changes 1 and 3 to 8 of document 02 as literal definitions.
 //!
 //! Nothing here is fast and nothing is shared with the proved library: each definition is read
 //! from the papers anew, each largest and smallest is taken afresh, so that an agreement of the
@@ -42,6 +42,8 @@ pub mod levels;
 
 pub mod generate;
 
+#[cfg(test)]
+mod half_open;
 #[cfg(test)]
 mod scales;
 #[cfg(test)]

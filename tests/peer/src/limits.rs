@@ -13,6 +13,7 @@ pub const LARGEST_VALUE: i64 = 1_000_000_000;
 
 pub const PREDICATES: usize = 16;
 pub const MOST_NODES: usize = 64;
+/// A window's ends, as they are written, go up to this.
 pub const LARGEST_END: u64 = 1_000_000_000;
 /// How a table writes a window's missing end.
 pub const NO_END: u64 = 4_294_967_295;

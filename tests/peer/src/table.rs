@@ -1,9 +1,9 @@
-//! Requirement tables: nodes of five numbers, children before parents, the root last.
+//! Requirement tables: nodes of seven numbers, children before parents, the root last.
 
-use crate::limits::{MOST_NODES, PREDICATES};
+use crate::limits::{LARGEST_END, MOST_NODES, NO_END, PREDICATES};
 use crate::predicate::Predicates;
 use crate::tree::{Atom, Shared, Tree};
-use crate::window::{self, Window};
+use crate::window::Window;
 use std::rc::Rc;
 
 #[derive(Clone, Copy, PartialEq, Eq, Debug, Default)]
@@ -13,6 +13,32 @@ pub struct Node {
     pub right: u64,
     pub lo: u64,
     pub hi: u64,
+    /// "A node gains two marks, 0 or 1, low end excluded and high end excluded."
+    pub open_lo: u64,
+    pub open_hi: u64,
+}
+
+impl Node {
+    /// Its window; only of numbers within their limits.
+    pub fn window(&self) -> Window {
+        Window {
+            lo: self.lo as i64,
+            hi: if self.hi == NO_END { None } else { Some(self.hi as i64) },
+            open_lo: self.open_lo == 1,
+            open_hi: self.open_hi == 1,
+        }
+    }
+
+    /// The node with this window.
+    pub fn with(self, window: Window) -> Node {
+        Node {
+            lo: window.lo as u64,
+            hi: window.hi.map_or(NO_END, |hi| hi as u64),
+            open_lo: u64::from(window.open_lo),
+            open_hi: u64::from(window.open_hi),
+            ..self
+        }
+    }
 }
 
 #[derive(Clone, PartialEq, Eq, Debug, Default)]
@@ -108,15 +134,26 @@ fn node_broken(k: u64, node: &Node) -> bool {
         node.left == 0
     };
     let right_fits = if uses.right_child { node.right < k } else { node.right == 0 };
-    let window_fits =
-        if uses.window { !window::broken(node.lo, node.hi) } else { node.lo == 0 && node.hi == 0 };
+    let window_fits = if uses.window {
+        window_fits(node)
+    } else {
+        [node.lo, node.hi, node.open_lo, node.open_hi] == [0; 4]
+    };
     !(left_fits && right_fits && window_fits)
+}
+
+/// "A window has lo and hi up to 1,000,000,000, lo ≤ hi, or hi 4,294,967,295 for no end"; its marks are
+/// "0 or 1". The limits are those of the ends as they are written.
+fn window_fits(node: &Node) -> bool {
+    let ends_fit = node.lo <= LARGEST_END && (node.hi <= LARGEST_END || node.hi == NO_END);
+    let marks_fit = node.open_lo <= 1 && node.open_hi <= 1;
+    ends_fit && marks_fit && !node.window().is_refused()
 }
 
 fn node_tree(node: &Node, earlier: &[Shared]) -> Tree {
     let left = || earlier[node.left as usize].clone();
     let right = || earlier[node.right as usize].clone();
-    let window = Window::of_numbers(node.lo, node.hi);
+    let window = node.window();
     match node.kind {
         kind::TRUE => Tree::Atom(Atom::True),
         kind::PREDICATE => Tree::Atom(Atom::Predicate(node.left as usize)),
@@ -142,19 +179,13 @@ fn append(nodes: &mut Vec<Node>, tree: &Tree) -> u64 {
         Tree::Not(left) => Node { kind: kind::NOT, left: append(nodes, left), ..none },
         Tree::And(left, right) => both(nodes, kind::AND, left, right),
         Tree::Or(left, right) => both(nodes, kind::OR, left, right),
-        Tree::Until(left, window, right) => {
-            with_window(both(nodes, kind::UNTIL, left, right), *window)
-        }
-        Tree::Release(left, window, right) => {
-            with_window(both(nodes, kind::RELEASE, left, right), *window)
-        }
+        Tree::Until(left, window, right) => both(nodes, kind::UNTIL, left, right).with(*window),
+        Tree::Release(left, window, right) => both(nodes, kind::RELEASE, left, right).with(*window),
         Tree::Eventually(window, left) => {
-            let left = append(nodes, left);
-            with_window(Node { kind: kind::EVENTUALLY, left, ..none }, *window)
+            Node { kind: kind::EVENTUALLY, left: append(nodes, left), ..none }.with(*window)
         }
         Tree::Always(window, left) => {
-            let left = append(nodes, left);
-            with_window(Node { kind: kind::ALWAYS, left, ..none }, *window)
+            Node { kind: kind::ALWAYS, left: append(nodes, left), ..none }.with(*window)
         }
     };
     nodes.push(node);
@@ -164,10 +195,5 @@ fn append(nodes: &mut Vec<Node>, tree: &Tree) -> u64 {
 fn both(nodes: &mut Vec<Node>, kind: u64, left: &Tree, right: &Tree) -> Node {
     let left = append(nodes, left);
     let right = append(nodes, right);
-    Node { kind, left, right, lo: 0, hi: 0 }
-}
-
-fn with_window(node: Node, window: Window) -> Node {
-    let (lo, hi) = window.numbers();
-    Node { lo, hi, ..node }
+    Node { kind, left, right, ..Node::default() }
 }

@@ -43,6 +43,12 @@ fn the_bench_readings_row_by_row() {
         ("F[0,3]p0&G[0,1]p1", [2, -1, -1, -1]),
         ("!(p0U[1,2]p1)|G[4,9]p0", [TOP; 4]),
         ("p1|F[3,3](p0&!p1)", [2, 2, 2, 3]),
+        // Windows without their ends.
+        ("F[0,3)p0", [3, 5, 5, 5]),
+        ("F(0,*]p0", [-TOP, 5, 5, 7]),
+        ("G(0,2)p0", [TOP, 5, 5, 5]),
+        ("p0U(1,3)p1", [-TOP, -TOP, 3, 3]),
+        ("p1R(0,2]p0", [TOP, 5, 2, 2]),
     ] {
         let mut watch = watch(text);
         let (table, predicates) = (read_requirement(text.as_bytes()).unwrap(), bench());

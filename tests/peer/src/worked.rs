@@ -20,7 +20,7 @@ const EXAMPLE: &str = "chan=1\nc=0 scale=1\np=0 ch=0 lo=5 hi=*\nstep=1\ndrift=2\
     req=G[0,2]p0\n\
     t=0 src=m v0=10\nt=1 src=m v0=11\nt=2 src=m v0=10\nt=3 src=m v0=9\nt=4 src=m v0=10\n";
 
-fn says(text: &str, line: &str) {
+pub(crate) fn says(text: &str, line: &str) {
     assert_eq!(String::from_utf8(answer(text.as_bytes())).unwrap(), format!("{line}\n"), "{text}");
 }
 
@@ -29,7 +29,7 @@ fn refuses(text: &str, number: u64) {
 }
 
 /// The example with one part of its text exchanged, which must stand there once.
-fn with(old: &str, new: &str) -> String {
+pub(crate) fn with(old: &str, new: &str) -> String {
     assert_eq!(EXAMPLE.matches(old).count(), 1, "{old:?}");
     EXAMPLE.replace(old, new)
 }
@@ -43,7 +43,7 @@ fn bench() -> (Predicates, Recording) {
     (predicates, recording)
 }
 
-fn bench_margin(text: &str) -> i64 {
+pub(crate) fn bench_margin(text: &str) -> i64 {
     let (predicates, recording) = bench();
     let table = read_requirement(text.as_bytes()).unwrap();
     margin(&table, &predicates, &recording, &mut vec![0; table.count() * 4]).unwrap()
@@ -103,9 +103,9 @@ fn faults_to_shut_out() {
 fn cells_of_margin_and_verdict() {
     let (predicates, recording) = bench();
     // The root is node 2; node 1 isn't reached and has its cells all the same; node 0 is shared.
-    let leaf = Node { kind: 1, ..Node::default() };
-    let unreached = Node { kind: 8, left: 0, right: 0, lo: 1, hi: 3 };
-    let root = Node { kind: 3, left: 0, right: 0, lo: 0, hi: 0 };
+    let leaf = node(1, 0, 0, 0, 0);
+    let unreached = node(8, 0, 0, 1, 3);
+    let root = node(3, 0, 0, 0, 0);
     let table = Table { nodes: vec![leaf, unreached, root] };
     let mut work = [77; 14];
     assert_eq!(margin(&table, &predicates, &recording, &mut work), Ok(3));
@@ -125,9 +125,9 @@ fn cells_of_margin_and_verdict() {
 #[test]
 fn a_shared_table_is_no_tree_of_its_size() {
     let (predicates, recording) = bench();
-    let mut nodes = vec![Node { kind: 1, ..Node::default() }];
+    let mut nodes = vec![node(1, 0, 0, 0, 0)];
     for k in 1..64 {
-        nodes.push(Node { kind: 3 + k % 2, left: k - 1, right: k - 1, lo: 0, hi: 0 });
+        nodes.push(node(3 + k % 2, k - 1, k - 1, 0, 0));
     }
     let table = Table { nodes };
     assert_eq!(margin(&table, &predicates, &recording, &mut [0; 256]), Ok(3));
@@ -163,6 +163,15 @@ fn windows_after_strengthening() {
         ("[3,3]", (5, Some(1)), (1, Some(5))),
         ("[3,9]", (5, Some(7)), (1, Some(11))),
         ("[5,*]", (7, None), (3, None)),
+        // An excluded end is moved first: only an end of 0 that counts is now.
+        ("(0,1]", (3, Some(-1)), (0, Some(3))),
+        ("[0,1)", (0, Some(-2)), (0, Some(2))),
+        ("[0,4)", (0, Some(1)), (0, Some(5))),
+        ("(0,6)", (3, Some(3)), (0, Some(7))),
+        ("(0,*]", (3, None), (0, None)),
+        ("(1,3]", (4, Some(1)), (0, Some(5))),
+        ("(2,9)", (5, Some(6)), (1, Some(10))),
+        ("(1000000000,*]", (1_000_000_003, None), (999_999_999, None)),
     ] {
         for (left, letter, contracts) in
             [("", "F", true), ("p1", "U", true), ("", "G", false), ("p1", "R", false)]
@@ -171,7 +180,7 @@ fn windows_after_strengthening() {
             for negated in [false, true] {
                 let (lo, hi) = if contracts != negated { contracted } else { expanded };
                 let window = strengthened_window(&requirement, negated);
-                assert_eq!(window, Window { lo, hi }, "{requirement}, negated: {negated}");
+                assert_eq!(window, Window::closed(lo, hi), "{requirement}, negated: {negated}");
             }
         }
     }
@@ -205,7 +214,7 @@ fn refusal_of_requirement_text() {
     for text in [
         "", " ", "p0 ", "p0\r", "p0\0", "p", "p01", "p16", "p155", "P0", "t", "TT", "p0p1", "p0&",
         "|p0", "p0||p1", "G[00,1]p0", "G[5,2]p0", "G[0,4294967295]p0", "G[1000000001,*]p0",
-        "G[0,1000000001]p0", "G[0,1]", "G[0,1p0", "G(0,1]p0", "G[*,1]p0", "G[,1]p0", "G[0,]p0",
+        "G[0,1000000001]p0", "G[0,1]", "G[0,1p0", "G{0,1]p0", "G[*,1]p0", "G[,1]p0", "G[0,]p0",
         "G[-1,1]p0", "G[0, 1]p0", "G[0,01]p0", "Gp0", "p0Up1", "p0U[0,1]p1U[0,1]p2",
         "p0R[0,1]p1U[0,1]p2", "()", "(p0", "p0)", "(p0))", "!", "!!", "p0!p1", "p0U[0,1]p1|",
         "G[0,99999999999999999999999]p0",
@@ -528,7 +537,7 @@ fn the_row_reader() {
 }
 
 const fn node(kind: u64, left: u64, right: u64, lo: u64, hi: u64) -> Node {
-    Node { kind, left, right, lo, hi }
+    Node { kind, left, right, lo, hi, open_lo: 0, open_hi: 0 }
 }
 
 /// Nodes that break a table rule, wherever in a table they stand.

@@ -96,11 +96,13 @@ fn sign(tree: &Tree) -> String {
     }
 }
 
-/// "A window is `[lo,hi]`, hi perhaps `*`."
+/// "A window is `[lo,hi]`, hi perhaps `*`"; its marks are "written `(` and `)`".
 fn window_text(window: Window) -> String {
+    let opening = if window.open_lo { '(' } else { '[' };
+    let closing = if window.open_hi { ')' } else { ']' };
     match window.hi {
-        Some(hi) => format!("[{},{hi}]", window.lo),
-        None => format!("[{},*]", window.lo),
+        Some(hi) => format!("{opening}{},{hi}{closing}", window.lo),
+        None => format!("{opening}{},*{closing}", window.lo),
     }
 }
 
@@ -129,11 +131,11 @@ fn operand(text: String, bare: bool) -> String {
 }
 
 /// How many of `!`, `G`, `F` and `(` enclose one another, by the text's own letters: as many as are
-/// open at once.
+/// open at once. A window's "`(` is no enclosing".
 fn enclosings(text: &str) -> usize {
     let mut open: Vec<char> = Vec::new();
     let mut most = 0;
-    for letter in text.chars() {
+    for letter in without_windows(text).chars() {
         match letter {
             '!' | 'G' | 'F' | '(' => open.push(letter),
             'T' | 'p' => end_unary(&mut open),
@@ -141,12 +143,28 @@ fn enclosings(text: &str) -> usize {
                 open.pop();
                 end_unary(&mut open);
             }
-            // Windows, numbers, `U`, `R`, `&` and `|` open nothing.
+            // Numbers, `U`, `R`, `&` and `|` open nothing.
             _ => {}
         }
         most = most.max(open.len());
     }
     most
+}
+
+/// The text with the letters of its windows alone: behind each stands its window, which ends in the
+/// next bracket that closes.
+fn without_windows(text: &str) -> String {
+    let mut in_window = false;
+    let mut outside = |letter: &char| {
+        let inside = in_window;
+        in_window = match letter {
+            'U' | 'R' | 'G' | 'F' => true,
+            ']' | ')' => false,
+            _ => inside,
+        };
+        !inside
+    };
+    text.chars().filter(|letter| outside(letter)).collect()
 }
 
 /// A unary has ended; so have the `!`, `G` and `F` that stand before it, up to the next `(`.

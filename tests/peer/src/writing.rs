@@ -8,7 +8,7 @@ use crate::table::{Node, Table};
 use crate::writer::{text_of, write_requirement, Written};
 
 fn node(kind: u64, left: u64, right: u64, lo: u64, hi: u64) -> Node {
-    Node { kind, left, right, lo, hi }
+    Node { kind, left, right, lo, hi, ..Node::default() }
 }
 
 /// What is handed back, and the slice of so many bytes afterwards, all `~` before.

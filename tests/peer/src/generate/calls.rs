@@ -1,10 +1,11 @@
 //! Calls of the library's entry points with tables that no text gives (shared nodes, nodes that
 //! the root doesn't reach) and with numbers that no sheet can hold.
 
+use super::marks;
 use super::prng::Prng;
 use super::requirements::Taste;
 use super::scales::{self, BAD};
-use crate::limits::{LARGEST_VALUE, LAST_TIME, NO_END};
+use crate::limits::{LARGEST_END, LARGEST_VALUE, LAST_TIME, NO_END};
 use crate::predicate::{Predicate, Predicates, Range, UNSET};
 use crate::recording::Recording;
 use crate::refusal::{first_of, last_to_first};
@@ -164,11 +165,20 @@ fn operator(rng: &mut Prng, taste: &Taste, k: usize) -> Node {
         (k - 1 - rng.below(k.min(back))) as u64
     };
     let kind = kind::NOT + rng.below(7) as u64;
-    let left = child(rng);
+    let (left, right) = (child(rng), child(rng));
+    over(rng, taste, kind, left, right)
+}
+
+/// The node of that kind over these, of which one with one operand takes the first; a window is drawn.
+pub(super) fn over(rng: &mut Prng, taste: &Taste, kind: u64, left: u64, right: u64) -> Node {
     let binary = matches!(kind, kind::AND | kind::OR | kind::UNTIL | kind::RELEASE);
-    let right = if binary { child(rng) } else { 0 };
-    let (lo, hi) = if kind >= kind::UNTIL { taste.window(rng).numbers() } else { (0, 0) };
-    Node { kind, left, right, lo, hi }
+    let right = if binary { right } else { 0 };
+    let node = Node { kind, left, right, ..Node::default() };
+    if kind >= kind::UNTIL {
+        node.with(taste.window(rng))
+    } else {
+        node
+    }
 }
 
 fn put(rng: &mut Prng, call: &mut Call, fault: u64) {
@@ -237,9 +247,12 @@ pub(super) fn break_table(rng: &mut Prng, call: &mut Call) {
 
 /// A node that breaks a rule of the table alone, as its node of number k.
 pub(super) fn broken_node(rng: &mut Prng, k: u64) -> Node {
+    if rng.once_in(3) {
+        return wrongly_marked(rng);
+    }
     let far = rng.pick(&[k, k + 1, u64::MAX]);
     let odd = rng.pick(&[1, 5, u64::MAX]);
-    let node = |kind, left, right, lo, hi| Node { kind, left, right, lo, hi };
+    let node = |kind, left, right, lo, hi| Node { kind, left, right, lo, hi, ..Node::default() };
     match rng.below(12) {
         0 => node(9 + odd % 9, 0, 0, 0, 0),
         1 => node(0, odd, 0, 0, 0),
@@ -259,6 +272,24 @@ pub(super) fn broken_node(rng: &mut Prng, k: u64) -> Node {
         ),
         10 => node(5 + rng.below(4) as u64, 0, 0, rng.pick(&[1_000_000_001, NO_END]), NO_END),
         _ => node(7 + rng.below(2) as u64, 0, odd, 0, 0),
+    }
+}
+
+/// A node that, behind one of number 0, breaks a rule by its marks alone.
+fn wrongly_marked(rng: &mut Prng) -> Node {
+    let timed = Node { kind: kind::UNTIL + rng.below(4) as u64, ..Node::default() };
+    match rng.below(4) {
+        0 => rng.pick(&marks::out_of_place()),
+        1 => {
+            let mark = rng.pick(&[2, 3, 1 << 32, u64::MAX]);
+            let window = Node { hi: rng.pick(&[9, LARGEST_END, NO_END]), ..timed };
+            match rng.below(3) {
+                0 => Node { open_lo: mark, ..window },
+                1 => Node { open_hi: mark, ..window },
+                _ => Node { open_lo: mark, open_hi: mark, ..window },
+            }
+        }
+        _ => timed.with(marks::refused(rng)),
     }
 }
 

@@ -25,10 +25,21 @@ fn damage(rng: &mut Prng, text: &mut Vec<u8>) {
     if text.is_empty() {
         return;
     }
-    match rng.below(4) {
+    match rng.below(5) {
         0 => damage_lines(rng, text),
         1 => damage_digits(rng, text),
+        2 => damage_brackets(rng, text),
         _ => damage_bytes(rng, text),
+    }
+}
+
+/// A bracket exchanged for any other: mostly a window's, of which one end is then excluded or counted.
+fn damage_brackets(rng: &mut Prng, text: &mut [u8]) {
+    let brackets = b"[]()";
+    let places: Vec<usize> =
+        (0..text.len()).filter(|&place| brackets.contains(&text[place])).collect();
+    if !places.is_empty() {
+        text[rng.pick(&places)] = rng.pick(brackets);
     }
 }
 

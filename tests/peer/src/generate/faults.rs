@@ -2,7 +2,9 @@
 //! each requirement the first number, in the order of refusals, among the faults that concern it.
 
 use super::draft::{joined, requirement_line, scale_line, Draft, PredicateLine};
+use super::marks;
 use super::prng::Prng;
+use super::requirements::window_text;
 use super::scales::BAD_IN_A_SHEET;
 use super::sheets::{filled, sound};
 use crate::limits::{
@@ -97,15 +99,24 @@ pub fn bad_requirement(rng: &mut Prng) -> Vec<u8> {
     let fixed = [
         "", " ", "p0 ", " p0", "p0\r", "p0\0", "p", "p16", "p01", "p155", "q0", "T|", "&T", "T||T",
         "(T", "T)", "()", "G[5,2]p0", "G[0,1000000001]T", "F[1000000001,*]T", "F[0,4294967295]T",
-        "G[0,01]T", "G[00,1]T", "G[0 ,1]T", "GT", "G[0,1]", "G[*,1]T", "G[0,*)T", "G(0,1]T", "TUT",
-        "TU[0,1]", "TU[0,1]TU[0,1]T", "TR[0,1]TU[0,1]T", "!", "T!T", "-T", "G[-0,1]T", "G[0,-1]T",
-        "TS[0,1]T", "O[0,1]T", "G[0,99999999999999999999]T", "f[0,1]T",
+        "G[0,01]T", "G[00,1]T", "G[0 ,1]T", "GT", "G[0,1]", "G[*,1]T", "TUT", "TU[0,1]",
+        "TU[0,1]TU[0,1]T", "TR[0,1]TU[0,1]T", "!", "T!T", "-T", "G[-0,1]T", "G[0,-1]T", "TS[0,1]T",
+        "O[0,1]T", "G[0,99999999999999999999]T", "f[0,1]T", "F (0,1]T", "F(T)", "F((0,1]T)",
+        "F(0,1](T", "F(0,1]T)", "F(0,1T", "F)0,1(T", "F(*,1]T", "F(1000000001,*]T",
+        "G[0,1000000001)T", "TU(T)",
     ];
-    match rng.below(6) {
+    match rng.below(7) {
         0 => repeated("(", "T", ")").into_bytes(),
-        1 => repeated(rng.pick(&["!", "G[0,1]", "F[0,*]"]), "T", "").into_bytes(),
+        1 => {
+            let enclosing = rng.pick(&["!", "G[0,1]", "F[0,*]", "F(0,1]", "G[0,1)"]);
+            repeated(enclosing, "T", "").into_bytes()
+        }
         // 33 leaves and 32 operators are 65 nodes.
         2 => vec!["T"; 33].join(rng.pick(&["|", "&"])).into_bytes(),
+        3 => {
+            let window = window_text(marks::refused(rng));
+            format!("{}{window}T", rng.pick(&["F", "G", "TU", "TR"])).into_bytes()
+        }
         _ => rng.pick(&fixed).as_bytes().to_vec(),
     }
 }

@@ -42,6 +42,10 @@ const LEAST: &[&str] = &[
     "!(p0|p1)", "!(p0&p1)", "!(p0U[0,1]p1)", "G[0,1](p0|p1)", "F[0,1](p0&p1)", "G[0,1](p0R[0,1]p1)",
     "!G[0,1]!p0", "G[0,*]F[0,9]p0", "!p0|p1", "!p0&p1", "!(p0|p1)&p2", "p0&!(p1&p2)",
     "!(p0|p1)U[0,1]p2", "!!(p0&p1)", "G[0,1]!(p0U[2,*]F[0,1](T|p2))",
+    // Excluded ends: a window's parenthesis is no pair.
+    "F(0,1]p0", "G[0,1)p0", "p0U(0,2)p1", "p0R(5,*]p1", "G(1000000000,*]T",
+    "F[999999999,1000000000)p0", "F(0,1](p0&p1)", "(p0|p1)U[0,1)(p2|p3)", "(p0U(0,2)p1)R(3,9]p2",
+    "G[0,1)!(p0U(2,*]F(0,2)(T|p2))",
 ];
 
 /// Texts with pairs to spare, and what is left without these.
@@ -58,6 +62,8 @@ const SPARE: &[(&str, &str)] = &[
     ("G[0,1](F[0,1](p0))", "G[0,1]F[0,1]p0"),
     ("(G[0,1](p0&p1))", "G[0,1](p0&p1)"),
     ("((p0&p1)&(p2&p3))|T", "p0&p1&(p2&p3)|T"),
+    ("F(0,1](p0)", "F(0,1]p0"),
+    ("(p0)U[0,2)((p1)&p2)", "p0U[0,2)(p1&p2)"),
 ];
 
 /// The table that the reader gives for a text.
@@ -71,10 +77,11 @@ fn known_nodes(name: &str, nodes: Vec<Node>, wanted: Result<String, u64>) -> Kno
 }
 
 /// The predicate of number 0.
-const LEAF: Node = Node { kind: kind::PREDICATE, left: 0, right: 0, lo: 0, hi: 0 };
+const LEAF: Node =
+    Node { kind: kind::PREDICATE, left: 0, right: 0, lo: 0, hi: 0, open_lo: 0, open_hi: 0 };
 
 fn of(kind: u64, left: usize, right: usize) -> Node {
-    Node { kind, left: left as u64, right: right as u64, lo: 0, hi: 0 }
+    Node { kind, left: left as u64, right: right as u64, ..Node::default() }
 }
 
 /// So many nodes more, each over the one before it and perhaps the first.
@@ -106,6 +113,9 @@ fn enclosings() -> Vec<Known> {
     let right = grown(vec![LEAF], 31, |last| of(kind::AND, 0, last));
     let right_text = format!("{}p0&p0{}", "p0&(".repeat(30), ")".repeat(30));
     let siblings = [nots(vec![LEAF], 32), vec![of(kind::AND, 32, 29)]].concat();
+    let marked = Node { hi: 2, open_lo: 1, open_hi: 1, ..of(kind::ALWAYS, 0, 0) };
+    let opened = |count| grown(vec![LEAF], count, |last| Node { left: last as u64, ..marked });
+    let opened_text = format!("{}p0", "G(0,2)".repeat(32));
     vec![
         known_nodes("32 nots", nots(vec![LEAF], 32), Ok(many(32))),
         known_nodes("33 nots", nots(vec![LEAF], 33), Err(14)),
@@ -122,6 +132,8 @@ fn enclosings() -> Vec<Known> {
         ),
         known_nodes("33 enclosings, 65 nodes", nots(right, 2), Err(14)),
         known_nodes("siblings don't add", siblings, Ok(format!("{}&{}", many(32), many(29)))),
+        known_nodes("32 alwayses without their ends", opened(32), Ok(opened_text)),
+        known_nodes("33 alwayses without their ends", opened(33), Err(14)),
     ]
 }
 

@@ -60,6 +60,7 @@ pub fn limits() -> Vec<Limit> {
     limits.extend(predicate_orders());
     limits.extend(predicates_before_others());
     limits.extend(requirement_sizes());
+    limits.extend(excluded_ends());
     limits.extend(requirement_counts());
     limits.extend(requirement_lines());
     limits.extend(text_sizes());
@@ -176,6 +177,44 @@ fn requirement_sizes() -> Vec<Limit> {
         limit("60,000 nots", draft(1, 2, &"!".repeat(60_000)), refused(2)),
         limit("60,000 digits", draft(1, 2, &format!("G[0,{}]p0", "1".repeat(60_000))), refused(2)),
     ]
+}
+
+/// Windows without their ends: at 5 and 6, from 0, at the limit, and inside 32 and 33 enclosings.
+fn excluded_ends() -> Vec<Limit> {
+    let top = crate::limits::TOP;
+    let line = |figures: String| format!("rows=3 filled=0 {figures}\n");
+    let unshown = line(format!("margin=1 hold=-{top} fail=-1 verdict=unshown"));
+    let past = line(format!("margin=-{top} hold=-{top} fail={top} verdict=fails"));
+    let kept = line(format!("margin={top} hold={top} fail=-{top} verdict=holds"));
+    let nots = |count: usize| format!("{}G[0,1)(p0)", "!".repeat(count));
+    let opened = |count: usize| format!("{}p0", "G[0,1)".repeat(count));
+    let mut limits: Vec<(&str, String)> = [
+        "F(5,5]p0", "F[5,5)p0", "F(5,6)p0", "F(5,5)p0", "F[0,*)p0", "F(0,*)p0", "F[0,0)p0",
+        "F(0,1)p0", "F[1000000000,1000000000)p0", "F(1000000001,*]p0", "F[0,1000000001)p0",
+        "F (0,1]p0", "F(p0)", "F(0,1](p0", "F((0,1]p0)",
+    ]
+    .map(|text| (text, refused(2)))
+    .into();
+    limits.extend([
+        ("F(5,6]p0", past.clone()),
+        ("F[5,6)p0", past.clone()),
+        ("F(1000000000,*]p0", past),
+        ("G(1000000000,*]p0", kept),
+        ("F(0,1](p0)", unshown.clone()),
+        ("p0U(0,2)p0", unshown),
+        ("F[0,2)p0", holds(3, 0)),
+        ("p0U[0,2)p0", holds(3, 0)),
+        ("G(0,2)p0", holds_without_fail(3)),
+        ("p0R(0,1]p0", holds_without_fail(3)),
+    ]);
+    let deep = [
+        (nots(30), holds_without_fail(3)),
+        (format!("!{}", nots(31)), refused(2)),
+        (opened(32), holds_without_fail(3)),
+        (opened(33), refused(2)),
+    ];
+    let all = limits.into_iter().map(|(text, line)| (text.to_string(), line)).chain(deep);
+    all.map(|(text, line)| limit(&text, draft(1, 3, &text), line)).collect()
 }
 
 /// A sheet with these requirements over so many rows.

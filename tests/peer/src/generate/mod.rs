@@ -7,6 +7,7 @@ pub mod draft;
 pub mod faults;
 pub mod known_tables;
 pub mod limits;
+pub mod marks;
 pub mod prng;
 pub mod requirements;
 mod scale_limits;

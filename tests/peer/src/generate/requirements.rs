@@ -1,5 +1,6 @@
 //! Random requirements as trees, and their text, with parentheses to spare or without.
 
+use super::marks::{at_limits, marked};
 use super::prng::Prng;
 use crate::tree::{atom, predicate, Atom, Shared, Tree};
 use crate::window::Window;
@@ -51,9 +52,7 @@ impl Taste {
 
     pub fn window(&self, rng: &mut Prng) -> Window {
         if rng.once_in(40) {
-            let ends = [0, 1, 999_999_999, 1_000_000_000];
-            let (one, other) = (rng.pick(&ends), rng.pick(&ends));
-            return Window { lo: one.min(other), hi: Some(one.max(other)) };
+            return at_limits(rng);
         }
         // From now, from within a step, from anywhere: contraction treats them apart.
         let lo = match rng.below(4) {
@@ -62,7 +61,7 @@ impl Taste {
             _ => self.end(rng) / 2,
         };
         let hi = if rng.once_in(6) { None } else { Some((lo + self.end(rng)).min(1_000_000_000)) };
-        Window { lo, hi }
+        marked(rng, Window::closed(lo, hi))
     }
 
     fn end(&self, rng: &mut Prng) -> i64 {
@@ -180,9 +179,15 @@ fn write_bare(text: &mut String, tree: &Tree, spare: &mut dyn FnMut() -> bool) {
     }
 }
 
-fn window_text(window: Window) -> String {
-    match window.hi {
+pub(super) fn window_text(window: Window) -> String {
+    let text = match window.hi {
         Some(hi) => format!("[{},{hi}]", window.lo),
         None => format!("[{},*]", window.lo),
+    };
+    let opened = if window.open_lo { text.replace('[', "(") } else { text };
+    if window.open_hi {
+        opened.replace(']', ")")
+    } else {
+        opened
     }
 }

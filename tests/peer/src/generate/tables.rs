@@ -1,7 +1,7 @@
 //! Tables for the writer: trees of every shape, laid out in every way that the rules allow, broken
 //! tables, and tables whose text would be too large.
 
-use super::calls::{any_table, broken_node};
+use super::calls::{any_table, broken_node, over};
 use super::prng::Prng;
 use super::requirements::{enclosings, least, Taste};
 use crate::limits::{MOST_ENCLOSINGS, MOST_NODES};
@@ -284,9 +284,8 @@ fn with_unreached(rng: &mut Prng, taste: &Taste, mut table: Table) -> Table {
         let leaf = taste.tree(rng, 0);
         let mut node = Table::of_tree(&leaf).nodes[0];
         if place > 0 && rng.once_in(2) {
-            let (lo, hi) = taste.window(rng).numbers();
             let (left, right) = (rng.below(place) as u64, rng.below(place) as u64);
-            node = Node { kind: kind::UNTIL, left, right, lo, hi };
+            node = over(rng, taste, kind::UNTIL, left, right);
         }
         let behind = |child: u64| child + u64::from(child >= place as u64);
         table.nodes.iter_mut().for_each(|node| *node = moved(node, behind));

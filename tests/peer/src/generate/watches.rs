@@ -1,7 +1,7 @@
 //! Watches: what they are made of, and lists of rows that are offered to them, with refused ones
 //! between the others.
 
-use super::calls::{self, break_predicate, break_table, leaf, Call};
+use super::calls::{self, break_predicate, break_table, leaf, over, Call};
 use super::prng::Prng;
 use super::requirements::Taste;
 use super::scales::BAD;
@@ -128,13 +128,6 @@ fn late(rng: &mut Prng, among: &[u64]) -> u64 {
     among[among.len() - 1 - rng.below(among.len().min(back))]
 }
 
-fn operator(rng: &mut Prng, taste: &Taste, kind: u64, left: u64, right: u64) -> Node {
-    let binary = matches!(kind, kind::AND | kind::OR | kind::UNTIL | kind::RELEASE);
-    let right = if binary { right } else { 0 };
-    let (lo, hi) = if kind >= kind::UNTIL { taste.window(rng).numbers() } else { (0, 0) };
-    Node { kind, left, right, lo, hi }
-}
-
 /// A table in which no temporal operator stands inside another. Children are any earlier nodes that
 /// allow it, so that many are shared, inside and outside such an operator. Mostly the root reaches
 /// nearly all: nodes that nothing uses are joined above.
@@ -162,13 +155,13 @@ fn flat_operator(rng: &mut Prng, taste: &Taste, table: &Table, joins: bool) -> N
     if joins && unused.len() > 1 {
         let (left, right) = (unused[0], unused[unused.len() - 1]);
         let kind = rng.pick(&[kind::AND, kind::OR]);
-        return operator(rng, taste, kind, left, right);
+        return over(rng, taste, kind, left, right);
     }
     let kind = rng.pick(&KINDS);
     let among: Vec<u64> =
         if kind >= kind::UNTIL { all.into_iter().filter(plain).collect() } else { all };
     let (left, right) = (late(rng, &among), late(rng, &among));
-    operator(rng, taste, kind, left, right)
+    over(rng, taste, kind, left, right)
 }
 
 /// What such a table is made of.
@@ -217,7 +210,7 @@ fn nest(rng: &mut Prng, taste: &Taste, table: &mut Table) {
 fn append(rng: &mut Prng, taste: &Taste, table: &mut Table, kind: u64, child: u64) -> u64 {
     let unary = matches!(kind, kind::NOT | kind::EVENTUALLY | kind::ALWAYS);
     let (left, right) = if unary || rng.once_in(2) { (child, 0) } else { (0, child) };
-    let node = operator(rng, taste, kind, left, right);
+    let node = over(rng, taste, kind, left, right);
     table.nodes.push(node);
     table.count() as u64 - 1
 }

@@ -2,12 +2,14 @@
 //! places.
 
 use super::calls::{Call, Foretold};
+use super::marks::{marked, opened};
 use super::prng::{case_seed, Prng};
 use super::scales;
-use crate::limits::{LARGEST_END, MOST_SAMPLES, NO_END};
+use crate::limits::{LARGEST_END, MOST_SAMPLES};
 use crate::predicate::{Predicate, Range, UNSET};
 use crate::recording::Recording;
 use crate::table::{kind, Node, Table};
+use crate::window::Window;
 
 /// Where a window starts, seen from a sample.
 #[derive(Clone, Copy, PartialEq)]
@@ -104,6 +106,7 @@ pub fn windows(rng: &mut Prng) -> Shaped {
     for _ in 0..1 + rng.below(3) {
         let (kind, shape) = (kind::UNTIL + rng.below(4) as u64, rng.pick(&shapes()));
         let window = reach.window(rng, shape);
+        let window = marked(rng, window);
         append(rng, &mut call, kind, window);
     }
     shaped(rng, call, values, spacing)
@@ -112,14 +115,16 @@ pub fn windows(rng: &mut Prng) -> Shaped {
 /// Until or release with these windows costs most by the literal definition, seconds for each row
 /// of cells, so a long call has one of them: three rows. Where the verdict is refused each takes one
 /// row, and the call has an until and a release.
-const COSTLY: [(&[u64], (u64, u64), Spacing); 6] = [
-    (&[kind::UNTIL], (0, NO_END), Spacing::Second),
-    (&[kind::UNTIL], (0, LARGEST_END), Spacing::UpToStep),
-    (&[kind::UNTIL, kind::RELEASE], (1, NO_END), Spacing::Gaps),
-    (&[kind::UNTIL, kind::RELEASE], (1, LARGEST_END), Spacing::Gaps),
-    (&[kind::UNTIL], (1_800, NO_END), Spacing::Second),
-    (&[kind::RELEASE], (1_800, 3_600), Spacing::Second),
+const COSTLY: [(&[u64], Window, Spacing); 6] = [
+    (&[kind::UNTIL], Window::closed(0, None), Spacing::Second),
+    (&[kind::UNTIL], Window::closed(0, Some(LARGEST)), Spacing::UpToStep),
+    (&[kind::UNTIL, kind::RELEASE], Window::closed(1, None), Spacing::Gaps),
+    (&[kind::UNTIL, kind::RELEASE], Window::closed(1, Some(LARGEST)), Spacing::Gaps),
+    (&[kind::UNTIL], Window::closed(1_800, None), Spacing::Second),
+    (&[kind::RELEASE], Window::closed(1_800, Some(3_600)), Spacing::Second),
 ];
+
+const LARGEST: i64 = LARGEST_END as i64;
 
 /// So many calls in turn have every shape.
 pub const LONG_CASES: u64 = COSTLY.len() as u64;
@@ -135,13 +140,20 @@ pub fn long(number: u64) -> Shaped {
     let (whole, short) = (Reach::whole(&call), Reach::short(&call));
     for (place, shape) in shapes().into_iter().enumerate() {
         let turn = ((place + case) % 2) as u64;
-        let window = whole.window(rng, shape);
+        // Starts take turns at a low mark, ends at a high one.
+        let marked = |window| opened(window, shape.0 as usize % 2 == 1, shape.1 as usize % 2 == 1);
+        let window = marked(whole.window(rng, shape));
         append(rng, &mut call, kind::EVENTUALLY + turn, window);
         let early = matches!(shape.0, Start::Now | Start::Next);
         if !(early && matches!(shape.1, End::Missing | End::Past)) {
-            let window = short.window(rng, shape);
+            let window = marked(short.window(rng, shape));
             append(rng, &mut call, kind::UNTIL + turn, window);
         }
+    }
+    for kind in [kind::UNTIL, kind::EVENTUALLY] {
+        // From 0 without 0: a low end of 1, as it is read.
+        let window = Window::closed(1, Some(1 + 3 * call.step as i64));
+        append(rng, &mut call, kind, opened(window, true, false));
     }
     for &kind in costly_kinds {
         append(rng, &mut call, kind, costly_window);
@@ -229,7 +241,7 @@ fn range(rng: &mut Prng, values: &[i64]) -> Range {
 }
 
 /// Operands are mostly the predicates, sometimes any node before.
-fn append(rng: &mut Prng, call: &mut Call, kind: u64, (lo, hi): (u64, u64)) {
+fn append(rng: &mut Prng, call: &mut Call, kind: u64, window: Window) {
     let nodes = &mut call.table.nodes;
     let count = nodes.len();
     let child = |rng: &mut Prng| {
@@ -238,25 +250,26 @@ fn append(rng: &mut Prng, call: &mut Call, kind: u64, (lo, hi): (u64, u64)) {
     };
     let left = child(rng);
     let right = if matches!(kind, kind::UNTIL | kind::RELEASE) { child(rng) } else { 0 };
-    nodes.push(Node { kind, left, right, lo, hi });
+    nodes.push(Node { kind, left, right, ..Node::default() }.with(window));
 }
 
-/// Where windows start and end, in seconds.
+/// Where windows start and end as they are read, in seconds.
 struct Reach {
     /// From the first sample to the last.
-    span: u64,
-    step: u64,
+    span: i64,
+    step: i64,
     /// Late windows start from here on.
-    late: u64,
+    late: i64,
     /// A window is at most so much longer than contraction takes from it.
-    widest: u64,
+    widest: i64,
 }
 
 impl Reach {
     fn whole(call: &Call) -> Reach {
-        let times = &call.recording.times;
-        let span = times[times.len() - 1] - times[0];
-        Reach { span, step: call.step, late: call.step + 1, widest: span }
+        let recording = &call.recording;
+        let span = recording.time(recording.rows() - 1) - recording.time(0);
+        let step = call.step as i64;
+        Reach { span, step, late: step + 1, widest: span }
     }
 
     /// Few places are between a sample and a window's last one: late windows start near the end.
@@ -265,20 +278,20 @@ impl Reach {
         Reach { late: whole.span - 200, widest: 60, ..whole }
     }
 
-    fn window(&self, rng: &mut Prng, (start, end): (Start, End)) -> (u64, u64) {
-        let mut between = |least: u64, most: u64| rng.between(least as i64, most as i64) as u64;
+    fn window(&self, rng: &mut Prng, (start, end): (Start, End)) -> Window {
+        let mut between = |least, most| rng.between(least, most);
         let &Reach { span, step, late, widest } = self;
         let lo = match start {
             Start::Now => 0,
             Start::Next => between(1, step),
             Start::Late => between(late, span - 2 * step),
-            Start::Past if between(0, 3) == 0 => LARGEST_END - 2 * step - 9,
+            Start::Past if between(0, 3) == 0 => LARGEST - 2 * step - 9,
             Start::Past => span + between(1, 9),
         };
         // What contraction takes: of a window that starts now the end alone moves.
         let taken = if lo == 0 { step } else { 2 * step };
         let hi = match end {
-            End::Missing => NO_END,
+            End::Missing => return Window::closed(lo, None),
             End::Start => lo,
             End::Near => lo + between(0, taken - 1),
             End::Just => lo + taken,
@@ -290,6 +303,6 @@ impl Reach {
             }
             End::Past => (lo + taken).max(span + step) + between(1, 9),
         };
-        (lo, hi)
+        Window::closed(lo, Some(hi))
     }
 }

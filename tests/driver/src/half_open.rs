@@ -1,0 +1,156 @@
+//! Windows without their ends, one by one: every pair of marks with every short window and each kind,
+//! held to what the same window gives with its ends moved, or to its refusals. The same in every run.
+
+use crate::compare::{self, WHOLE_CALL, WHOLE_TABLE};
+use crate::families::{at, foretold_call, Bench, Failure};
+use crate::flat::flat_nodes;
+use crate::marked::moved;
+use crate::names::REQUIREMENT_BYTES;
+use crate::shapes::letter;
+use crate::watched::plainly_watched;
+use crate::written::read_again;
+use peer::generate::calls::{Call, Foretold};
+use peer::generate::marks::{every_window, out_of_place, Numbers};
+use peer::generate::watches::{Offer, Watching};
+use peer::limits::LARGEST_END;
+use peer::predicate::{Predicate, Predicates, Range, UNSET};
+use peer::recording::Recording;
+use peer::table::{kind, Node, Table};
+
+pub fn limit_windows(bench: &mut Bench) -> Result<(), Failure> {
+    for window in every_window() {
+        for kind in kind::UNTIL..=kind::ALWAYS {
+            let case = Case::of(kind, window);
+            at(format!("{:?}\n", case.call.table).as_bytes(), case.held(bench))?;
+            bench.tally.add("limits");
+        }
+    }
+    for node in out_of_place() {
+        let table = Table { nodes: vec![Node::default(), node] };
+        let shown = format!("{table:?}\n").into_bytes();
+        at(&shown, refused(bench, &Call { table, ..near() }))?;
+        bench.tally.add("limits");
+    }
+    Ok(())
+}
+
+/// "A node with marks means what the node with moved ends means": margin and verdict, every cell.
+pub fn same_when_moved(bench: &mut Bench, call: &Call) -> Result<(), String> {
+    let Some(table) = moved(&call.table) else { return Ok(()) };
+    let other = Call { table, ..call.clone() };
+    for judged in [compare::margins, compare::verdicts] {
+        let (own, theirs) =
+            (judged(bench.others, call, WHOLE_CALL)?, judged(bench.others, &other, WHOLE_CALL)?);
+        if own != theirs {
+            return Err(format!("{own:?}, with excluded ends moved {theirs:?}"));
+        }
+    }
+    bench.tally.add("margin call: excluded ends moved");
+    Ok(())
+}
+
+/// One operator over one or two predicates.
+struct Case {
+    call: Call,
+    window: Numbers,
+    /// The requirement's text, if the marks can be written.
+    text: Option<String>,
+}
+
+impl Case {
+    fn of(kind: u64, window: Numbers) -> Case {
+        let leaf = |left| Node { kind: kind::PREDICATE, left, ..Node::default() };
+        let binary = matches!(kind, kind::UNTIL | kind::RELEASE);
+        let root = window.of(Node { kind, right: u64::from(binary), ..Node::default() });
+        let nodes = if binary { vec![leaf(0), leaf(1), root] } else { vec![leaf(0), root] };
+        let sign = letter(&root).zip(window.text()).map(|(letter, text)| format!("{letter}{text}"));
+        let text =
+            sign.map(|sign| if binary { format!("p0{sign}p1") } else { format!("{sign}p0") });
+        let recorded = if window.lo < 100 { near() } else { far() };
+        Case { call: Call { table: Table { nodes }, ..recorded }, window, text }
+    }
+
+    fn held(&self, bench: &mut Bench) -> Result<(), String> {
+        let good = self.window.closed().is_some();
+        if let Some(text) = &self.text {
+            let number = compare::requirements(bench.others, text.as_bytes(), WHOLE_TABLE)?;
+            if number != if good { 0 } else { 2 } {
+                return Err(format!("{text} is refused by {number}"));
+            }
+        }
+        if good {
+            self.accepted(bench)
+        } else {
+            refused(bench, &self.call)
+        }
+    }
+
+    fn accepted(&self, bench: &mut Bench) -> Result<(), String> {
+        let (call, text) = (&self.call, self.text.as_deref().unwrap_or_default());
+        foretold(bench, call, 0)?;
+        same_when_moved(bench, call)?;
+        let root = |table: Table| table.nodes.last().map(Node::window);
+        let read = moved(&call.table).and_then(root);
+        if read.is_some() && read != self.window.closed() {
+            return Err(format!("{text} is read as {read:?}"));
+        }
+        let written = written(bench, &call.table)?;
+        if written != (0, text.to_string()) {
+            return Err(format!("written as {written:?}, not {text}"));
+        }
+        read_again(bench, text.as_bytes())
+    }
+}
+
+/// Refused by 3 in every place, also where the root does not reach the node.
+fn refused(bench: &mut Bench, call: &Call) -> Result<(), String> {
+    let mut unreached = call.clone();
+    unreached.table.nodes.push(Node::default());
+    for call in [call, &unreached] {
+        foretold(bench, call, 3)?;
+        let written = written(bench, &call.table)?;
+        if written != (3, String::new()) {
+            return Err(format!("written as {written:?}"));
+        }
+    }
+    Ok(())
+}
+
+/// Margin, verdict and watch give this number.
+fn foretold(bench: &mut Bench, call: &Call, number: u64) -> Result<(), String> {
+    let foretold = Foretold { call: call.clone(), margin: number, verdict: number };
+    foretold_call(bench, &foretold).map_err(|failure| failure.what)?;
+    let rows = call.recording.times.iter().zip(&call.recording.values);
+    let offer = |(&time, &value)| Offer { time, values: vec![value], number: 0 };
+    let offers = rows.map(offer).collect();
+    let (table, scales) = (call.table.clone(), call.recording.scales.clone());
+    let watching = Watching { table, predicates: call.predicates, scales, number, offers };
+    plainly_watched(bench, &watching, None)
+}
+
+/// The number and the text that a table is written as.
+fn written(bench: &Bench, table: &Table) -> Result<(u64, String), String> {
+    let (nodes, count) = (flat_nodes(table), table.count() as u64);
+    let (written, slice) = compare::writings(bench.others, &nodes, count, REQUIREMENT_BYTES)?;
+    Ok((written.number, slice[..written.length].to_string()))
+}
+
+/// Ten one-second rows, each with a value of its own.
+fn near() -> Call {
+    recorded((0..10).collect(), 1)
+}
+
+/// Rows about the limit of a window's ends, and one long before them.
+fn far() -> Call {
+    recorded([0].into_iter().chain(LARGEST_END - 4..=LARGEST_END + 4).collect(), LARGEST_END)
+}
+
+fn recorded(times: Vec<u64>, step: u64) -> Call {
+    let values = vec![5, 7, 2, 9, -4, 8, 1, 6, 3, 4];
+    let mut predicates: Predicates = [UNSET; 16];
+    predicates[0] = Predicate { channel: 0, range: Range::AtLeast(3) };
+    predicates[1] = Predicate { channel: 0, range: Range::AtMost(6) };
+    let recording = Recording { channels: 1, scales: vec![1], times, values };
+    let work = (0..100).collect();
+    Call { table: Table::default(), predicates, recording, step, drift: 9, work }
+}

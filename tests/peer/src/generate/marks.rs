@@ -1,0 +1,117 @@
+//! Marks of excluded ends: windows that are drawn with them, windows that are refused for them, and a
+//! list in which every pair of marks comes with every short window, at the limits too.
+
+use super::prng::Prng;
+use crate::limits::{LARGEST_END, NO_END};
+use crate::table::{kind, Node};
+use crate::window::Window;
+
+const LARGEST: i64 = LARGEST_END as i64;
+
+/// Any marks on a window without.
+pub fn marked(rng: &mut Prng, window: Window) -> Window {
+    opened(window, rng.once_in(2), rng.once_in(2))
+}
+
+/// A window without marks, with these: an end that is excluded stands one second further out, so that
+/// the window is read as before. An end at its limit stays as it is.
+pub fn opened(window: Window, low: bool, high: bool) -> Window {
+    let open_lo = low && window.lo > 0;
+    let open_hi = high && window.hi.is_some_and(|hi| hi < LARGEST);
+    let lo = window.lo - i64::from(open_lo);
+    let hi = window.hi.map(|hi| hi + i64::from(open_hi));
+    Window { lo, hi, open_lo, open_hi }
+}
+
+/// Ends at their limits. Where there is no high end, the low one may be excluded at its limit too.
+pub fn at_limits(rng: &mut Prng) -> Window {
+    let ends = [0, 1, LARGEST - 1, LARGEST];
+    let (one, other) = (rng.pick(&ends), rng.pick(&ends));
+    if rng.once_in(4) {
+        return Window { open_lo: rng.once_in(2), ..Window::closed(one, None) };
+    }
+    marked(rng, Window::closed(one.min(other), Some(one.max(other))))
+}
+
+/// A window that is refused for its marks alone: no second is left, or there is no end to exclude.
+pub fn refused(rng: &mut Prng) -> Window {
+    let lo = rng.pick(&[0, 0, 1, 5, LARGEST - 1]);
+    let (hi, (open_lo, open_hi)) = match rng.below(4) {
+        0 => (None, (rng.once_in(2), true)),
+        1 => (Some(lo + 1), (true, true)),
+        _ => (Some(lo), rng.pick(&[(true, false), (false, true), (true, true)])),
+    };
+    Window { lo, hi, open_lo, open_hi }
+}
+
+/// A window as a table's numbers, which may break its rules.
+#[derive(Clone, Copy, Debug)]
+pub struct Numbers {
+    pub lo: u64,
+    pub hi: u64,
+    pub open_lo: u64,
+    pub open_hi: u64,
+}
+
+/// What a mark may be, and what not.
+const MARKS: [u64; 4] = [0, 1, 2, u64::MAX];
+
+impl Numbers {
+    /// The same with both ends counted: from the first second that the marks leave to the last one, by
+    /// taking out the excluded ones. None where there is no second, or the rules are broken.
+    pub fn closed(&self) -> Option<Window> {
+        let Numbers { lo, hi, open_lo, open_hi } = *self;
+        if open_lo > 1 || open_hi > 1 || (hi == NO_END && open_hi == 1) {
+            return None;
+        }
+        let behind = if hi == NO_END { lo + 2 } else { hi + 1 };
+        let excluded =
+            |second: &u64| (open_lo == 1 && *second == lo) || (open_hi == 1 && *second == hi);
+        let mut left = (lo..behind).filter(|second| !excluded(second));
+        let first = left.next()? as i64;
+        let last = left.last().map_or(first, |second| second as i64);
+        Some(Window::closed(first, (hi != NO_END).then_some(last)))
+    }
+
+    /// As it is written, if its marks can be.
+    pub fn text(&self) -> Option<String> {
+        let bracket = |mark: u64, brackets: [char; 2]| brackets.get(mark as usize).copied();
+        let (open, close) =
+            (bracket(self.open_lo, ['[', '('])?, bracket(self.open_hi, [']', ')'])?);
+        let hi = if self.hi == NO_END { "*".to_string() } else { self.hi.to_string() };
+        Some(format!("{open}{},{hi}{close}", self.lo))
+    }
+
+    /// The node with these.
+    pub fn of(&self, node: Node) -> Node {
+        let Numbers { lo, hi, open_lo, open_hi } = *self;
+        Node { lo, hi, open_lo, open_hi, ..node }
+    }
+}
+
+/// Every pair of marks with windows of 0, 1 and 2 seconds and without end, from now, a little later,
+/// and at the limit.
+pub fn every_window() -> Vec<Numbers> {
+    let mut windows = Vec::new();
+    for lo in [0, 1, 5, LARGEST_END - 2, LARGEST_END - 1, LARGEST_END] {
+        let ends = (lo..=LARGEST_END.min(lo + 2)).chain([NO_END]);
+        windows.extend(ends.flat_map(|hi| {
+            every_marks().map(move |(open_lo, open_hi)| Numbers { lo, hi, open_lo, open_hi })
+        }));
+    }
+    windows
+}
+
+fn every_marks() -> impl Iterator<Item = (u64, u64)> {
+    MARKS.into_iter().flat_map(|low| MARKS.map(|high| (low, high)))
+}
+
+/// Marks on the kinds without a window: nodes that are good but for them, behind a node of number 0.
+pub fn out_of_place() -> Vec<Node> {
+    let kinds = kind::TRUE..=kind::OR;
+    let marked = |kind| {
+        let marks = every_marks().filter(|marks| *marks != (0, 0));
+        marks.map(move |(open_lo, open_hi)| Node { kind, open_lo, open_hi, ..Node::default() })
+    };
+    kinds.flat_map(marked).collect()
+}
