@@ -80,10 +80,10 @@ impl Reader<'_> {
     fn bind(&mut self, enclosings: usize) -> Read<Shared> {
         let left = self.unary(enclosings)?;
         if self.take(b'U') {
-            let (window, right) = (self.window()?, self.unary(enclosings)?);
+            let (window, right) = self.timed(enclosings)?;
             self.node(Tree::Until(left, window, right))
         } else if self.take(b'R') {
-            let (window, right) = (self.window()?, self.unary(enclosings)?);
+            let (window, right) = self.timed(enclosings)?;
             self.node(Tree::Release(left, window, right))
         } else {
             Ok(left)
@@ -112,10 +112,10 @@ impl Reader<'_> {
             let left = self.unary(enclosings)?;
             self.node(Tree::Not(left))
         } else if self.take(b'G') {
-            let (window, left) = (self.window()?, self.unary(enclosings)?);
+            let (window, left) = self.timed(enclosings)?;
             self.node(Tree::Always(window, left))
         } else if self.take(b'F') {
-            let (window, left) = (self.window()?, self.unary(enclosings)?);
+            let (window, left) = self.timed(enclosings)?;
             self.node(Tree::Eventually(window, left))
         } else {
             self.due(b'(')?;
@@ -125,8 +125,13 @@ impl Reader<'_> {
         }
     }
 
-    /// `[lo,hi]`, hi perhaps `*`; `(` for `[` and `)` for `]` where that end is excluded. "This `(` is
-    /// no enclosing."
+    /// A window and a unary. A window's "`(` is no enclosing".
+    fn timed(&mut self, enclosings: usize) -> Read<(Window, Shared)> {
+        let window = self.window()?;
+        Ok((window, self.unary(enclosings)?))
+    }
+
+    /// `[lo,hi]`, hi perhaps `*`; `(` for `[` and `)` for `]` where that end is excluded.
     fn window(&mut self) -> Read<Window> {
         let open_lo = self.bracket(b'[', b'(')?;
         let lo = self.number(LARGEST_END)? as i64;
