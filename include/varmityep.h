@@ -40,19 +40,21 @@ extern "C" {
 /* Lengths that lose nothing, in elements. */
 #define VARMITYEP_NODE_NUMBERS 7 /* of a node: kind, left, right, lo, hi, open_lo, open_hi */
 #define VARMITYEP_NODES (VARMITYEP_MOST_NODES * VARMITYEP_NODE_NUMBERS)
-#define VARMITYEP_RANGES (2 * VARMITYEP_PREDICATES) /* range and channel of each predicate */
-#define VARMITYEP_ENDS (2 * VARMITYEP_PREDICATES)   /* lo and hi of each predicate */
-#define VARMITYEP_NUMBERS 5 /* numbers of a sheet, see VARMITYEP_SHEET_.. */
+#define VARMITYEP_RANGES (2 * VARMITYEP_PREDICATES)        /* range and channel of each predicate */
+#define VARMITYEP_ENDS (2 * VARMITYEP_PREDICATES)          /* lo and hi of each predicate */
+#define VARMITYEP_NUMBERS 5                                /* of a sheet, see VARMITYEP_SHEET_.. */
 #define VARMITYEP_PLACES (2 * VARMITYEP_MOST_REQUIREMENTS) /* from and to of each requirement */
-#define VARMITYEP_SCALES VARMITYEP_MOST_CHANNELS           /* scales of a sheet, or of a watch */
-#define VARMITYEP_COUNTS 2   /* counts of rows: measured, filled */
-#define VARMITYEP_RESULT 3   /* result of a verdict: verdict, hold, fail */
-#define VARMITYEP_LINES 2688 /* lines, in bytes: no answer is longer */
-/* text of a written requirement, in bytes: no node needs more, so none is longer */
+#define VARMITYEP_SCALES VARMITYEP_MOST_CHANNELS           /* of a sheet: one for each channel */
+#define VARMITYEP_COUNTS 2                                 /* counts of rows: measured, filled */
+#define VARMITYEP_RESULT 3                                 /* of a verdict: verdict, hold, fail */
+#define VARMITYEP_LINES 2688                               /* lines, in bytes: no answer is longer */
+/* text of a written requirement, in bytes: no node needs more of it, so none is longer */
 #define VARMITYEP_NODE_BYTES 26
 #define VARMITYEP_REQUIREMENT_BYTES (VARMITYEP_MOST_NODES * VARMITYEP_NODE_BYTES)
-/* numbers and cells of a watch: shorter ones hold none, and are refused by 8. Numbers: five of its
-   own, then its scales, ranges and nodes. Cells: its predicates' ends, then three for each node */
+/*
+ * numbers and cells of a watch: shorter ones hold none, and are refused by 8. Numbers: five of its own,
+ * then its scales, ranges and nodes. Cells: its predicates' ends, then three for each node.
+ */
 #define VARMITYEP_WATCH_NUMBERS (5 + VARMITYEP_SCALES + VARMITYEP_RANGES + VARMITYEP_NODES)
 #define VARMITYEP_WATCH_CELLS (VARMITYEP_ENDS + 3 * VARMITYEP_MOST_NODES)
 

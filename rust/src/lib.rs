@@ -4,8 +4,8 @@
 //! can be taken one by one: [`read_sheet`], [`read_requirement`], [`read_rows`], [`margin()`] and
 //! [`verdict`]; `examples/judge.rs` puts them together. [`Table::write`] gives a requirement's text
 //! for a sheet that is being made, as `examples/write.rs` does. A [`Watch`] gives the margin while
-//! the rows come, as `examples/watch.rs` does: its size is fixed, 493 + 224 words of 8 bytes, since it
-//! stores no row. What an input is refused for is a [`Refusal`].
+//! the rows come, as `examples/watch.rs` does: its size is fixed, [`Watch::NUMBERS`] + [`Watch::CELLS`]
+//! words of 8 bytes, since it stores no row. What an input is refused for is a [`Refusal`].
 //!
 //! Here numbers are only brought into and out of the flat form that the library takes. Whatever is
 //! decided is decided in the library, which is proved.

@@ -1,5 +1,6 @@
 //! What claims on until and eventually are about: where the window starts, which ends it excludes, and
-//! where the samples lie that show the claim. Counted, so that a run fails in which histories are not asked about each.
+//! where the samples lie that show the claim. Counted, so that a run fails in which histories are not
+//! asked about each.
 
 use crate::marked::{form, forms};
 use peer::answer::Answer;

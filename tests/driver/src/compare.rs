@@ -212,19 +212,15 @@ pub type Found = (u64, [i64; RESULT + BEHIND], Vec<i64>);
 
 /// What the margin comes to.
 pub fn margins(others: &Others, call: &Call, lengths: [usize; 4]) -> Result<Found, String> {
-    let flat = Flat::of(&call.table, &call.predicates, call.recording.rows());
-    let asked = asked(&flat, call, lengths);
-    found(others, "margin", call, lengths, |library, work, result| {
-        library.margin(&asked, work, result)
+    found(others, "margin", call, lengths, |library, asked, work, result| {
+        library.margin(asked, work, result)
     })
 }
 
 /// What the verdict comes to.
 pub fn verdicts(others: &Others, call: &Call, lengths: [usize; 4]) -> Result<Found, String> {
-    let flat = Flat::of(&call.table, &call.predicates, call.recording.rows());
-    let asked = asked(&flat, call, lengths);
-    found(others, "verdict", call, lengths, |library, work, result| {
-        library.verdict(&asked, call.step, call.drift, work, result)
+    found(others, "verdict", call, lengths, |library, asked, work, result| {
+        library.verdict(asked, call.step, call.drift, work, result)
     })
 }
 
@@ -233,11 +229,13 @@ fn found(
     what: &str,
     call: &Call,
     lengths: [usize; 4],
-    ask: impl Fn(&dyn Library, &mut [i64], &mut [i64]) -> u64,
+    ask: impl Fn(&dyn Library, &names::Call, &mut [i64], &mut [i64]) -> u64,
 ) -> Result<Found, String> {
+    let flat = Flat::of(&call.table, &call.predicates, call.recording.rows());
+    let asked = asked(&flat, call, lengths);
     same(others, what, |library| {
         let (mut work, mut result) = (call.work.clone(), [SIGNED_NOISE; RESULT + BEHIND]);
-        (ask(library, &mut work, &mut result[..lengths[3]]), result, work)
+        (ask(library, &asked, &mut work, &mut result[..lengths[3]]), result, work)
     })
 }
 

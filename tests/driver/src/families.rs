@@ -111,26 +111,22 @@ fn answered(bench: &mut Bench, text: &[u8]) -> Result<Result<Vec<Entry>, Refusal
     Ok(judged)
 }
 
-/// The marks of the requirements that are accepted, and those that alone refuse one.
+/// The marks of each requirement that is accepted, and why others are refused for theirs alone.
 fn tally_marks(tally: &mut Tally, text: &[u8], entries: &[Entry]) {
     let Ok(sheet) = read_sheet(text) else { return };
     for (entry, places) in entries.iter().zip(sheet.requirements) {
-        match entry {
-            Ok(answer) => {
-                for form in marked::reached(&answer.table) {
-                    tally.add(format!("answer: {form}"));
-                }
-            }
+        let about: Vec<String> = match entry {
+            Ok(answer) => marked::reached(&answer.table),
             Err(Refusal::Requirement) => {
-                let refusal = marked::refused_text(&text[places]);
-                refusal.iter().for_each(|refusal| tally.add(format!("answer: {refusal}")));
+                marked::refused_text(&text[places]).map(str::to_string).into_iter().collect()
             }
-            Err(_) => {}
-        }
+            Err(_) => Vec::new(),
+        };
+        about.iter().for_each(|about| tally.add(format!("answer: {about}")));
     }
 }
 
-/// The marks of a table that alone refuse it.
+/// Why a table is refused for its marks alone.
 pub fn tally_refused(tally: &mut Tally, table: &Table) {
     if let Some(refusal) = marked::refused_table(table) {
         tally.add(format!("table: {refusal}"));

@@ -10,12 +10,14 @@ use crate::shapes::letter;
 use crate::watched::plainly_watched;
 use crate::written::read_again;
 use peer::generate::calls::{Call, Foretold};
-use peer::generate::marks::{every_window, out_of_place, Numbers};
+use peer::generate::marks::{every_window, out_of_place, seconds_left};
+use peer::generate::requirements::window_text;
 use peer::generate::watches::{Offer, Watching};
 use peer::limits::LARGEST_END;
 use peer::predicate::{Predicate, Predicates, Range, UNSET};
 use peer::recording::Recording;
 use peer::table::{kind, Node, Table};
+use peer::window::Window;
 
 pub fn limit_windows(bench: &mut Bench) -> Result<(), Failure> {
     for window in every_window() {
@@ -34,7 +36,8 @@ pub fn limit_windows(bench: &mut Bench) -> Result<(), Failure> {
     Ok(())
 }
 
-/// "A node with marks means what the node with moved ends means": margin and verdict, every cell.
+/// "An excluded low end reads as lo + 1, an excluded high end as hi − 1": margin and verdict, every cell,
+/// are those of the table with its ends so moved.
 pub fn same_when_moved(bench: &mut Bench, call: &Call) -> Result<(), String> {
     let Some(table) = moved(&call.table) else { return Ok(()) };
     let other = Call { table, ..call.clone() };
@@ -52,26 +55,28 @@ pub fn same_when_moved(bench: &mut Bench, call: &Call) -> Result<(), String> {
 /// One operator over one or two predicates.
 struct Case {
     call: Call,
-    window: Numbers,
     /// The requirement's text, if the marks can be written.
     text: Option<String>,
+    /// The window as it is read, if it is not refused.
+    read: Option<Window>,
 }
 
 impl Case {
-    fn of(kind: u64, window: Numbers) -> Case {
+    fn of(kind: u64, window: Node) -> Case {
         let leaf = |left| Node { kind: kind::PREDICATE, left, ..Node::default() };
         let binary = matches!(kind, kind::UNTIL | kind::RELEASE);
-        let root = window.of(Node { kind, right: u64::from(binary), ..Node::default() });
+        let root = Node { kind, right: u64::from(binary), ..window };
         let nodes = if binary { vec![leaf(0), leaf(1), root] } else { vec![leaf(0), root] };
-        let sign = letter(&root).zip(window.text()).map(|(letter, text)| format!("{letter}{text}"));
+        let letter = letter(&root).filter(|_| root.open_lo.max(root.open_hi) <= 1);
+        let sign = letter.map(|letter| format!("{letter}{}", window_text(root.window())));
         let text =
             sign.map(|sign| if binary { format!("p0{sign}p1") } else { format!("{sign}p0") });
-        let recorded = if window.lo < 100 { near() } else { far() };
-        Case { call: Call { table: Table { nodes }, ..recorded }, window, text }
+        let recorded = if root.lo < LARGEST_END / 2 { near() } else { far() };
+        Case { call: Call { table: Table { nodes }, ..recorded }, text, read: seconds_left(&root) }
     }
 
     fn held(&self, bench: &mut Bench) -> Result<(), String> {
-        let good = self.window.closed().is_some();
+        let good = self.read.is_some();
         if let Some(text) = &self.text {
             let number = compare::requirements(bench.others, text.as_bytes(), WHOLE_TABLE)?;
             if number != if good { 0 } else { 2 } {
@@ -91,8 +96,8 @@ impl Case {
         same_when_moved(bench, call)?;
         let root = |table: Table| table.nodes.last().map(Node::window);
         let read = moved(&call.table).and_then(root);
-        if read.is_some() && read != self.window.closed() {
-            return Err(format!("{text} is read as {read:?}"));
+        if read.is_some() && read != self.read {
+            return Err(format!("{text} is read as {read:?}, not {:?}", self.read));
         }
         let written = written(bench, &call.table)?;
         if written != (0, text.to_string()) {

@@ -110,8 +110,8 @@ pub fn windows(text: &[u8]) -> Vec<Range<usize>> {
     windows
 }
 
-/// The table with every excluded end moved, and no mark, which means the same. None where nothing is
-/// excluded, or where a low end would stand past its limit.
+/// The table, of which no rule is broken, with every excluded end moved and no mark: it means the same.
+/// None where nothing is excluded, or where a low end would stand past its limit.
 pub fn moved(table: &Table) -> Option<Table> {
     let moved = |node: &Node| match letter(node).filter(|_| node.open_lo + node.open_hi > 0) {
         None => *node,

@@ -151,20 +151,17 @@ fn enclosings(text: &str) -> usize {
     most
 }
 
-/// The text with the letters of its windows alone: behind each stands its window, which ends in the
-/// next bracket that closes.
+/// The text without its windows: behind each of their letters, all up to the next bracket that closes.
 fn without_windows(text: &str) -> String {
-    let mut in_window = false;
-    let mut outside = |letter: &char| {
-        let inside = in_window;
-        in_window = match letter {
-            'U' | 'R' | 'G' | 'F' => true,
-            ']' | ')' => false,
-            _ => inside,
-        };
-        !inside
-    };
-    text.chars().filter(|letter| outside(letter)).collect()
+    let mut letters = text.chars();
+    let mut outside = String::new();
+    while let Some(letter) = letters.next() {
+        outside.push(letter);
+        if matches!(letter, 'U' | 'R' | 'G' | 'F') {
+            letters.find(|letter| matches!(letter, ']' | ')'));
+        }
+    }
+    outside
 }
 
 /// A unary has ended; so have the `!`, `G` and `F` that stand before it, up to the next `(`.

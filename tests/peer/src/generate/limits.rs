@@ -2,6 +2,7 @@
 
 use super::draft::{Draft, PredicateLine};
 use super::scale_limits;
+use crate::limits::TOP;
 use crate::rows::Row;
 
 pub struct Limit {
@@ -181,11 +182,10 @@ fn requirement_sizes() -> Vec<Limit> {
 
 /// Windows without their ends: at 5 and 6, from 0, at the limit, and inside 32 and 33 enclosings.
 fn excluded_ends() -> Vec<Limit> {
-    let top = crate::limits::TOP;
     let line = |figures: String| format!("rows=3 filled=0 {figures}\n");
-    let unshown = line(format!("margin=1 hold=-{top} fail=-1 verdict=unshown"));
-    let past = line(format!("margin=-{top} hold=-{top} fail={top} verdict=fails"));
-    let kept = line(format!("margin={top} hold={top} fail=-{top} verdict=holds"));
+    let unshown = line(format!("margin=1 hold=-{TOP} fail=-1 verdict=unshown"));
+    let past = line(format!("margin=-{TOP} hold=-{TOP} fail={TOP} verdict=fails"));
+    let kept = line(format!("margin={TOP} hold={TOP} fail=-{TOP} verdict=holds"));
     let nots = |count: usize| format!("{}G[0,1)(p0)", "!".repeat(count));
     let opened = |count: usize| format!("{}p0", "G[0,1)".repeat(count));
     let mut limits: Vec<(&str, String)> = [

@@ -6,7 +6,7 @@ use crate::limits::{LARGEST_END, NO_END};
 use crate::table::{kind, Node};
 use crate::window::Window;
 
-const LARGEST: i64 = LARGEST_END as i64;
+pub(super) const LARGEST: i64 = LARGEST_END as i64;
 
 /// Any marks on a window without.
 pub fn marked(rng: &mut Prng, window: Window) -> Window {
@@ -44,66 +44,45 @@ pub fn refused(rng: &mut Prng) -> Window {
     Window { lo, hi, open_lo, open_hi }
 }
 
-/// A window as a table's numbers, which may break its rules.
-#[derive(Clone, Copy, Debug)]
-pub struct Numbers {
-    pub lo: u64,
-    pub hi: u64,
-    pub open_lo: u64,
-    pub open_hi: u64,
+/// The seconds that a node's window leaves, as a window with both ends counted: from the first one to the
+/// last one, by taking out those that are excluded. None where there is none, or a rule is broken.
+pub fn seconds_left(node: &Node) -> Option<Window> {
+    let &Node { lo, hi, open_lo, open_hi, .. } = node;
+    let endless = hi == NO_END;
+    let past = lo > LARGEST_END || (hi > LARGEST_END && !endless);
+    if past || open_lo > 1 || open_hi > 1 || (endless && open_hi == 1) {
+        return None;
+    }
+    let behind = if endless { lo + 2 } else { hi + 1 };
+    let excluded = |second| (open_lo == 1 && second == lo) || (open_hi == 1 && second == hi);
+    let mut left = (lo..behind).filter(|&second| !excluded(second));
+    let first = left.next()? as i64;
+    let last = left.last().map_or(first, |second| second as i64);
+    Some(Window::closed(first, (!endless).then_some(last)))
 }
 
 /// What a mark may be, and what not.
 const MARKS: [u64; 4] = [0, 1, 2, u64::MAX];
 
-impl Numbers {
-    /// The same with both ends counted: from the first second that the marks leave to the last one, by
-    /// taking out the excluded ones. None where there is no second, or the rules are broken.
-    pub fn closed(&self) -> Option<Window> {
-        let Numbers { lo, hi, open_lo, open_hi } = *self;
-        if open_lo > 1 || open_hi > 1 || (hi == NO_END && open_hi == 1) {
-            return None;
-        }
-        let behind = if hi == NO_END { lo + 2 } else { hi + 1 };
-        let excluded =
-            |second: &u64| (open_lo == 1 && *second == lo) || (open_hi == 1 && *second == hi);
-        let mut left = (lo..behind).filter(|second| !excluded(second));
-        let first = left.next()? as i64;
-        let last = left.last().map_or(first, |second| second as i64);
-        Some(Window::closed(first, (hi != NO_END).then_some(last)))
-    }
-
-    /// As it is written, if its marks can be.
-    pub fn text(&self) -> Option<String> {
-        let bracket = |mark: u64, brackets: [char; 2]| brackets.get(mark as usize).copied();
-        let (open, close) =
-            (bracket(self.open_lo, ['[', '('])?, bracket(self.open_hi, [']', ')'])?);
-        let hi = if self.hi == NO_END { "*".to_string() } else { self.hi.to_string() };
-        Some(format!("{open}{},{hi}{close}", self.lo))
-    }
-
-    /// The node with these.
-    pub fn of(&self, node: Node) -> Node {
-        let Numbers { lo, hi, open_lo, open_hi } = *self;
-        Node { lo, hi, open_lo, open_hi, ..node }
-    }
+fn every_marks() -> impl Iterator<Item = (u64, u64)> {
+    MARKS.into_iter().flat_map(|low| MARKS.map(|high| (low, high)))
 }
 
 /// Every pair of marks with windows of 0, 1 and 2 seconds and without end, from now, a little later,
-/// and at the limit.
-pub fn every_window() -> Vec<Numbers> {
+/// and at the limits and past them: nodes that have nothing else.
+pub fn every_window() -> Vec<Node> {
     let mut windows = Vec::new();
-    for lo in [0, 1, 5, LARGEST_END - 2, LARGEST_END - 1, LARGEST_END] {
-        let ends = (lo..=LARGEST_END.min(lo + 2)).chain([NO_END]);
-        windows.extend(ends.flat_map(|hi| {
-            every_marks().map(move |(open_lo, open_hi)| Numbers { lo, hi, open_lo, open_hi })
-        }));
+    for lo in [0, 1, 5, LARGEST_END - 2, LARGEST_END - 1, LARGEST_END, LARGEST_END + 1] {
+        for hi in [lo, lo + 1, lo + 2, LARGEST_END + 1, NO_END, NO_END + 1] {
+            let node = Node { lo, hi, ..Node::default() };
+            windows.extend(every_marks().map(|(open_lo, open_hi)| Node {
+                open_lo,
+                open_hi,
+                ..node
+            }));
+        }
     }
     windows
-}
-
-fn every_marks() -> impl Iterator<Item = (u64, u64)> {
-    MARKS.into_iter().flat_map(|low| MARKS.map(|high| (low, high)))
 }
 
 /// Marks on the kinds without a window: nodes that are good but for them, behind a node of number 0.

@@ -179,7 +179,7 @@ fn write_bare(text: &mut String, tree: &Tree, spare: &mut dyn FnMut() -> bool) {
     }
 }
 
-pub(super) fn window_text(window: Window) -> String {
+pub fn window_text(window: Window) -> String {
     let text = match window.hi {
         Some(hi) => format!("[{},{hi}]", window.lo),
         None => format!("[{},*]", window.lo),

@@ -2,10 +2,10 @@
 //! places.
 
 use super::calls::{Call, Foretold};
-use super::marks::{marked, opened};
+use super::marks::{marked, opened, LARGEST};
 use super::prng::{case_seed, Prng};
 use super::scales;
-use crate::limits::{LARGEST_END, MOST_SAMPLES};
+use crate::limits::MOST_SAMPLES;
 use crate::predicate::{Predicate, Range, UNSET};
 use crate::recording::Recording;
 use crate::table::{kind, Node, Table};
@@ -123,8 +123,6 @@ const COSTLY: [(&[u64], Window, Spacing); 6] = [
     (&[kind::UNTIL], Window::closed(1_800, None), Spacing::Second),
     (&[kind::RELEASE], Window::closed(1_800, Some(3_600)), Spacing::Second),
 ];
-
-const LARGEST: i64 = LARGEST_END as i64;
 
 /// So many calls in turn have every shape.
 pub const LONG_CASES: u64 = COSTLY.len() as u64;
