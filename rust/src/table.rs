@@ -86,29 +86,31 @@ impl Table {
 
 pub(crate) type Flat = [u64; names::NODES];
 
+/// A node's numbers in their order.
+type Numbers = [u64; names::NODE_NUMBERS];
+
+fn numbers(node: &Node) -> Numbers {
+    let &Node { kind, left, right, lo, hi, open_lo, open_hi } = node;
+    [kind, left, right, lo, hi, open_lo, open_hi]
+}
+
+fn node([kind, left, right, lo, hi, open_lo, open_hi]: Numbers) -> Node {
+    Node { kind, left, right, lo, hi, open_lo, open_hi }
+}
+
 /// The nodes' numbers one behind the other. A node beyond the 64th has no place; the count alone
 /// refuses such a table.
 pub(crate) fn to_flat(table: &Table) -> Flat {
     let mut flat = [0; names::NODES];
-    for (place, node) in flat.chunks_exact_mut(names::NODE_NUMBERS).zip(&table.nodes) {
-        let &Node { kind, left, right, lo, hi, open_lo, open_hi } = node;
-        place.copy_from_slice(&[kind, left, right, lo, hi, open_lo, open_hi]);
+    for (place, node) in flat.as_chunks_mut().0.iter_mut().zip(&table.nodes) {
+        *place = numbers(node);
     }
     flat
 }
 
 fn of_flat(flat: &Flat, count: u64) -> Table {
-    let node = |numbers: &[u64]| Node {
-        kind: numbers[0],
-        left: numbers[1],
-        right: numbers[2],
-        lo: numbers[3],
-        hi: numbers[4],
-        open_lo: numbers[5],
-        open_hi: numbers[6],
-    };
-    let own = flat.chunks_exact(names::NODE_NUMBERS).take(count as usize);
-    Table { nodes: own.map(node).collect() }
+    let own = flat.as_chunks().0.iter().take(count as usize);
+    Table { nodes: own.copied().map(node).collect() }
 }
 
 /// Reads requirement text, such as `F[0,7200]G[0,*]p0`. Refusal 2.

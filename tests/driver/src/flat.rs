@@ -1,7 +1,7 @@
 //! The peer's types as flat numbers, and the peer in the library's place.
 
 use crate::kept;
-use crate::library::{Library, ENDS, NODES, NODE_NUMBERS, NUMBERS, PLACES, RANGES, SCALES};
+use crate::library::{Library, ENDS, NODES, NUMBERS, PLACES, RANGES, SCALES};
 use crate::names::{self, Call, Making, Written};
 use peer::limits::MOST_NODES;
 use peer::predicate::{Predicate, Predicates, Range, UNSET};
@@ -16,9 +16,9 @@ use peer::watch::Watch;
 /// count are 0.
 pub fn flat_nodes(table: &Table) -> [u64; NODES] {
     let mut nodes = [0; NODES];
-    for (place, node) in nodes.chunks_mut(NODE_NUMBERS).zip(&table.nodes) {
-        let &Node { kind, left, right, lo, hi, open_lo, open_hi } = node;
-        place.copy_from_slice(&[kind, left, right, lo, hi, open_lo, open_hi]);
+    for (place, own) in nodes.as_chunks_mut().0.iter_mut().zip(&table.nodes) {
+        let Node { kind, left, right, lo, hi, open_lo, open_hi } = *own;
+        *place = [kind, left, right, lo, hi, open_lo, open_hi];
     }
     nodes
 }
@@ -76,16 +76,11 @@ fn padded<T: Copy + Default, const N: usize>(lent: &[T]) -> [T; N] {
 
 /// The table of so many nodes, from their numbers.
 pub fn table(nodes: &[u64], count: u64) -> Table {
-    let node = |numbers: &[u64]| Node {
-        kind: numbers[0],
-        left: numbers[1],
-        right: numbers[2],
-        lo: numbers[3],
-        hi: numbers[4],
-        open_lo: numbers[5],
-        open_hi: numbers[6],
-    };
-    let mut nodes: Vec<Node> = padded::<_, NODES>(nodes).chunks(NODE_NUMBERS).map(node).collect();
+    let padded: [u64; NODES] = padded(nodes);
+    let mut nodes = Vec::new();
+    for &[kind, left, right, lo, hi, open_lo, open_hi] in padded.as_chunks().0 {
+        nodes.push(Node { kind, left, right, lo, hi, open_lo, open_hi });
+    }
     // A count beyond 64 is refused whatever it is; one node too many stands for it.
     nodes.resize(count.min(MOST_NODES as u64 + 1) as usize, Node::default());
     Table { nodes }

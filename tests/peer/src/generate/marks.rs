@@ -68,12 +68,12 @@ fn every_marks() -> impl Iterator<Item = (u64, u64)> {
     MARKS.into_iter().flat_map(|low| MARKS.map(|high| (low, high)))
 }
 
-/// Every pair of marks with windows of 0, 1 and 2 seconds and without end, from now, a little later,
+/// Every pair of marks with windows of 0, 1, 2 and 5 seconds and without end, from now, a little later,
 /// and at the limits and past them: nodes that have nothing else.
 pub fn every_window() -> Vec<Node> {
     let mut windows = Vec::new();
     for lo in [0, 1, 5, LARGEST_END - 2, LARGEST_END - 1, LARGEST_END, LARGEST_END + 1] {
-        for hi in [lo, lo + 1, lo + 2, LARGEST_END + 1, NO_END, NO_END + 1] {
+        for hi in [lo, lo + 1, lo + 2, lo + 5, LARGEST_END + 1, NO_END, NO_END + 1] {
             let node = Node { lo, hi, ..Node::default() };
             windows.extend(every_marks().map(|(open_lo, open_hi)| Node {
                 open_lo,
