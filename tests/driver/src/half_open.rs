@@ -20,12 +20,10 @@ use peer::table::{kind, Node, Table};
 use peer::window::Window;
 
 pub fn limit_windows(bench: &mut Bench) -> Result<(), Failure> {
-    for window in every_window() {
-        for kind in kind::UNTIL..=kind::ALWAYS {
-            let case = Case::of(kind, window);
-            at(format!("{:?}\n", case.call.table).as_bytes(), case.held(bench))?;
-            bench.tally.add("limits");
-        }
+    let cases = |window| (kind::UNTIL..=kind::ALWAYS).map(move |kind| Case::of(kind, window));
+    for case in every_window().into_iter().flat_map(cases) {
+        at(format!("{:?}\n", case.call.table).as_bytes(), case.held(bench))?;
+        bench.tally.add("limits");
     }
     for node in out_of_place() {
         let table = Table { nodes: vec![Node::default(), node] };

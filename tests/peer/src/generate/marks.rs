@@ -44,8 +44,8 @@ pub fn refused(rng: &mut Prng) -> Window {
     Window { lo, hi, open_lo, open_hi }
 }
 
-/// The seconds that a node's window leaves, as a window with both ends counted: from the first one to the
-/// last one, by taking out those that are excluded. None where there is none, or a rule is broken.
+/// The seconds that a node's window leaves, as a window with both ends counted: the first and the last
+/// one, once those that are excluded are taken out. None where there is none, or a rule is broken.
 pub fn seconds_left(node: &Node) -> Option<Window> {
     let &Node { lo, hi, open_lo, open_hi, .. } = node;
     let endless = hi == NO_END;
@@ -64,33 +64,23 @@ pub fn seconds_left(node: &Node) -> Option<Window> {
 /// What a mark may be, and what not.
 const MARKS: [u64; 4] = [0, 1, 2, u64::MAX];
 
-fn every_marks() -> impl Iterator<Item = (u64, u64)> {
-    MARKS.into_iter().flat_map(|low| MARKS.map(|high| (low, high)))
+/// The node with every pair of marks.
+fn every_marks(node: Node) -> impl Iterator<Item = Node> {
+    let both = move |open_lo| MARKS.map(|open_hi| Node { open_lo, open_hi, ..node });
+    MARKS.into_iter().flat_map(both)
 }
 
 /// Every pair of marks with windows of 0, 1, 2 and 5 seconds and without end, from now, a little later,
 /// and at the limits and past them: nodes that have nothing else.
 pub fn every_window() -> Vec<Node> {
-    let mut windows = Vec::new();
-    for lo in [0, 1, 5, LARGEST_END - 2, LARGEST_END - 1, LARGEST_END, LARGEST_END + 1] {
-        for hi in [lo, lo + 1, lo + 2, lo + 5, LARGEST_END + 1, NO_END, NO_END + 1] {
-            let node = Node { lo, hi, ..Node::default() };
-            windows.extend(every_marks().map(|(open_lo, open_hi)| Node {
-                open_lo,
-                open_hi,
-                ..node
-            }));
-        }
-    }
-    windows
+    let starts = [0, 1, 5, LARGEST_END - 2, LARGEST_END - 1, LARGEST_END, LARGEST_END + 1];
+    let ends = |lo| [lo, lo + 1, lo + 2, lo + 5, LARGEST_END + 1, NO_END, NO_END + 1];
+    let windows = |lo| ends(lo).map(|hi| Node { lo, hi, ..Node::default() });
+    starts.into_iter().flat_map(windows).flat_map(every_marks).collect()
 }
 
 /// Marks on the kinds without a window: nodes that are good but for them, behind a node of number 0.
 pub fn out_of_place() -> Vec<Node> {
-    let kinds = kind::TRUE..=kind::OR;
-    let marked = |kind| {
-        let marks = every_marks().filter(|marks| *marks != (0, 0));
-        marks.map(move |(open_lo, open_hi)| Node { kind, open_lo, open_hi, ..Node::default() })
-    };
-    kinds.flat_map(marked).collect()
+    let nodes = (kind::TRUE..=kind::OR).map(|kind| Node { kind, ..Node::default() });
+    nodes.flat_map(every_marks).filter(|node| (node.open_lo, node.open_hi) != (0, 0)).collect()
 }
