@@ -186,8 +186,9 @@ fn excluded_ends() -> Vec<Limit> {
     let unshown = line(format!("margin=1 hold=-{TOP} fail=-1 verdict=unshown"));
     let past = line(format!("margin=-{TOP} hold=-{TOP} fail={TOP} verdict=fails"));
     let kept = line(format!("margin={TOP} hold={TOP} fail=-{TOP} verdict=holds"));
-    let nots = |count: usize| format!("{}G[0,1)(p0)", "!".repeat(count));
-    let opened = |count: usize| format!("{}p0", "G[0,1)".repeat(count));
+    let deep = line(format!("margin={TOP} hold=1 fail=-{TOP} verdict=holds"));
+    let nots = |count: usize| format!("{}G(0,2)(p0)", "!".repeat(count));
+    let opened = |count: usize| format!("{}p0", "G(0,2)".repeat(count));
     let mut limits: Vec<(&str, String)> = [
         "F(5,5]p0", "F[5,5)p0", "F(5,6)p0", "F(5,5)p0", "F[0,*)p0", "F(0,*)p0", "F[0,0)p0",
         "F(0,1)p0", "F[1000000000,1000000000)p0", "F(1000000001,*]p0", "F[0,1000000001)p0",
@@ -207,13 +208,13 @@ fn excluded_ends() -> Vec<Limit> {
         ("G(0,2)p0", holds_without_fail(3)),
         ("p0R(0,1]p0", holds_without_fail(3)),
     ]);
-    let deep = [
+    let enclosed = [
         (nots(30), holds_without_fail(3)),
-        (format!("!{}", nots(31)), refused(2)),
-        (opened(32), holds_without_fail(3)),
+        (nots(31), refused(2)),
+        (opened(32), deep),
         (opened(33), refused(2)),
     ];
-    let all = limits.into_iter().map(|(text, line)| (text.to_string(), line)).chain(deep);
+    let all = limits.into_iter().map(|(text, line)| (text.to_string(), line)).chain(enclosed);
     all.map(|(text, line)| limit(&text, draft(1, 3, &text), line)).collect()
 }
 
