@@ -34,8 +34,8 @@ pub mod kind {
 ///
 /// A window has `lo` and `hi` up to 1,000,000,000 seconds, or `hi` [`NO_END`]. Both ends are counted,
 /// unless they are excluded: `open_lo` 1 reads as from `lo` + 1 on, `open_hi` 1 as up to `hi` − 1; in
-/// text `(` and `)` stand for `[` and `]` then, as in `F[0,3600)p0`, before the hour is over. No window
-/// is left empty, and one without end has `open_hi` 0.
+/// text `(` and `)` stand for `[` and `]` then, as in `F[0,3600)p0`, before the hour is over. A window
+/// that is left empty, or `open_hi` 1 without an end, is refused by 3, and by 2 in text.
 #[derive(Clone, Copy, PartialEq, Eq, Hash, Debug, Default)]
 pub struct Node {
     pub kind: u64,
