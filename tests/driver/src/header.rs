@@ -136,7 +136,10 @@ fn expressions_come_to_their_values() {
 fn lengths_are_those_of_the_proved_source() {
     assert_eq!(LINES as u64, proved("outcome_lines::LINES"));
     assert_eq!(MOST_NODES as u64, proved("tables::NODES"));
+    assert_eq!(NODE_NUMBERS as u64, proved("building::WIDTH"));
+    assert_eq!(NODES as u64, proved("building::CELLS"));
     assert_eq!(REQUIREMENT_BYTES as u64, proved("writing::LONGEST_TEXT"));
+    assert_eq!(WATCH_NUMBERS as u64, proved("watches::NUMBERS"));
     assert_eq!(WATCH_CELLS as u64, proved("watches::CELLS"));
 }
 
