@@ -5,11 +5,13 @@ mod flat;
 #[allow(dead_code)]
 mod names;
 mod plain;
+#[allow(dead_code)]
+mod plain_sheets;
 mod timing;
 
 use flat::{flat_nodes, flat_predicates};
-use names::Call;
-use plain::{Card, Node, Predicate, Range, NO_END};
+use names::{Call, ENDS, NODES, RANGES};
+use plain::{node, Card, Node, Predicate, Range, NO_END};
 use std::fmt;
 use timing::{best, seconds, times_as_long, Random, Times};
 
@@ -19,9 +21,9 @@ const DRIFT: u64 = 1_000_000_000;
 
 /// A table and its predicates as flat numbers.
 struct Flat {
-    nodes: [u64; 320],
-    ranges: [u64; 32],
-    ends: [i64; 32],
+    nodes: [u64; NODES],
+    ranges: [u64; RANGES],
+    ends: [i64; ENDS],
 }
 
 fn flat(nodes: &[Node], predicates: &[Predicate; 16]) -> Flat {
@@ -188,23 +190,18 @@ impl Case {
     }
 }
 
-fn node(kind: u64, left: usize, right: usize, lo: u64, hi: u64) -> Node {
-    Node { kind, left, right, lo, hi }
-}
-
 /// Two predicates and one operator with a window over them: until or release of both, eventually or always of the second.
-fn one_operator(kind: u64, (lo, hi): (u64, u64)) -> (String, [Node; 3]) {
+fn one_operator(kind: u64, window: &str) -> (String, [Node; 3]) {
     let (letter, left, right) = match kind {
         5 => ("p0U", 0, 1),
         6 => ("p0R", 0, 1),
         7 => ("F", 1, 0),
         _ => ("G", 1, 0),
     };
-    let end = if hi == NO_END { "*".to_string() } else { hi.to_string() };
-    (
-        format!("{letter}[{lo},{end}]p1"),
-        [node(1, 0, 0, 0, 0), node(1, 1, 0, 0, 0), node(kind, left, right, lo, hi)],
-    )
+    let read = plain_sheets::window(window.as_bytes());
+    let ([lo, hi, open_lo, open_hi], _) = read.expect("the text is a window");
+    let operator = Node { kind, left, right, lo, hi, open_lo, open_hi };
+    (format!("{letter}{window}p1"), [node(1, 0, 0, 0, 0), node(1, 1, 0, 0, 0), operator])
 }
 
 /// 64 nodes: four predicates, and over them every kind in turn with random children and short windows.
@@ -231,9 +228,8 @@ fn endless_table() -> Vec<Node> {
         .collect()
 }
 
-const UNTIL_WINDOWS: [(u64, u64); 5] =
-    [(0, NO_END), (10, 600), (1_800, 3_600), (1_800, NO_END), (0, 0)];
-const EVENTUALLY_WINDOWS: [(u64, u64); 4] = [(0, NO_END), (10, 600), (1_800, 3_600), (0, 0)];
+const UNTIL_WINDOWS: [&str; 5] = ["[0,*]", "[10,600]", "[1800,3600]", "[1800,*]", "[0,0]"];
+const EVENTUALLY_WINDOWS: [&str; 4] = ["[0,*]", "[10,600]", "[1800,3600]", "[0,0]"];
 /// With 7 everywhere left is 5 and right is -1, so that until never settles and release at once; with 2 everywhere it is the other way round.
 const UNTIL_VALUES: [Values; 3] = [Values::Equal(7), Values::Equal(2), Values::Random];
 const EVENTUALLY_VALUES: [Values; 4] =
@@ -241,13 +237,13 @@ const EVENTUALLY_VALUES: [Values; 4] =
 
 /// One operator over 2,048 rows and then over 4,096.
 fn operator_cases(
-    kinds: [u64; 2],
-    windows: &[(u64, u64)],
+    kinds: &[u64],
+    windows: &[&str],
     values: &[Values],
     random: &mut Random,
 ) -> Vec<Case> {
     let mut cases = Vec::new();
-    for kind in kinds {
+    for &kind in kinds {
         for &window in windows {
             for &values in values {
                 let (what, nodes) = one_operator(kind, window);
@@ -263,43 +259,24 @@ fn operator_cases(
 /// Margin and verdict of 64 nodes.
 fn table_cases(random: &mut Random) -> Vec<Case> {
     let (mixed, endless) = (mixed_table(random), endless_table());
+    let mut case = |verdict: bool, what: &str, nodes: &[Node], rows: usize, values: Values| {
+        let asked = if verdict { "verdict" } else { "margin" };
+        Case { verdict, ..Case::new(&format!("64 {what}, {asked}"), nodes, rows, values, random) }
+    };
     let mut cases = Vec::new();
     for verdict in [false, true] {
-        let what = if verdict { "verdict" } else { "margin" };
-        for rows in [2_048, 4_096] {
-            cases.push(Case {
-                verdict,
-                ..Case::new(
-                    &format!("64 mixed nodes, {what}"),
-                    &mixed,
-                    rows,
-                    Values::Random,
-                    random,
-                )
-            });
-        }
+        let rows = [2_048, 4_096];
+        cases.extend(rows.map(|rows| case(verdict, "mixed nodes", &mixed, rows, Values::Random)));
         // with random values the extremum up to the end would hardly change
-        let case = Case::new(
-            &format!("64 endless nodes, {what}"),
-            &endless,
-            4_096,
-            Values::Narrowing,
-            random,
-        );
-        cases.push(Case { verdict, beside_afresh: true, ..case });
+        let case = case(verdict, "endless nodes", &endless, 4_096, Values::Narrowing);
+        cases.push(Case { beside_afresh: true, ..case });
     }
     // behind the others, so that their random values are the same as without these
-    for verdict in [false, true] {
-        let what = if verdict { "verdict" } else { "margin" };
-        let case = Case::new(
-            &format!("64 mixed nodes, two scales, {what}"),
-            &mixed,
-            4_096,
-            Values::Small,
-            random,
-        );
-        cases.push(Case { verdict, scales: [7, 1_000], ..case });
-    }
+    let scaled = |verdict| Case {
+        scales: [7, 1_000],
+        ..case(verdict, "mixed nodes, two scales", &mixed, 4_096, Values::Small)
+    };
+    cases.extend([false, true].map(scaled));
     cases
 }
 
@@ -341,7 +318,7 @@ fn print_growth_of_eventually(cases: &[Case]) {
             .max_by(|a, b| a.1.total_cmp(&b.1))
             .expect("it is among the cases")
     };
-    for window in ["[0,*]", "[10,600]", "[1800,3600]", "[0,0]"] {
+    for window in EVENTUALLY_WINDOWS {
         let (name, growth) = largest(window);
         println!(
             "F and G, {window}: 4096 rows take at most {growth:.2} times as long as 2048, {name}"
@@ -372,14 +349,13 @@ fn print_tables(cases: &[Case]) {
 
 fn main() {
     let (random, predicates) = (&mut Random(12345), predicates());
-    let mut untils = operator_cases([5, 6], &UNTIL_WINDOWS, &UNTIL_VALUES, random);
-    let mut eventuallies = operator_cases([7, 8], &EVENTUALLY_WINDOWS, &EVENTUALLY_VALUES, random);
+    let mut untils = operator_cases(&[5, 6], &UNTIL_WINDOWS, &UNTIL_VALUES, random);
+    let mut eventuallies = operator_cases(&[7, 8], &EVENTUALLY_WINDOWS, &EVENTUALLY_VALUES, random);
     let mut tables = table_cases(random);
     // rounds over all cases, so that a slow spell of the machine does not fall on one of them alone
     for _ in 0..9 {
-        for case in untils.iter_mut().chain(&mut eventuallies).chain(&mut tables) {
-            case.time(&predicates);
-        }
+        let all = untils.iter_mut().chain(&mut eventuallies).chain(&mut tables);
+        all.for_each(|case| case.time(&predicates));
     }
     let all = || untils.iter().chain(&eventuallies).chain(&tables);
     all().for_each(Case::print);

@@ -2,6 +2,8 @@
 
 pub const TOP: i64 = 4_000_000_000_000;
 pub const NO_END: u64 = 4_294_967_295;
+/// A window's ends go up to this.
+pub const LONGEST: u64 = 1_000_000_000;
 
 #[derive(Clone, Copy)]
 pub struct Node {
@@ -10,6 +12,15 @@ pub struct Node {
     pub right: usize,
     pub lo: u64,
     pub hi: u64,
+    /// 1 where the low end is excluded, else 0.
+    pub open_lo: u64,
+    /// 1 where the high end is excluded, else 0.
+    pub open_hi: u64,
+}
+
+/// A node whose window counts both its ends; one without a window has 0 for both.
+pub const fn node(kind: u64, left: usize, right: usize, lo: u64, hi: u64) -> Node {
+    Node { kind, left, right, lo, hi, open_lo: 0, open_hi: 0 }
 }
 
 #[derive(Clone, Copy)]
@@ -189,22 +200,38 @@ fn temporal_row_afresh(before: &[i64], own: &mut [i64], times: &[u64], operator:
     }
 }
 
+fn is_timed(kind: u64) -> bool {
+    (5..=8).contains(&kind)
+}
+
+/// Whether a window is within its limits and something is left of it. Nothing is added to an end that may be too large.
+fn window_obeys(node: &Node) -> bool {
+    let Node { lo, hi, open_lo, open_hi, .. } = *node;
+    let in_limits = lo <= LONGEST && open_lo <= 1 && open_hi <= 1;
+    match hi {
+        NO_END => in_limits && open_hi == 0,
+        _ => in_limits && hi <= LONGEST && lo + open_lo + open_hi <= hi,
+    }
+}
+
+/// Whether a node may stand at place k of a table.
+pub fn obeys(node: &Node, k: usize) -> bool {
+    let Node { kind, left, right, lo, hi, open_lo, open_hi } = *node;
+    let left = match kind {
+        1 => left <= 15,
+        2..=8 => left < k,
+        _ => left == 0,
+    };
+    let right = if (3..=6).contains(&kind) { right < k } else { right == 0 };
+    let window =
+        if is_timed(kind) { window_obeys(node) } else { [lo, hi, open_lo, open_hi] == [0; 4] };
+    kind <= 8 && left && right && window
+}
+
 fn accepted(nodes: &[Node], card: &Card) -> bool {
     let Card { predicates, channels, scales, times, values } = *card;
     let table = nodes.iter().enumerate().all(|(k, n)| {
-        let left = match n.kind {
-            1 => n.left <= 15,
-            2..=8 => n.left < k,
-            _ => n.left == 0,
-        };
-        let right = if (3..=6).contains(&n.kind) { n.right < k } else { n.right == 0 };
-        let ends = if (5..=8).contains(&n.kind) {
-            n.lo <= 1_000_000_000 && (n.hi == NO_END || n.hi <= 1_000_000_000 && n.lo <= n.hi)
-        } else {
-            n.lo == 0 && n.hi == 0
-        };
-        let set = n.kind != 1 || n.left <= 15 && !matches!(predicates[n.left].range, Range::Unset);
-        n.kind <= 8 && left && right && ends && set
+        obeys(n, k) && (n.kind != 1 || !matches!(predicates[n.left].range, Range::Unset))
     });
     let fits = |v: &i64| (-1_000_000_000..=1_000_000_000).contains(v);
     let named = predicates.iter().all(|p| {
@@ -284,8 +311,15 @@ fn node_row(
     }
 }
 
+/// The same window with both ends counted: an excluded low end reads as lo + 1, an excluded high end as hi - 1.
+pub fn closed(node: &Node) -> Node {
+    let Node { lo, hi, open_lo, open_hi, .. } = *node;
+    Node { lo: lo + open_lo, hi: hi - open_hi, open_lo: 0, open_hi: 0, ..*node }
+}
+
 fn window(node: &Node) -> Window {
-    (node.lo, if node.hi == NO_END { None } else { Some(node.hi + 1) })
+    let Node { lo, hi, .. } = closed(node);
+    (lo, if hi == NO_END { None } else { Some(hi + 1) })
 }
 
 /// Contraction keeps a start of 0; a stop of 0 leaves no place.

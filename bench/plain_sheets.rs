@@ -1,12 +1,11 @@
 //! Sheets, requirement text and rows read and answered in plain Rust, by the algorithm of the proved library: what its speed is compared with.
 
-use crate::plain::{self, Card, Node, Predicate, Range, NO_END};
+use crate::plain::{self, Card, Node, Predicate, Range, LONGEST, NO_END};
 use std::io::Write;
 
 const LONGEST_TEXT: usize = 65_536;
 const LARGEST: u64 = 4_294_967_295;
 const LARGEST_SIGNED: u64 = 2_147_483_647;
-const FURTHEST: u64 = 1_000_000_000;
 /// What an answer has room for.
 const ROWS: usize = 2_048;
 const CELLS: usize = 8_192;
@@ -226,6 +225,11 @@ pub fn sheet(text: &[u8]) -> Result<Sheet<'_>, u64> {
     }
 }
 
+/// A window's numbers in the order of a node's: lo, hi, open_lo, open_hi.
+pub type Ends = [u64; 4];
+
+const NO_ENDS: Ends = [0; 4];
+
 /// Nodes while they are read: left, right, parent.
 struct Builder {
     nodes: Vec<Node>,
@@ -237,22 +241,22 @@ impl Builder {
         kind: u64,
         left: usize,
         right: usize,
-        (lo, hi): (u64, u64),
+        [lo, hi, open_lo, open_hi]: Ends,
     ) -> Option<usize> {
         if self.nodes.len() == 64 {
             return None;
         }
-        self.nodes.push(Node { kind, left, right, lo, hi });
+        self.nodes.push(Node { kind, left, right, lo, hi, open_lo, open_hi });
         Some(self.nodes.len() - 1)
     }
 
     fn unary<'a>(&mut self, text: &'a [u8], depth: usize) -> Read<'a, usize> {
         let (&letter, rest) = text.split_first()?;
         match letter {
-            b'T' => Some((self.push(0, 0, 0, (0, 0))?, rest)),
+            b'T' => Some((self.push(0, 0, 0, NO_ENDS)?, rest)),
             b'p' => {
                 let (p, rest) = number(rest, 15)?;
-                Some((self.push(1, p as usize, 0, (0, 0))?, rest))
+                Some((self.push(1, p as usize, 0, NO_ENDS)?, rest))
             }
             _ if depth == 0 => None,
             b'(' => {
@@ -261,7 +265,7 @@ impl Builder {
             }
             b'!' => {
                 let (left, rest) = self.unary(rest, depth - 1)?;
-                Some((self.push(2, left, 0, (0, 0))?, rest))
+                Some((self.push(2, left, 0, NO_ENDS)?, rest))
             }
             b'F' | b'G' => {
                 let (ends, rest) = window(rest)?;
@@ -288,7 +292,7 @@ impl Builder {
         let (mut left, mut text) = self.bind(text, depth)?;
         while let Some(rest) = text.strip_prefix(b"&") {
             let (right, rest) = self.bind(rest, depth)?;
-            left = self.push(3, left, right, (0, 0))?;
+            left = self.push(3, left, right, NO_ENDS)?;
             text = rest;
         }
         Some((left, text))
@@ -298,21 +302,35 @@ impl Builder {
         let (mut left, mut text) = self.conjunction(text, depth)?;
         while let Some(rest) = text.strip_prefix(b"|") {
             let (right, rest) = self.conjunction(rest, depth)?;
-            left = self.push(4, left, right, (0, 0))?;
+            left = self.push(4, left, right, NO_ENDS)?;
             text = rest;
         }
         Some((left, text))
     }
 }
 
-fn window(text: &[u8]) -> Read<'_, (u64, u64)> {
-    let (lo, rest) = field(text, b"[", FURTHEST)?;
-    let rest = rest.strip_prefix(b",")?;
-    let (hi, rest) = match rest.strip_prefix(b"*") {
-        Some(rest) => (NO_END, rest),
-        None => number(rest, FURTHEST).filter(|&(hi, _)| lo <= hi)?,
-    };
-    Some(((lo, hi), rest.strip_prefix(b"]")?))
+/// The bracket at an end of a window as its mark: 1 where the end is excluded.
+fn bracket(text: &[u8], counted: u8, excluded: u8) -> Read<'_, u64> {
+    let (&byte, rest) = text.split_first()?;
+    (byte == counted || byte == excluded).then_some((u64::from(byte == excluded), rest))
+}
+
+/// What follows a window's comma: its high end and that end's mark.
+fn upper(text: &[u8]) -> Read<'_, (u64, u64)> {
+    if let Some(rest) = text.strip_prefix(b"*]") {
+        return Some(((NO_END, 0), rest));
+    }
+    let (hi, rest) = number(text, LONGEST)?;
+    let (open_hi, rest) = bracket(rest, b']', b')')?;
+    Some(((hi, open_hi), rest))
+}
+
+/// The window that a text begins with. Something must be left of it.
+pub fn window(text: &[u8]) -> Read<'_, Ends> {
+    let (open_lo, rest) = bracket(text, b'[', b'(')?;
+    let (lo, rest) = number(rest, LONGEST)?;
+    let ((hi, open_hi), rest) = upper(rest.strip_prefix(b",")?)?;
+    (lo + open_lo + open_hi <= hi).then_some(([lo, hi, open_lo, open_hi], rest))
 }
 
 pub fn requirement(text: &[u8]) -> Option<Vec<Node>> {

@@ -1,11 +1,11 @@
 //! A table written as requirement text in plain Rust, by the algorithm of the proved library: what
 //! its speed is compared with.
 
-use crate::plain::{Node, NO_END};
+use crate::names::NODE_NUMBERS;
+use crate::plain::{obeys, Node, NO_END};
 
 const NODES: u64 = 64;
 const ENCLOSINGS: u64 = 32;
-const FURTHEST: u64 = 1_000_000_000;
 /// No text within the limits is longer: 64 nodes of at most 26 bytes.
 pub const LONGEST_TEXT: usize = 26 * NODES as usize;
 
@@ -38,26 +38,10 @@ fn beside(part: Part) -> (Part, Part) {
 
 /// A node of the flat numbers; a place that they do not have reads as 0.
 fn node_at(numbers: &[u64], k: usize) -> Node {
-    let number = |place: usize| numbers.get(5 * k + place).copied().unwrap_or(0);
-    let (left, right) = (number(1) as usize, number(2) as usize);
-    Node { kind: number(0), left, right, lo: number(3), hi: number(4) }
-}
-
-/// Whether a node may stand at place k of a table.
-fn obeys(node: &Node, k: usize) -> bool {
-    let Node { kind, left, right, lo, hi } = *node;
-    let left = match kind {
-        1 => left <= 15,
-        2..=8 => left < k,
-        _ => left == 0,
-    };
-    let right = if (3..=6).contains(&kind) { right < k } else { right == 0 };
-    let ends = if (5..=8).contains(&kind) {
-        lo <= FURTHEST && (hi == NO_END || hi <= FURTHEST && lo <= hi)
-    } else {
-        lo == 0 && hi == 0
-    };
-    kind <= 8 && left && right && ends
+    let number = |place: usize| numbers.get(NODE_NUMBERS * k + place).copied().unwrap_or(0);
+    let [kind, left, right, lo, hi, open_lo, open_hi]: [u64; NODE_NUMBERS] =
+        std::array::from_fn(number);
+    Node { kind, left: left as usize, right: right as usize, lo, hi, open_lo, open_hi }
 }
 
 /// What a tree is, counted no further than one past the limits.
@@ -131,7 +115,7 @@ impl Line {
         if node.kind < 5 {
             return;
         }
-        self.byte(b'[');
+        self.byte(b"[("[node.open_lo as usize]);
         self.number(node.lo);
         self.byte(b',');
         if node.hi == NO_END {
@@ -139,7 +123,7 @@ impl Line {
         } else {
             self.number(node.hi);
         }
-        self.byte(b']');
+        self.byte(b"])"[node.open_hi as usize]);
     }
 
     /// The text of node k where a part is due.

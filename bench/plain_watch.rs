@@ -1,6 +1,6 @@
 //! A watch in plain Rust, by the algorithm of the proved library: what its speed is compared with.
 
-use crate::plain::{distance, nothing, Node, Predicate, TOP};
+use crate::plain::{closed, distance, node, nothing, Node, Predicate, TOP};
 
 const NODES: usize = 64;
 const CHANNELS: usize = 8;
@@ -22,8 +22,8 @@ struct Known {
 trait Extreme: Fn(i64, i64) -> i64 {}
 impl<F: Fn(i64, i64) -> i64> Extreme for F {}
 
-/// Whether a row so many seconds behind the first is in a node's window. A window without end has
-/// an end that no row comes to.
+/// Whether a row so many seconds behind the first is in a node's window, which a watch keeps with
+/// both ends counted. A window without end has an end that no row comes to.
 fn in_window(node: &Node, since: u64) -> bool {
     node.lo <= since && since <= node.hi
 }
@@ -100,7 +100,7 @@ impl Watch {
     /// another, all of it within the limits; one scale for each channel.
     pub fn fresh(nodes: &[Node], predicates: &[Predicate; 16], scales: &[u64]) -> Watch {
         let mut watch = Watch {
-            nodes: [Node { kind: 0, left: 0, right: 0, lo: 0, hi: 0 }; NODES],
+            nodes: std::array::from_fn(|k| nodes.get(k).map_or(node(0, 0, 0, 0, 0), closed)),
             count: nodes.len(),
             predicates: *predicates,
             scales: [0; CHANNELS],
@@ -108,7 +108,6 @@ impl Watch {
             times: None,
             known: Known::fresh(nodes),
         };
-        watch.nodes[..nodes.len()].copy_from_slice(nodes);
         for (own, &scale) in watch.scales.iter_mut().zip(scales) {
             *own = scale as i64;
         }

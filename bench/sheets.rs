@@ -67,32 +67,32 @@ struct Case {
 /// Room for everything that the library hands back, used again in each call.
 struct Room {
     lines: [u8; names::LINES],
-    numbers: [u64; 5],
-    places: [u64; 32],
-    scales: [u64; 8],
-    ranges: [u64; 32],
-    ends: [i64; 32],
-    nodes: [u64; 320],
+    numbers: [u64; names::NUMBERS],
+    places: [u64; names::PLACES],
+    scales: [u64; names::SCALES],
+    ranges: [u64; names::RANGES],
+    ends: [i64; names::ENDS],
+    nodes: [u64; names::NODES],
     count: [u64; 1],
     times: Vec<u64>,
     values: Vec<i64>,
-    counts: [u64; 2],
+    counts: [u64; names::COUNTS],
 }
 
 impl Room {
     fn new() -> Room {
         Room {
             lines: [0; names::LINES],
-            numbers: [0; 5],
-            places: [0; 32],
-            scales: [0; 8],
-            ranges: [0; 32],
-            ends: [0; 32],
-            nodes: [0; 320],
+            numbers: [0; names::NUMBERS],
+            places: [0; names::PLACES],
+            scales: [0; names::SCALES],
+            ranges: [0; names::RANGES],
+            ends: [0; names::ENDS],
+            nodes: [0; names::NODES],
             count: [0],
             times: vec![0; 4_096],
             values: vec![0; 8 * 4_096],
-            counts: [0; 2],
+            counts: [0; names::COUNTS],
         }
     }
 }
@@ -131,8 +131,8 @@ fn plain(what: What, text: &[u8], room: &mut PlainRoom) {
 }
 
 /// The requirements' places in the text, as the library gives them.
-fn places(text: &[u8], sheet: &plain_sheets::Sheet) -> [u64; 32] {
-    let mut places = [0; 32];
+fn places(text: &[u8], sheet: &plain_sheets::Sheet) -> [u64; names::PLACES] {
+    let mut places = [0; names::PLACES];
     let mut to = text.len() - sheet.rows.len();
     // from the last line to the first: a line feed, the requirement, `req=`
     for (k, requirement) in sheet.requirements().iter().enumerate().rev() {

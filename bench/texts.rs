@@ -16,7 +16,8 @@ mod plain_texts;
 mod timing;
 
 use flat::flat_nodes;
-use plain::{Node, NO_END};
+use names::NODES;
+use plain::{node, Node, NO_END};
 use plain_texts::LONGEST_TEXT;
 use std::hint::black_box;
 use timing::{best, seconds, Times};
@@ -36,7 +37,7 @@ fn proved(nodes: &[u64], count: u64, text: &mut [u8]) -> Answer {
 /// What is timed: the writing of a table into a slice of so many bytes.
 struct Case {
     name: String,
-    nodes: [u64; 320],
+    nodes: [u64; NODES],
     count: u64,
     room: usize,
     /// The text that is due, or the number of what refuses the table.
@@ -121,10 +122,6 @@ fn deep() -> String {
 /// So many parts of four nodes: three and what joins them, and one "not".
 fn parts(count: usize) -> String {
     format!("!{}", ["p10U[10,600]p11"].repeat(count).join("|"))
-}
-
-fn node(kind: u64, left: usize, right: usize, lo: u64, hi: u64) -> Node {
-    Node { kind, left, right, lo, hi }
 }
 
 /// 64 nodes, of which the root reaches the last seven: p9, over it five nodes, each of which has the
