@@ -11,7 +11,7 @@ mod timing;
 
 use flat::{flat_nodes, flat_predicates};
 use names::{Call, ENDS, NODES, RANGES};
-use plain::{node, Card, Node, Predicate, Range, NO_END};
+use plain::{node, opened, Card, Node, Predicate, Range, NO_END};
 use std::fmt;
 use timing::{best, seconds, times_as_long, Random, Times};
 
@@ -230,6 +230,8 @@ fn endless_table() -> Vec<Node> {
 
 const UNTIL_WINDOWS: [&str; 5] = ["[0,*]", "[10,600]", "[1800,3600]", "[1800,*]", "[0,0]"];
 const EVENTUALLY_WINDOWS: [&str; 4] = ["[0,*]", "[10,600]", "[1800,3600]", "[0,0]"];
+/// Before the hour is over, and after its first half.
+const MARKED_WINDOWS: [&str; 2] = ["[0,3600)", "(1800,3600]"];
 /// With 7 everywhere left is 5 and right is -1, so that until never settles and release at once; with 2 everywhere it is the other way round.
 const UNTIL_VALUES: [Values; 3] = [Values::Equal(7), Values::Equal(2), Values::Random];
 const EVENTUALLY_VALUES: [Values; 4] =
@@ -259,6 +261,7 @@ fn operator_cases(
 /// Margin and verdict of 64 nodes.
 fn table_cases(random: &mut Random) -> Vec<Case> {
     let (mixed, endless) = (mixed_table(random), endless_table());
+    let marked: Vec<Node> = mixed.iter().map(opened).collect();
     let mut case = |verdict: bool, what: &str, nodes: &[Node], rows: usize, values: Values| {
         let asked = if verdict { "verdict" } else { "margin" };
         Case { verdict, ..Case::new(&format!("64 {what}, {asked}"), nodes, rows, values, random) }
@@ -277,6 +280,8 @@ fn table_cases(random: &mut Random) -> Vec<Case> {
         ..case(verdict, "mixed nodes, two scales", &mixed, 4_096, Values::Small)
     };
     cases.extend([false, true].map(scaled));
+    let marked = |verdict| case(verdict, "mixed nodes with marks", &marked, 4_096, Values::Random);
+    cases.extend([false, true].map(marked));
     cases
 }
 
@@ -352,12 +357,14 @@ fn main() {
     let mut untils = operator_cases(&[5, 6], &UNTIL_WINDOWS, &UNTIL_VALUES, random);
     let mut eventuallies = operator_cases(&[7, 8], &EVENTUALLY_WINDOWS, &EVENTUALLY_VALUES, random);
     let mut tables = table_cases(random);
+    // last, so that the others' random values are the same as without these
+    let mut marked = operator_cases(&[5, 6, 7, 8], &MARKED_WINDOWS, &[Values::Random], random);
     // rounds over all cases, so that a slow spell of the machine does not fall on one of them alone
     for _ in 0..9 {
-        let all = untils.iter_mut().chain(&mut eventuallies).chain(&mut tables);
+        let all = untils.iter_mut().chain(&mut eventuallies).chain(&mut tables).chain(&mut marked);
         all.for_each(|case| case.time(&predicates));
     }
-    let all = || untils.iter().chain(&eventuallies).chain(&tables);
+    let all = || untils.iter().chain(&eventuallies).chain(&tables).chain(&marked);
     all().for_each(Case::print);
     print_growth_of_until(&untils);
     print_growth_of_eventually(&eventuallies);

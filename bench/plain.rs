@@ -317,6 +317,14 @@ pub fn closed(node: &Node) -> Node {
     Node { lo: lo + open_lo, hi: hi - open_hi, open_lo: 0, open_hi: 0, ..*node }
 }
 
+/// The same window with its ends excluded, each one second further out. An end at its limit stays as it is.
+pub fn opened(node: &Node) -> Node {
+    let Node { kind, lo, hi, .. } = *node;
+    let open_lo = u64::from(is_timed(kind) && lo > 0);
+    let open_hi = u64::from(is_timed(kind) && hi < LONGEST);
+    Node { lo: lo - open_lo, hi: hi + open_hi, open_lo, open_hi, ..*node }
+}
+
 fn window(node: &Node) -> Window {
     let Node { lo, hi, .. } = closed(node);
     (lo, if hi == NO_END { None } else { Some(hi + 1) })

@@ -100,9 +100,12 @@ impl Case {
     }
 }
 
+/// Windows with long texts, and endless ones: both ends counted, and all ends excluded that can be.
+const FAR: [&str; 2] = ["[1000000000,1000000000]", "[999999999,*]"];
+const MARKED: [&str; 2] = ["(999999998,1000000000)", "(999999999,*]"];
+
 /// 64 nodes of every kind. Half of them have a window.
-fn large() -> String {
-    let (far, endless) = ("[1000000000,1000000000]", "[999999999,*]");
+fn large([far, endless]: [&str; 2]) -> String {
     let first = format!("F{far}G{far}(F{far}p10U{far}p11)");
     let second = format!("G{far}(G{endless}T|F{far}p12R{far}p13)");
     format!("!({})", vec![format!("{first}&{second}"); 4].join("|"))
@@ -148,15 +151,16 @@ fn doubled() -> Case {
 
 fn cases() -> Vec<Case> {
     let every = "64 nodes of every kind";
-    let short = Case::of_text(&format!("{every}, a byte too short"), large());
+    let short = Case::of_text(&format!("{every}, a byte too short"), large(FAR));
     vec![
-        Case::of_text(every, large()),
+        Case::of_text(every, large(FAR)),
+        Case::of_text(&format!("{every} with marks"), large(MARKED)),
         Case::of_text("64 nodes without parentheses", without_parentheses()),
         shared(),
         Case::of_text("32 enclosings", deep()),
         Case::of_text("two nodes", "F[0,7200]p0".to_string()),
         doubled(),
-        Case { room: large().len() - 1, due: Err(15), ..short },
+        Case { room: large(FAR).len() - 1, due: Err(15), ..short },
     ]
 }
 

@@ -15,7 +15,7 @@ mod timing;
 
 use flat::{flat_nodes, flat_predicates};
 use names::{Making, WATCH_CELLS, WATCH_NUMBERS};
-use plain::{Card, Node, Predicate, Range};
+use plain::{opened, Card, Node, Predicate, Range};
 use std::fmt::Debug;
 use std::hint::black_box;
 use std::process::exit;
@@ -94,6 +94,16 @@ impl Requirement {
         let name = format!("{} node{plural}, {} channels", nodes.len(), scales.len());
         let predicates = predicates(scales.len());
         Requirement { name, nodes, predicates, scales: scales.to_vec() }
+    }
+
+    /// The same, its windows written with marks.
+    fn marked(&self) -> Requirement {
+        Requirement {
+            name: format!("{}, with marks", self.name),
+            nodes: self.nodes.iter().map(opened).collect(),
+            predicates: self.predicates,
+            scales: self.scales.clone(),
+        }
     }
 
     fn fresh(&self) -> Both {
@@ -214,7 +224,7 @@ impl Case {
 
     fn print(&self) {
         let [ours, theirs] = self.each();
-        print!("{:<40} {:>9.0} rows/s, {ours:>6.1} ns each; ", self.name, 1e9 / ours);
+        print!("{:<48} {:>9.0} rows/s, {ours:>6.1} ns each; ", self.name, 1e9 / ours);
         print!("plain Rust {:>9.0} rows/s, {theirs:>5.1} ns; ", 1e9 / theirs);
         println!("ratio {:.2}", self.seconds.ratio());
     }
@@ -396,17 +406,19 @@ fn main() {
         .collect();
     // of 8 and of 64 nodes
     let mut longs = [2, 5].map(|place| Long::new(&groups[0][place], random));
+    // last, so that the others' rows are the same as without these
+    let mut marked = [2, 5].map(|place| cases_of(&groups[0][place].marked(), random));
     // rounds over all cases, so that a slow spell of the machine does not fall on one of them alone
     for _ in 0..9 {
-        cases.iter_mut().flatten().flatten().for_each(Case::time);
+        cases.iter_mut().flatten().chain(&mut marked).flatten().for_each(Case::time);
         longs.iter_mut().for_each(Long::time);
     }
-    cases.iter().flatten().flatten().for_each(Case::print);
+    let all = || cases.iter().flatten().chain(&marked).flatten();
+    all().for_each(Case::print);
     longs.iter().for_each(Long::print);
     groups.iter().zip(&cases).for_each(|(group, cases)| print_growth(group, cases));
     print_together(&cases);
-    let all = cases.iter().flatten().flatten();
-    let largest = all
+    let largest = all()
         .max_by(|a, b| a.seconds.ratio().total_cmp(&b.seconds.ratio()))
         .expect("there are cases");
     println!("largest ratio to plain Rust: {:.2}, {}", largest.seconds.ratio(), largest.name);
