@@ -20,6 +20,7 @@ struct table {
 static uint64_t add(struct table *t, uint64_t kind, uint64_t left, uint64_t right, uint64_t lo,
                     uint64_t hi)
 {
+    /* The marks, which follow hi, are 0: these forms count both ends of a window. */
     const uint64_t numbers[VARMITYEP_NODE_NUMBERS] = {kind, left, right, lo, hi};
     memcpy(t->nodes + VARMITYEP_NODE_NUMBERS * t->count[0], numbers, sizeof numbers);
     return t->count[0]++;
