@@ -15,7 +15,7 @@ use std::hint::black_box;
 use timing::{seconds, Random};
 
 /// Sheets, and what the answer to each begins with.
-const EXAMPLES: [(&str, &[u8], &str); 9] = [
+const EXAMPLES: [(&str, &[u8], &str); 10] = [
     ("booster-turn-up", include_bytes!("../examples/booster-turn-up.sheet"), "rows="),
     (
         "line-amplifier-gain-sag",
@@ -37,6 +37,11 @@ const EXAMPLES: [(&str, &[u8], &str); 9] = [
     ("standby-pump-start", include_bytes!("../examples/standby-pump-start.sheet"), "req=0 rows="),
     ("line-card-two-pumps", include_bytes!("../examples/line-card-two-pumps.sheet"), "req=0 rows="),
     ("booster-heat-run", include_bytes!("../examples/booster-heat-run.sheet"), "rows="),
+    (
+        "line-amplifier-repair",
+        include_bytes!("../examples/line-amplifier-repair.sheet"),
+        "req=0 rows=",
+    ),
 ];
 
 /// Requirements of one and two nodes, as many as 8,192 cells take over 2,048 rows. Their windows are short, so that reading the rows counts.
@@ -244,9 +249,12 @@ fn front(scales: &[u64], requirement: &str) -> String {
     format!("chan={channels}\n{scales}{predicates}step=1\ndrift=1000000000\nreq={requirement}\n")
 }
 
-/// A requirement of 63 nodes: until, release, eventually and always by turns, joined.
-fn broad() -> String {
-    let parts = ["p0U[3,40]p1", "p2R[0,25]p3", "F[2,30]p4", "!G[0,600]p5"];
+/// Until, release, eventually and always, and the same windows with marks.
+const PARTS: [&str; 4] = ["p0U[3,40]p1", "p2R[0,25]p3", "F[2,30]p4", "!G[0,600]p5"];
+const MARKED_PARTS: [&str; 4] = ["p0U(2,41)p1", "p2R[0,26)p3", "F(1,31)p4", "!G[0,601)p5"];
+
+/// A requirement of 63 nodes: four parts by turns, joined.
+fn broad(parts: [&str; 4]) -> String {
     let joined: Vec<&str> = (0..17).map(|i| parts[i % 4]).collect();
     joined.join("|")
 }
@@ -290,10 +298,11 @@ fn cases() -> Vec<Case> {
     case(
         What::Answer("rows="),
         "63 nodes, 64 rows",
-        (front(&[1], &broad()) + &random_rows(random, 64, &[1])).as_bytes(),
+        (front(&[1], &broad(PARTS)) + &random_rows(random, 64, &[1])).as_bytes(),
     );
     case(What::Answer("refused=1\n"), "refused in the last row", broken.as_bytes());
-    case(What::Requirement, "63 nodes", broad().as_bytes());
+    case(What::Requirement, "63 nodes", broad(PARTS).as_bytes());
+    case(What::Requirement, "63 nodes with marks", broad(MARKED_PARTS).as_bytes());
     case(What::Requirement, "32 enclosings", deep().as_bytes());
     case(What::Requirement, "two nodes", b"G[0,600]p0");
     cases
