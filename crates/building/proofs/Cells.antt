@@ -1,18 +1,19 @@
 -- Nodes as cells: each node's numbers written in one run, and read back as the table of the nodes.
 -- Assumes nothing.
-use mathlib.Core.Path.{_≡_, refl, sym, _∙_}
+use mathlib.Core.Path.{_≡_, refl, sym, ap, _∙_}
 use mathlib.Core.List.{List, [], _∷_, _++_, append-assoc}
 use Prim.Native.Nat.{ℕ, zero, suc, _+_, _-_, _*_, _≤_, _<_}
-use native.Mathlib.Nat.{add-zero}
+use native.Mathlib.Nat.{add-zero, zero-add}
 use native.Mathlib.Numerals.{towards-suc}
 use native.Mathlib.Omega.{arith}
-use lib.ListN.{length, getD, take, set, replicate, length-append, length-take}
-use lib.Seq.{sets, sets-eq, set-at, take-suc, take-all, getD-append-add}
+use native.Mathlib.Decide.{ℕ-discrete}
+use lib.ListN.{length, getD, take, drop, set, replicate, length-append, length-take, length-set, length-replicate, replicate-append-replicate}
+use lib.Seq.{sets, sets-eq, set-at, take-suc, take-all, drop-at, getD-append-add, getD-set-same, getD-set-other}
 use Rattle.tables.specs.declared.Node.{Node}
 use Rattle.tables.specs.Tree.{NODES}
 use Rattle.grammar.specs.Tree.{Tree, truth, predicate, one, two, size}
 use Rattle.building.specs.Nodes.{empty-node, nodes-of}
-use Rattle.building.specs.Storing.{CELLS, numbers-of, cells-of, node-read, node-from, nodes-from, WIDTH}
+use Rattle.building.specs.Storing.{CELLS, zeros, numbers-of, cells-of, node-read, node-from, nodes-from, WIDTH}
 
 -- ---- counts
 
@@ -94,11 +95,37 @@ nodes-back xs r (suc n) l m =
     rw (nodes-back xs r n (omega arith) m, node-back xs r n (omega arith), e, set-at (take n xs) empty-node (replicate (NODES - suc n) empty-node) (getD xs n empty-node) n f, take-suc xs n empty-node)
     (sym (append-assoc (take n xs) (getD xs n empty-node ∷ []) (replicate (NODES - suc n) empty-node)))
 
--- a table that was written from number 0 on is read back
-abbrev pub zeros : List ℕ
-zeros = replicate CELLS 0
+-- a node of the table of any cells is the one that they hold
+nodes-long : (cells : List ℕ) (n : ℕ) → length (nodes-from cells n) ≡ NODES
+unfolding nodes-from
+nodes-long cells zero = length-replicate NODES empty-node
+nodes-long cells (suc n) = length-set (nodes-from cells n) n (node-from cells n) ∙ nodes-long cells n
 
+pub node-kept : (cells : List ℕ) (n k : ℕ) → k < n → n ≤ NODES → getD (nodes-from cells n) k empty-node ≡ node-from cells k
+unfolding nodes-from
+node-kept cells zero k h l = absurd (omega arith)
+node-kept cells (suc n) k h l = elim (ℕ-discrete k n) [
+  | yes e ↦ rw e (getD-set-same (nodes-from cells n) n (node-from cells n) empty-node (omega (arith, nodes-long cells n)))
+  | no e ↦ getD-set-other (nodes-from cells n) n k (node-from cells n) empty-node e ∙ node-kept cells n k (omega arith) (omega arith)
+]
+
+-- a table that was written from number 0 on is read back
 pub table-back : (xs : List Node) → length xs ≤ NODES → nodes-from (sets zeros 0 (cells-of xs)) (length xs) ≡ xs ++ replicate (NODES - length xs) empty-node
 table-back xs l =
     let e : 0 + length (cells-of xs) ≤ length zeros = rw (length-cells xs) (omega arith) in
     rw (sets-eq (cells-of xs) zeros 0 e, nodes-back xs _ (length xs) (omega arith) l, take-all (length xs) xs (omega arith))
+
+-- and its cells are those of the whole table, whose other nodes are empty
+no-cells : (n : ℕ) → cells-of (replicate n empty-node) ≡ replicate (WIDTH * n) 0
+unfolding cells-of
+no-cells zero = refl
+no-cells (suc n) = let e : WIDTH * suc n ≡ WIDTH + WIDTH * n = omega arith in rw (e, no-cells n) (replicate-append-replicate WIDTH (WIDTH * n) 0)
+
+pub whole-cells : (xs : List Node) → length xs ≤ NODES → cells-of (xs ++ replicate (NODES - length xs) empty-node) ≡ sets zeros 0 (cells-of xs)
+whole-cells xs few =
+    let n = length xs in
+    let l : length (cells-of xs) ≡ WIDTH * n = length-cells xs in
+    let s : WIDTH * n + WIDTH * (NODES - n) ≡ CELLS = omega arith in
+    let z : zeros ≡ replicate (WIDTH * n) 0 ++ replicate (WIDTH * (NODES - n)) 0 = rw replicate-append-replicate (ap (λ (k : ℕ). replicate k 0) (sym s)) in
+    let d : drop (WIDTH * n) zeros ≡ replicate (WIDTH * (NODES - n)) 0 = ap (drop (WIDTH * n)) z ∙ drop-at (replicate (WIDTH * n) 0) (replicate (WIDTH * (NODES - n)) 0) (WIDTH * n) (length-replicate (WIDTH * n) 0) in
+    cells-append xs (replicate (NODES - n) empty-node) ∙ rw (no-cells (NODES - n), sets-eq (cells-of xs) zeros 0 (omega (arith, length-replicate {A = ℕ} CELLS 0)), l, zero-add, d)

@@ -3,7 +3,7 @@ use Prim.Native.Nat.{ℕ, zero, suc, _+_, _-_, _*_, _≤_}
 use mathlib.Core.Path.{_≡_}
 use mathlib.Core.List.{List, [], _∷_, _++_}
 use mathlib.Core.Bool.{cond}
-use lib.ListN.{getD, set}
+use lib.ListN.{getD, set, replicate}
 use lib.Seq.{sets}
 use lib.Dec.{leb}
 use Rattle.text.specs.Bytes.{bytes}
@@ -25,6 +25,10 @@ WIDTH = 7
 -- cells for all nodes of a table
 abbrev pub CELLS : ℕ
 CELLS = WIDTH * NODES
+
+-- all of them 0
+abbrev pub zeros : List ℕ
+zeros = replicate CELLS 0
 
 abbrev pub numbers-of : Node → List ℕ
 numbers-of x = x .kind ∷ x .left ∷ x .right ∷ x .span .lo ∷ x .span .hi ∷ x .span .openlo ∷ x .span .openhi ∷ []

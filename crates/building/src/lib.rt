@@ -121,7 +121,19 @@ fn leaf(kind: u64, number: usize) -> Node
 pub fn empty_table() -> Table
     ensures { λ r. ⌜ r ≡ empty-table ⌝ }
 {
-    let nodes = [leaf(0, 0); tables::NODES];
+    // Written out, so that the array is cleared in place: a call here costs a copy of the table.
+    let none = Node {
+        kind: 0,
+        left: 0,
+        right: 0,
+        span: Span {
+            lo: 0,
+            hi: 0,
+            openlo: 0,
+            openhi: 0,
+        },
+    };
+    let nodes = [none; tables::NODES];
     Table {
         nodes: nodes,
         count: 0,

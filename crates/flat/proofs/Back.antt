@@ -6,8 +6,8 @@ use Prim.Native.Nat.{ℕ, zero, suc, _+_, _-_, _*_, _≤_, _<_}
 use native.Mathlib.Nat.{zero-add}
 use native.Mathlib.Omega.{arith}
 use lib.IntN.{ℤ, pos}
-use lib.ListN.{length, getD, drop, replicate, length-append, length-replicate, replicate-append-replicate, List·getD-append}
-use lib.Seq.{sets, sets-eq, take-all, drop-at, ext-getD}
+use lib.ListN.{length, getD, drop, replicate, length-append, length-replicate, List·getD-append}
+use lib.Seq.{take-all, ext-getD}
 use borrow.Author.Tests.{le-leb}
 use Rattle.lists.specs.Fill.{fill}
 use Rattle.lists.proofs.Filled.{length-fill, fill-in}
@@ -18,8 +18,8 @@ use Rattle.tables.specs.declared.Node.{Node}
 use Rattle.recordings.specs.Card.{unset-predicate as none}
 use Rattle.predicate_lines.specs.Form.{unset}
 use Rattle.building.specs.Nodes.{empty-node}
-use Rattle.building.specs.Storing.{WIDTH, CELLS, cells-of, nodes-from}
-use Rattle.building.proofs.Cells.{zeros, length-cells, cells-append, table-back}
+use Rattle.building.specs.Storing.{CELLS, cells-of, nodes-from}
+use Rattle.building.proofs.Cells.{length-cells, whole-cells, table-back}
 use Rattle.lists.specs.Front.{written}
 use Rattle.flat.specs.Tables.{table-from}
 use Rattle.requirement_lines.specs.declared.Place.{Place}
@@ -92,23 +92,9 @@ places-back ps l old r k h =
 
 -- ---- tables
 
-no-cells : (n : ℕ) → cells-of (replicate n empty-node) ≡ replicate (WIDTH * n) 0
-unfolding cells-of
-no-cells zero = refl
-no-cells (suc n) = let e : WIDTH * suc n ≡ WIDTH + WIDTH * n = omega arith in rw (e, no-cells n) (replicate-append-replicate WIDTH (WIDTH * n) 0)
-
 module _ (xs : List Node) (few : length xs ≤ 64) where
   abbrev whole : List Node
   whole = xs ++ replicate (64 - length xs) empty-node
-
-  whole-cells : cells-of whole ≡ sets zeros 0 (cells-of xs)
-  whole-cells =
-      let n = length xs in
-      let l : length (cells-of xs) ≡ WIDTH * n = length-cells xs in
-      let s : WIDTH * n + WIDTH * (64 - n) ≡ CELLS = omega arith in
-      let z : zeros ≡ replicate (WIDTH * n) 0 ++ replicate (WIDTH * (64 - n)) 0 = rw replicate-append-replicate (ap (λ (k : ℕ). replicate k 0) (sym s)) in
-      let d : drop (WIDTH * n) zeros ≡ replicate (WIDTH * (64 - n)) 0 = ap (drop (WIDTH * n)) z ∙ drop-at (replicate (WIDTH * n) 0) (replicate (WIDTH * (64 - n)) 0) (WIDTH * n) (length-replicate (WIDTH * n) 0) in
-      cells-append xs (replicate (64 - n) empty-node) ∙ rw (no-cells (64 - n), sets-eq (cells-of xs) zeros 0 (omega (arith, length-replicate {A = ℕ} CELLS 0)), l, zero-add, d)
 
   -- a table that was written is the table read
   pub table-read-back : (old : List ℕ) → CELLS ≤ length old → table-from (written (cells-of whole) old) (length xs) ≡ record { nodes = whole; count = length xs }
@@ -116,4 +102,4 @@ module _ (xs : List Node) (few : length xs ≤ 64) where
   table-read-back old r =
       let c : length (cells-of whole) ≡ CELLS = length-cells whole ∙ rw (length-append xs, length-replicate (64 - length xs) empty-node) (omega arith) in
       let a : nodes-from (written (cells-of whole) old) (length xs) ≡ nodes-from (cells-of whole) (length xs) = same-nodes (written (cells-of whole) old) (cells-of whole) CELLS (λ j h. front-at (cells-of whole) old 0 (omega arith) j (omega arith)) (length xs) (omega arith) in
-      rw (le-leb (length xs) 64 few, a ∙ ap (λ (cs : List ℕ). nodes-from cs (length xs)) whole-cells ∙ table-back xs few)
+      rw (le-leb (length xs) 64 few, a ∙ ap (λ (cs : List ℕ). nodes-from cs (length xs)) (whole-cells xs few) ∙ table-back xs few)

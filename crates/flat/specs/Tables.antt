@@ -1,4 +1,4 @@
--- A table from flat numbers: node k's five stand at the places 5k to 5k + 4. Its numbers in turn are `cells-of` its nodes, in `building`.
+-- A table from flat numbers: those of a node stand one after the other, those of the next one after them. Its numbers in turn are `cells-of` its nodes, in `building`.
 -- Assumes nothing.
 use mathlib.Core.List.{List}
 use Prim.Native.Nat.{ℕ}

@@ -7,13 +7,19 @@ use tables::Table;
 use text::Mark;
 ghost use mathlib.Core.Path.{_≡_};
 ghost use Rattle.grammar.specs.Reading.{unary-at, bind-at, conjunction-at, alternative-at};
-ghost use Rattle.building.specs.Storing.{Done};
-ghost use Rattle.requirements.specs.Requirement.{refused, requirement-of};
+ghost use Rattle.building.specs.Storing.{zeros, Done};
+ghost use Rattle.requirements.specs.Requirement.{refused, requirement-of, uncounted, Numbered};
 
 // What a requirement text says: refusal 0 and its table, or refusal 2 and the empty table.
 pub struct Requirement {
     pub refusal: u64,
     pub table: Table,
+}
+
+// The same without the table, whose numbers stand in lent cells: the refusal, and how many nodes there are.
+pub struct Counted {
+    pub refusal: u64,
+    pub count: usize,
 }
 
 // At most so many of `!`, `G`, `F` and `(` enclose one another.
@@ -150,21 +156,45 @@ fn refuse() -> Requirement
     }
 }
 
+fn uncounted() -> Counted
+    ensures { λ r. ⌜ r ≡ uncounted ⌝ }
+{
+    Counted {
+        refusal: 2,
+        count: 0,
+    }
+}
+
+// Reads a requirement text into cells that are all 0: its table's numbers, so that who wants those alone pays for no table.
+pub fn read_numbers(text: &[u8], cells: &mut [u64; building::CELLS]) -> Counted
+    requires { ⌜ now cells ≡ zeros ⌝ }
+    ensures { λ r. ⌜ Numbered (requirement-of (now (text .entry))) r (now (cells .exit)) ⌝ }
+{
+    let Step::Read(part) = read_alternative(text, 0, ENCLOSINGS, 0, cells) else {
+        return uncounted();
+    };
+    if part.end == text.len() {
+        Counted {
+            refusal: 0,
+            count: part.free,
+        }
+    } else {
+        uncounted()
+    }
+}
+
 // The whole text, within the limits of enclosings and nodes.
 pub fn read_requirement(text: &[u8]) -> Requirement
     ensures { λ r. ⌜ r ≡ requirement-of (now (text .entry)) ⌝ }
 {
     let mut cells = [0u64; building::CELLS];
-    let Step::Read(part) = read_alternative(text, 0, ENCLOSINGS, 0, &mut cells) else {
+    let read = read_numbers(text, &mut cells);
+    if read.refusal != 0 {
         return refuse();
-    };
-    if part.end == text.len() {
-        let table = building::table_from(&cells, part.free);
-        Requirement {
-            refusal: 0,
-            table: table,
-        }
-    } else {
-        refuse()
+    }
+    let table = building::table_from(&cells, read.count);
+    Requirement {
+        refusal: 0,
+        table: table,
     }
 }

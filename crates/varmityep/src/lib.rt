@@ -94,15 +94,13 @@ pub extern "C" fn varmityep_requirement(text: &[u8], nodes: &mut [u64], count: &
     ensures nodes { λ _. ⌜ now (nodes .exit) ≡ handed (requirement-of (now (text .entry)) .refusal) (cells-of (requirement-of (now (text .entry)) .table .nodes)) (now (nodes .entry)) ⌝ }
     ensures count { λ _. ⌜ now (count .exit) ≡ handed (requirement-of (now (text .entry)) .refusal) (requirement-of (now (text .entry)) .table .count ∷ []) (now (count .entry)) ⌝ }
 {
-    let requirement = requirements::read_requirement(text);
-    if requirement.refusal != 0 {
-        return requirement.refusal;
+    let mut cells = [0u64; building::CELLS];
+    let read = requirements::read_numbers(text, &mut cells);
+    if read.refusal != 0 {
+        return read.refusal;
     }
-    let table = requirement.table;
-    let read = table.nodes;
-    let cells = building::cells_of(read);
     flat::write_numbers(&cells, nodes);
-    let places = [table.count as u64];
+    let places = [read.count as u64];
     flat::write_numbers(&places, count);
     0
 }
@@ -113,8 +111,10 @@ pub extern "C" fn varmityep_write(nodes: &[u64], count: u64, text: &mut [u8]) ->
     ensures answer { λ r. ⌜ r ≡ written-of (table-from (now (nodes .entry)) count) (length (now (text .entry))) ⌝ }
     ensures text { λ _. ⌜ now (text .exit) ≡ text-slice (table-from (now (nodes .entry)) count) (now (text .entry)) ⌝ }
 {
-    let table = flat::table_from(nodes, count);
-    writing::write_requirement(table, text)
+    let mut cells = [0u64; building::CELLS];
+    flat::write_numbers(nodes, &mut cells);
+    let table = building::table_from(&cells, count as usize);
+    writing::write_numbered(&cells, table, text)
 }
 
 // The measured rows of a text, and the counts of measured and filled rows.

@@ -1,6 +1,6 @@
 -- Numbers of rows: which row a node's values stand in, and that the rows before row r hold what row r is filled from.
 -- Assumes nothing.
-use mathlib.Core.Path.{_≡_, refl, sym, ap, _∙_}
+use mathlib.Core.Path.{_≡_, refl, sym, ap, _∙_, subst}
 use mathlib.Core.Bool.{Bool, true, false}
 use mathlib.Core.List.{List}
 use Prim.Native.Nat.{ℕ, _+_, _*_, _/_, _%_, _≤_, _<_}
@@ -23,7 +23,7 @@ use Rattle.nodes.specs.Values.{node-value}
 use Rattle.nodes.specs.Asks.{NodeAsks}
 use Rattle.nodes.proofs.Values.{value-same}
 use Rattle.nodes.proofs.Operands.{used-agree, node-asks}
-use Rattle.verdicts.specs.Rows.{strong-window, left-sign, row-of, Ready, Filled}
+use Rattle.verdicts.specs.Rows.{strong-window, left-sign, row-of, Ready, Filled, Due}
 use Rattle.verdicts.specs.Cells.{sign-of-row, strong, row-value}
 use Rattle.verdicts.proofs.Strong.{strong-node, strong-bounded}
 
@@ -71,19 +71,19 @@ module _ {c : Card} {t : Table} {step : ℕ} {work : List ℤ} {r : ℕ} (f : Fi
   abbrev b : Bool
   b = sign-of-row r
 
-  pub node-inside : k < t .count
+  node-inside : k < t .count
   node-inside = omega (arith, f .row-inside)
 
-  pub rules : NodeRules n k
+  rules : NodeRules n k
   rules = f .ready .sound .ruled .each k node-inside
 
   named : (n .left < NODES) × (n .right < NODES)
   named = named-small rules (omega (arith, node-inside, f .ready .sound .ruled .few-nodes))
 
-  pub left-small : n .left ≤ NODES
+  left-small : n .left ≤ NODES
   left-small = omega (arith, named .0)
 
-  pub right-small : n .right ≤ NODES
+  right-small : n .right ≤ NODES
   right-small = omega (arith, named .1)
 
   -- a filled row's cells are its node's values
@@ -93,21 +93,43 @@ module _ {c : Card} {t : Table} {step : ℕ} {work : List ℤ} {r : ℕ} (f : Fi
   bounded-row : (q : ℕ) → q < r → Bounded work (rows c) q
   bounded-row q h = record { bounded = λ i l. rw (f .done q i h l) (strong-bounded c step (f .ready .sound .recorded) (t .nodes) (sign-of-row q) (q / 2) i) }
 
-  pub asks : NodeAsks work c n (row-of (left-sign b o) (n .left)) (row-of b (n .right)) r
+  asks : NodeAsks work c n (row-of (left-sign b o) (n .left)) (row-of b (n .right)) r
   asks = node-asks rules (earlier-rows (left-sign b o) (n .left) r) (earlier-rows b (n .right) r) (f .ready .sound .recorded) (f .ready .sound .named .set k node-inside) (omega (arith, earlier-row r (2 * t .count) (rows c) (f .row-inside), f .ready .room)) bounded-row
 
   -- what the node's row function makes of these cells is what row r is to hold
-  pub row-same : (i : ℕ) → i < rows c → node-value c b (strong-window b step o n) o n (cell work (rows c) (row-of (left-sign b o) (n .left))) (cell work (rows c) (row-of b (n .right))) i ≡ row-value c step (t .nodes) r i
+  row-same : (i : ℕ) → i < rows c → node-value c b (strong-window b step o n) o n (cell work (rows c) (row-of (left-sign b o) (n .left))) (cell work (rows c) (row-of b (n .right))) i ≡ row-value c step (t .nodes) r i
   row-same i l =
       value-same c b (strong-window b step o n) o n _ _ _ _ (used-agree (left-use o) k (n .left) (rows c) (filled-cell (left-sign b o) (n .left)) (rules .left)) (used-agree (right-use o) k (n .right) (rows c) (filled-cell b (n .right)) (rules .right)) i l
       ∙ sym (strong-node c step (t .nodes) b k rules i)
 
   -- the same with the window and the rows that the code found
-  pub asks-at : (x y : ℕ) → x ≡ row-of (left-sign b o) (n .left) → y ≡ row-of b (n .right) → NodeAsks work c n x y r
+  asks-at : (x y : ℕ) → x ≡ row-of (left-sign b o) (n .left) → y ≡ row-of b (n .right) → NodeAsks work c n x y r
   asks-at x y p q = rw (p, q) asks
 
-  pub row-filled : (w : Window) (x y : ℕ) {out : List ℤ} → w ≡ strong-window b step o n → x ≡ row-of (left-sign b o) (n .left) → y ≡ row-of b (n .right) → out ≡ fill (r * rows c) (rows c) (node-value c b w o n (cell work (rows c) x) (cell work (rows c) y)) work → out ≡ fill (r * rows c) (rows c) (row-value c step (t .nodes) r) work
+  row-filled : (w : Window) (x y : ℕ) {out : List ℤ} → w ≡ strong-window b step o n → x ≡ row-of (left-sign b o) (n .left) → y ≡ row-of b (n .right) → out ≡ fill (r * rows c) (rows c) (node-value c b w o n (cell work (rows c) x) (cell work (rows c) y)) work → out ≡ fill (r * rows c) (rows c) (row-value c step (t .nodes) r) work
   row-filled w x y e p q h = (rw (e, p, q) at h) ∙ fill-cong (r * rows c) (rows c) _ _ work row-same
+
+-- the same of the node that the code was handed
+module _ {c : Card} {t : Table} {n : Node} {step : ℕ} {work : List ℤ} {r : ℕ} (d : Due c t n step work r) where
+  handed-on : (P : Node → Type 0) → P (node-at (t .nodes) (r / 2)) → P n
+  handed-on P h = subst P (sym (d .node-is)) h
+
+  pub due-rules : NodeRules n (r / 2)
+  due-rules = handed-on (λ m. NodeRules m (r / 2)) (rules (d .filled))
+
+  pub due-left : n .left ≤ NODES
+  due-left = handed-on (λ m. m .left ≤ NODES) (left-small (d .filled))
+
+  pub due-right : n .right ≤ NODES
+  due-right = handed-on (λ m. m .right ≤ NODES) (right-small (d .filled))
+
+  pub due-asks : (x y : ℕ) → x ≡ row-of (left-sign (sign-of-row r) (operator (n .kind))) (n .left) → y ≡ row-of (sign-of-row r) (n .right) → NodeAsks work c n x y r
+  due-asks = handed-on (λ m. (x y : ℕ) → x ≡ row-of (left-sign (sign-of-row r) (operator (m .kind))) (m .left) → y ≡ row-of (sign-of-row r) (m .right) → NodeAsks work c m x y r) (asks-at (d .filled))
+
+  pub due-filled : (w : Window) (x y : ℕ) {out : List ℤ} → w ≡ strong-window (sign-of-row r) step (operator (n .kind)) n → x ≡ row-of (left-sign (sign-of-row r) (operator (n .kind))) (n .left) → y ≡ row-of (sign-of-row r) (n .right)
+      → out ≡ fill (r * rows c) (rows c) (node-value c (sign-of-row r) w (operator (n .kind)) n (cell work (rows c) x) (cell work (rows c) y)) work → out ≡ fill (r * rows c) (rows c) (row-value c step (t .nodes) r) work
+  due-filled w x y {out} = handed-on (λ m. w ≡ strong-window (sign-of-row r) step (operator (m .kind)) m → x ≡ row-of (left-sign (sign-of-row r) (operator (m .kind))) (m .left) → y ≡ row-of (sign-of-row r) (m .right)
+      → out ≡ fill (r * rows c) (rows c) (node-value c (sign-of-row r) w (operator (m .kind)) m (cell work (rows c) x) (cell work (rows c) y)) work → out ≡ fill (r * rows c) (rows c) (row-value c step (t .nodes) r) work) (row-filled (d .filled) w x y)
 
 -- ---- the loop over the rows
 module _ {c : Card} {t : Table} {step : ℕ} (w₀ : List ℤ) (ok : Ready c t step (length w₀)) {work : List ℤ} (r : ℕ) (h : work ≡ fill-rows (rows c) (row-value c step (t .nodes)) r w₀) where

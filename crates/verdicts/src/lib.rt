@@ -4,15 +4,15 @@ ghost use Prim.Native.Nat.{_*_, _≤_};
 ghost use lib.IntN.{pos};
 ghost use lib.Signed.{ltZ};
 ghost use lib.ListN.{length};
-ghost use Rattle.lists.specs.Fill.{fill};
 ghost use Rattle.recordings.specs.Accepted.{LONGEST-STEP, LARGEST-DRIFT};
 ghost use Rattle.recordings.specs.Verdict.{decide};
+ghost use Rattle.tables.specs.declared.Table.{Table};
 ghost use Rattle.tables.specs.Kind.{operator};
 ghost use Rattle.tables.specs.Tree.{NODES, window};
 ghost use Rattle.tables.specs.Rules.{WindowRules};
 ghost use Rattle.windows.specs.Bounds.{Short};
-ghost use Rattle.verdicts.specs.Cells.{row-value, cells};
-ghost use Rattle.verdicts.specs.Rows.{strong-window, left-sign, row-of, Ready, Filled};
+ghost use Rattle.verdicts.specs.Cells.{cells};
+ghost use Rattle.verdicts.specs.Rows.{strong-window, left-sign, row-of, Ready, Due, Fills};
 ghost use Rattle.verdicts.specs.Answer.{verdict-outcome, verdict-judged, verdict-cells};
 ghost use Rattle.recordings.specs.Card.{lent};
 use logic::Window;
@@ -65,9 +65,9 @@ fn left_row(node: Node, affirmed: bool) -> usize
     }
 }
 
-// Row `row` of the cells, the rows before it being filled.
+// Row `row` of the cells, that of a node or of its negation, the rows before it being filled. It takes the node alone: a table by value would be copied for each row.
 fn strong_row(
-    table: Table,
+    node: Node,
     setup: Setup,
     times: &[u64],
     values: &[i64],
@@ -75,12 +75,10 @@ fn strong_row(
     work: &mut [i64],
     row: usize,
 )
-    requires { ⌜ Filled (lent setup times values) table step (now work) row ⌝ }
-    ensures { λ _. ⌜ now (work .exit) ≡ fill (row * length (now (times .entry))) (length (now (times .entry))) (row-value (lent setup (times .entry) (values .entry)) step (table .nodes) row) (now (work .entry)) ⌝ }
+    requires { ⌜ ((t : Table) × Due (lent setup times values) t node step (now work) row) ⌝ }
+    ensures { λ _. ⌜ Fills (lent setup (times .entry) (values .entry)) node step (now (work .entry)) row (now (work .exit)) ⌝ }
 {
-    let k = row / 2;
     let affirmed = row % 2 == 0;
-    let node = table.nodes[k];
     let window = row_window(node, affirmed, step);
     let left = left_row(node, affirmed);
     let right = row_for(affirmed, node.right);
@@ -111,9 +109,12 @@ fn strong_rows(
     ensures { λ _. ⌜ now (work .exit) ≡ cells (lent setup (times .entry) (values .entry)) step (table .nodes) (table .count) (now (work .entry)) ⌝ }
 {
     let end = 2 * table.count;
+    let nodes = table.nodes;
     let mut row = 0;
     while row < end {
-        strong_row(table, setup, times, values, step, work, row);
+        let k = row / 2;
+        let node = nodes[k];
+        strong_row(node, setup, times, values, step, work, row);
         row += 1;
     }
 }

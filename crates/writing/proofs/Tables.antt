@@ -4,6 +4,8 @@ use mathlib.Core.Path.{_≡_, refl, sym, ap, _∙_}
 use mathlib.Core.List.{List, [], append-nil}
 use Prim.Native.Nat.{ℕ, zero, suc, _-_, _≤_, _<_}
 use native.Mathlib.Omega.{arith}
+use native.Mathlib.Decide.{decLe}
+use borrow.Author.Tests.{le-leb, lt-leb}
 use lib.ListN.{length}
 use Rattle.tables.specs.declared.Node.{Node}
 use Rattle.tables.specs.declared.Table.{Table}
@@ -11,12 +13,12 @@ use Rattle.tables.specs.Kind.{Operator, constant, named, negated, unknown, join
 use Rattle.tables.specs.Tree.{NODES, node-at}
 use Rattle.tables.specs.Rules.{Use, child, number, unused, left-use, right-use, Used, NodeRules, TableRules}
 use Rattle.grammar.specs.Tree.{Tree}
-use Rattle.building.specs.Storing.{CELLS, cells-of, node-from}
+use Rattle.building.specs.Storing.{CELLS, cells-of, node-from, table-from}
 use Rattle.building.specs.Unshared.{tree-by, unshared, tree-of}
-use Rattle.building.proofs.Cells.{length-cells, node-back}
+use Rattle.building.proofs.Cells.{length-cells, node-back, node-kept}
 use Rattle.building.proofs.Unshared.{unshared-node, unshared-alike}
 use Rattle.requirements.proofs.Rules.{Proper}
-use Rattle.writing.specs.Ruled.{Ruled}
+use Rattle.writing.specs.Ruled.{Ruled, HoldsNodes}
 
 -- ---- ruled
 
@@ -59,12 +61,21 @@ tree-proper t r = proper-below (node-at (t .nodes)) (suc (t .count)) (t .count -
 
 -- ---- laid out
 
-module _ (t : Table) (cells : List ℕ) (e : cells ≡ cells-of (t .nodes)) (l : length cells ≡ CELLS) where
-  node-is : (j : ℕ) → j < NODES → node-from cells j ≡ node-at (t .nodes) j
-  node-is j h = ap (λ (c : List ℕ). node-from c j) (e ∙ sym (append-nil (cells-of (t .nodes)))) ∙ node-back (t .nodes) [] j (omega (arith, l, ap length e, length-cells (t .nodes)))
+-- the numbers of all its nodes hold them
+pub cells-hold : (t : Table) (cells : List ℕ) → cells ≡ cells-of (t .nodes) → length cells ≡ CELLS → HoldsNodes cells t
+cells-hold t cells e l j few h = ap (λ (c : List ℕ). node-from c j) (e ∙ sym (append-nil (cells-of (t .nodes)))) ∙ node-back (t .nodes) [] j (omega (arith, l, ap length e, length-cells (t .nodes)))
 
-  pub laid-ruled : TableRules t → Ruled (node-from cells) (t .count - 1)
-  laid-ruled r = ruled-alike (node-at (t .nodes)) (node-from cells) (t .count - 1) (λ j h. node-is j (omega (arith, table-ruled t r .inside))) (table-ruled t r)
+-- any cells hold the table that is read from them
+pub from-hold : (cells : List ℕ) (count : ℕ) → HoldsNodes cells (table-from cells count)
+from-hold cells count = go (decLe count NODES)
+  where
+    go : Dec (count ≤ NODES) → HoldsNodes cells (table-from cells count)
+    go (yes l) = rw (le-leb count NODES l) (λ j few h. sym (node-kept cells count j h l))
+    go (no l) = rw (lt-leb count NODES (omega arith)) (λ j few h. absurd (omega arith))
 
-  pub laid-tree : TableRules t → unshared (node-from cells) (t .count - 1) ≡ tree-of t
-  laid-tree r = unshared-alike (node-at (t .nodes)) (node-from cells) (t .count - 1) (λ j h. node-is j (omega (arith, table-ruled t r .inside)))
+module _ (t : Table) (cells : List ℕ) (same : HoldsNodes cells t) (r : TableRules t) where
+  pub laid-ruled : Ruled (node-from cells) (t .count - 1)
+  laid-ruled = ruled-alike (node-at (t .nodes)) (node-from cells) (t .count - 1) (λ j h. same j (omega (arith, r .few-nodes, r .some-node)) (omega (arith, r .some-node))) (table-ruled t r)
+
+  pub laid-tree : unshared (node-from cells) (t .count - 1) ≡ tree-of t
+  laid-tree = unshared-alike (node-at (t .nodes)) (node-from cells) (t .count - 1) (λ j h. same j (omega (arith, r .few-nodes, r .some-node)) (omega (arith, r .some-node)))

@@ -17,7 +17,7 @@ ghost use Rattle.building.specs.Unshared.{unshared, tree-of};
 ghost use Rattle.spelling.specs.Text.{text-as, part-of};
 ghost use Rattle.printing.specs.Output.{output, printed};
 ghost use Rattle.writing.specs.Measures.{measure-of, deep-as, one-measure, two-measure, node-measure, leaf-measure};
-ghost use Rattle.writing.specs.Ruled.{Ruled, leaf-text};
+ghost use Rattle.writing.specs.Ruled.{Ruled, HoldsNodes, leaf-text};
 ghost use Rattle.writing.specs.Written.{table-text, no-text, written-of, text-slice};
 
 // What a tree is, counted no further than one past the limits: its nodes, the enclosings of its text, and the part of the grammar that this is.
@@ -185,16 +185,15 @@ fn refuse(number: u64) -> Written
 }
 
 // The text of a table that is within the limits, where the slice has room for it.
-fn write_table(table: Table, text: &mut [u8]) -> Written
+fn write_table(cells: &[u64; CELLS], table: Table, text: &mut [u8]) -> Written
+    requires { ⌜ HoldsNodes (now cells) table ⌝ }
     requires { ⌜ TableRules table ⌝ }
     requires { ⌜ Requires (table-text table) (tree-of table) ⌝ }
     ensures answer { λ r. ⌜ r ≡ written-of table (length (now (text .entry))) ⌝ }
     ensures text { λ _. ⌜ now (text .exit) ≡ text-slice table (now (text .entry)) ⌝ }
 {
-    let nodes = table.nodes;
-    let cells = building::cells_of(nodes);
     let mut bytes = [0u8; LONGEST_TEXT];
-    let end = write_node(&cells, table.count - 1, Part::Alternative, &mut bytes, 0);
+    let end = write_node(cells, table.count - 1, Part::Alternative, &mut bytes, 0);
     if text.len() < end {
         return refuse(15);
     }
@@ -205,8 +204,9 @@ fn write_table(table: Table, text: &mut [u8]) -> Written
     }
 }
 
-// Writes a table's text into the front of a slice. Under a refusal, of 3, 14 or 15, the slice keeps what it holds.
-pub fn write_requirement(table: Table, text: &mut [u8]) -> Written
+// Writes a table's text into the front of a slice, the table's numbers being at hand. Under a refusal, of 3, 14 or 15, the slice keeps what it holds.
+pub fn write_numbered(cells: &[u64; CELLS], table: Table, text: &mut [u8]) -> Written
+    requires { ⌜ HoldsNodes (now cells) table ⌝ }
     ensures answer { λ r. ⌜ r ≡ written-of table (length (now (text .entry))) ⌝ }
     ensures text { λ _. ⌜ now (text .exit) ≡ text-slice table (now (text .entry)) ⌝ }
 {
@@ -219,5 +219,15 @@ pub fn write_requirement(table: Table, text: &mut [u8]) -> Written
     if (TOO_LARGE <= measure.nodes) | (TOO_DEEP <= measure.enclosings) {
         return refuse(14);
     }
-    write_table(table, text)
+    write_table(cells, table, text)
+}
+
+// The same of a table alone.
+pub fn write_requirement(table: Table, text: &mut [u8]) -> Written
+    ensures answer { λ r. ⌜ r ≡ written-of table (length (now (text .entry))) ⌝ }
+    ensures text { λ _. ⌜ now (text .exit) ≡ text-slice table (now (text .entry)) ⌝ }
+{
+    let nodes = table.nodes;
+    let cells = building::cells_of(nodes);
+    write_numbered(&cells, table, text)
 }

@@ -1,25 +1,22 @@
--- A refusal is handed back at once. Else what was read is what is written, its table as flat numbers.
+-- A refusal is handed back at once. Else the numbers that were read are what is written.
 -- Assumes nothing.
-use mathlib.Core.Path.{refl}
+use mathlib.Core.Path.{refl, sym, _∙_}
+use Rattle.requirements.proofs.Wholes.{numbers-long}
 use Rattle.varmityep.proofs.Handed.{kept}
 use borrow.Author.Needs.{needs}
 use Rattle.varmityep.proofs.varmityep_requirement.Statement.{statement}
 use Rattle.varmityep.proofs.varmityep_requirement.Tie as tie
 
-read-requirement-requires : tie.Need-read-requirement-requires
-read-requirement-requires c κs = search needs
+read-numbers-requires : tie.Need-read-numbers-requires
+read-numbers-requires c κs = search needs
 
 returns : tie.Need-returns
 returns c =
-    let s = c .before .before .read-requirement .ensures in
-    let n = rw s at (c .if1 .taken) in
-    (rw s, (kept _ _ _ n, kept _ _ _ n))
-
-cells-of-requires : tie.Need-cells-of-requires
-cells-of-requires c κs = search needs
+    let n = c .before .before .read-numbers .ensures in
+    (n .refusal, (kept _ _ _ (λ z. c .if1 .taken (n .refusal ∙ z)), kept _ _ _ (λ z. c .if1 .taken (n .refusal ∙ z))))
 
 slice-aggregate-write-numbers : tie.Need-slice-aggregate-write-numbers
-slice-aggregate-write-numbers c = search needs
+slice-aggregate-write-numbers c = let l = numbers-long _ (c .before .before .before .read-numbers .ensures) (c .before .if1 .left) in search needs
 
 write-numbers-requires : tie.Need-write-numbers-requires
 write-numbers-requires c κs = search needs
@@ -38,20 +35,16 @@ same-length-2 c = search needs
 
 returns-2 : tie.Need-returns-2
 returns-2 c =
-    let w = c .before .before in
-    let v = w .before .before .before .before .before in
-    let k = v .before .before .before in
-    let z = k .before .before .before in
-    let s = z .before .before .read-requirement .ensures in
-    rw (rw s at (z .if1 .left)) (refl, (rw (k .cells-of .ensures, s) at (v .write-numbers .ensures), rw s at (w .write-numbers2 .ensures)))
+    let n = c .before .before .before .before .before .before .before .before .before .before .before .before .read-numbers .ensures in
+    let z = c .before .before .before .before .before .before .before .before .before .before .if1 .left in
+    rw (sym (n .refusal) ∙ z) (refl, (rw (n .numbers z) at (c .before .before .before .before .before .before .before .write-numbers .ensures), rw (n .count z) at (c .before .before .write-numbers2 .ensures)))
 
 pub varmityep-requirement-spec : {M : Type 1} → statement M
 varmityep-requirement-spec =
     tie.close
     (tie.spec
-    read-requirement-requires
+    read-numbers-requires
     returns
-    cells-of-requires
     slice-aggregate-write-numbers
     write-numbers-requires
     slice-aggregate-write-numbers-2

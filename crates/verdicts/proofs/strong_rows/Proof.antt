@@ -1,7 +1,7 @@
 -- After r turns the first r rows are filled.
 -- Assumes nothing.
 use mathlib.Core.Path.{_≡_, refl, _∙_}
-use Prim.Native.Nat.{_*_, _-_, _≤_}
+use Prim.Native.Nat.{_-_, _≤_}
 use native.Mathlib.Omega.{arith}
 use lib.ListN.{length}
 use Rattle.lists.specs.Fill.{fill-rows}
@@ -13,35 +13,43 @@ use Rattle.verdicts.proofs.strong_rows.Tie as tie
 use Rattle.recordings.specs.Card.{card}
 
 abbrev Inv-loop : tie.InvT-loop
-Inv-loop table setup times values step work₀ end row₀ work row =
-    (end ≡ 2 * table .count) × (row ≤ end) × (work ≡ fill-rows (length times) (row-value (card setup times values) step (table .nodes)) row work₀)
+Inv-loop setup times values step work₀ end nodes row₀ work row = (row ≤ end) × (work ≡ fill-rows (length times) (row-value (card setup times values) step nodes) row work₀)
 
 abbrev μ-loop : tie.MeasureT-loop
-μ-loop table setup times values step work₀ end row₀ work row = end - row
+μ-loop setup times values step work₀ end nodes row₀ work row = end - row
 
 mul-end : tie.Need-mul-end Inv-loop μ-loop
 mul-end c = omega (arith, c .before .before .pre .sound .ruled .few-nodes)
 
 loop-holds : tie.Need-loop-holds Inv-loop μ-loop
-loop-holds c = (refl, omega arith, rows-none _ _ _)
+loop-holds c = (omega arith, rows-none _ _ _)
+
+mul-node : tie.Need-mul-node Inv-loop μ-loop
+mul-node c = omega (arith, c .before .before .before .before .before .pre .sound .ruled .few-nodes, c .loop-test .taken)
+
+array-copy-out-node : tie.Need-array-copy-out-node Inv-loop μ-loop
+array-copy-out-node c = omega (arith, c .before .before .before .before .before .pre .sound .ruled .few-nodes, c .loop-test .taken)
 
 strong-row-requires : tie.Need-strong-row-requires Inv-loop μ-loop
-strong-row-requires c κs = so-far _ (c .before .before .before .before .before .pre) _ (c .before .before .loop .inv .2) (omega (arith, c .before .before .loop .inv .0))
+strong-row-requires c κs = let s = c .before .before .before .before .before .before .before in (s .args .table, record { filled = so-far _ (s .pre) _ (c .before .before .before .loop .inv .1) (c .before .before .loop-test .taken); node-is = refl })
 
 add-row : tie.Need-add-row Inv-loop μ-loop
-add-row c = omega (arith, c .before .before .before .before .before .before .before .pre .sound .ruled .few-nodes, c .before .before .before .before .loop .inv .0)
+add-row c = omega (arith, c .before .before .before .before .before .before .before .before .before .pre .sound .ruled .few-nodes, c .before .before .before .before .loop-test .taken)
 
 loop-less : tie.Need-loop-less Inv-loop μ-loop
 loop-less c = omega arith
 
 loop-again : tie.Need-loop-again Inv-loop μ-loop
-loop-again c = (c .before .before .before .before .loop .inv .0, omega arith, c .before .strong-row .ensures ∙ rows-next _ _ _ _ (c .before .before .before .before .loop .inv .2))
+unfolding strong-row-requires
+loop-again c =
+    let d = strong-row-requires (c .before .before) (c .before .before .before .before .before .before .before .before .before .κs) in
+    (omega (arith, c .before .before .before .before .loop-test .taken), c .before .strong-row .ensures (d .0) (d .1) ∙ rows-next _ _ _ _ (c .before .before .before .before .before .loop .inv .1))
 
 same-length : tie.Need-same-length Inv-loop μ-loop
-same-length c = kept-length _ (c .before .before .before .before .pre) _ (c .before .loop .inv .2)
+same-length c = kept-length _ (c .before .before .before .before .before .pre) _ (c .before .loop .inv .1)
 
 returns : tie.Need-returns Inv-loop μ-loop
-returns c = rows-to _ _ _ (omega arith) (c .before .loop .inv .2)
+returns c = rows-to _ _ _ (omega (arith, c .before .loop .inv .0, c .loop-test .left)) (c .before .loop .inv .1)
 
 pub strong-rows-spec : {M : Type 1} → statement M
 strong-rows-spec =
@@ -51,6 +59,8 @@ strong-rows-spec =
     μ-loop
     mul-end
     loop-holds
+    mul-node
+    array-copy-out-node
     strong-row-requires
     add-row
     loop-less

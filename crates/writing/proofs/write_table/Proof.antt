@@ -14,14 +14,6 @@ use Rattle.writing.proofs.Arrays.{text-printed}
 use borrow.Author.Needs.{needs}
 use Rattle.writing.proofs.write_table.Statement.{statement}
 use Rattle.writing.proofs.write_table.Tie as tie
-use Rattle.writing.proofs.write_table.Reads as reads
-use Rattle.writing.proofs.write_table.Lts as lts
-use Rattle.building.proofs.cells_of.Reads as cells-of-reads
-use Rattle.writing.proofs.refuse.Reads as refuse-reads
-use Rattle.writing.proofs.write_node.Reads as write-node-reads
-
-cells-of-requires : tie.Need-cells-of-requires
-cells-of-requires c κs = search needs
 
 sub-write-node : tie.Need-sub-write-node
 sub-write-node c = search needs
@@ -30,16 +22,16 @@ slice-aggregate-write-node : tie.Need-slice-aggregate-write-node
 slice-aggregate-write-node c = search needs
 
 write-node-requires : tie.Need-write-node-requires
-write-node-requires c κs = laid-ruled (c .before .before .before .before .before .before .args .table) _ (c .before .before .before .cells-of .ensures) (search needs) (c .before .before .before .before .before .before .pre .0)
+write-node-requires c κs = let a = c .before .before .before in laid-ruled (a .args .table) (now (a .args .cells)) (a .pre .0) (a .pre .1 .0)
 
 refuse-requires : tie.Need-refuse-requires
 refuse-requires c κs = search needs
 
 returns : tie.Need-returns
 returns c =
-    let a = c .before .before .before .before .before .before .before .before .before .before in
-    let w = text-printed (a .args .table) _ (c .before .before .before .before .before .before .before .cells-of .ensures) (search needs) (a .pre .0) (a .pre .1) (c .before .before .before .write-node .ensures) in
-    let e = is-fifteen (a .args .table) (length (now (a .args .text))) (a .pre .0) (a .pre .1) (rw (w .0) at (c .before .if1 .taken)) in
+    let a = c .before .before .before .before .before .before .before in
+    let w = text-printed (a .args .table) (now (a .args .cells)) (a .pre .0) (a .pre .1 .0) (a .pre .1 .1) (c .before .before .before .write-node .ensures) in
+    let e = is-fifteen (a .args .table) (length (now (a .args .text))) (a .pre .1 .0) (a .pre .1 .1) (rw (w .0) at (c .before .if1 .taken)) in
     (rw e (c .refuse .ensures), rw e)
 
 array-share-prefix-bytes : tie.Need-array-share-prefix-bytes
@@ -56,17 +48,16 @@ same-length c = search needs
 
 returns-2 : tie.Need-returns-2
 returns-2 c =
-    let a = c .before .before .before .before .before .before .before .before .before .before .before .before .before .before in
-    let w = text-printed (a .args .table) _ (c .before .before .before .before .before .before .before .before .before .before .before .cells-of .ensures) (search needs) (a .pre .0) (a .pre .1) (c .before .before .before .before .before .before .before .write-node .ensures) in
+    let a = c .before .before .before .before .before .before .before .before .before .before .before in
+    let w = text-printed (a .args .table) (now (a .args .cells)) (a .pre .0) (a .pre .1 .0) (a .pre .1 .1) (c .before .before .before .before .before .before .before .write-node .ensures) in
     let h : length (table-text (a .args .table)) ≤ length (now (a .args .text)) = rw (w .0) at (c .before .before .before .before .before .if1 .left) in
-    let e = is-none (a .args .table) (length (now (a .args .text))) (a .pre .0) (a .pre .1) h in
+    let e = is-none (a .args .table) (length (now (a .args .text))) (a .pre .1 .0) (a .pre .1 .1) h in
     (rw (e, w .0), rw e ((rw (w .1) at (c .before .before .write-bytes .ensures)) ∙ written-in-front (table-text (a .args .table)) (now (a .args .text)) h))
 
 pub write-table-spec : {M : Type 1} → statement M
 write-table-spec =
     tie.close
     (tie.spec
-    cells-of-requires
     sub-write-node
     slice-aggregate-write-node
     write-node-requires
