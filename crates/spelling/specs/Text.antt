@@ -72,7 +72,7 @@ closing-of mark = closes (ltb 0 mark)
 abbrev pub end-text : Span → List ℕ
 end-text w = cond (eqb (w .hi) NO-END) (bytes "*]") (decimal (w .hi) ++ closing-of (w .openhi))
 
--- a window as it is read, nothing for a kind that has none
+-- the text of a window, nothing for a kind that has none
 abbrev pub window-text : Bool → Span → List ℕ
 window-text true w = opening-of (w .openlo) ++ (decimal (w .lo) ++ (bytes "," ++ end-text w))
 window-text false w = []
