@@ -10,7 +10,7 @@ ghost use lib.ListN.{length};
 ghost use Rattle.grammar.specs.Reading.{leaf-at};
 ghost use Rattle.tables.specs.Tree.{NODES, no-span};
 ghost use Rattle.building.specs.Nodes.{node, empty-table};
-ghost use Rattle.building.specs.Storing.{cells-of, step-of, leaf-cells, pushed-step, pushed-cells, parent-step, wrap-cells, join-cells, closed-step, WIDTH, node-read, node-from, table-from};
+ghost use Rattle.building.specs.Storing.{cells-of, step-of, leaf-cells, pushed-step, pushed-cells, parent-step, wrap-cells, join-cells, closed-step, WIDTH, CELLS, node-read, node-from, table-from};
 
 // A node has so many numbers.
 pub const WIDTH: usize = 7;
@@ -133,9 +133,8 @@ pub fn empty_table() -> Table
             openhi: 0,
         },
     };
-    let nodes = [none; tables::NODES];
     Table {
-        nodes: nodes,
+        nodes: [none; tables::NODES],
         count: 0,
     }
 }
@@ -179,7 +178,8 @@ pub fn cells_of(nodes: [Node; tables::NODES]) -> [u64; CELLS]
 }
 
 // The table of the first `count` nodes; the empty one where there cannot be so many.
-pub fn table_from(cells: &[u64; CELLS], count: usize) -> Table
+pub fn table_from(cells: &[u64], count: usize) -> Table
+    requires { ⌜ CELLS ≤ length (now cells) ⌝ }
     ensures { λ r. ⌜ r ≡ table-from (now (cells .entry)) count ⌝ }
 {
     if tables::NODES < count {
@@ -187,7 +187,7 @@ pub fn table_from(cells: &[u64; CELLS], count: usize) -> Table
     }
     let mut table = empty_table();
     for k in 0..count {
-        table.nodes[k] = node_at(cells, k);
+        table.nodes[k] = read_node(cells, WIDTH * k);
     }
     table.count = count;
     table

@@ -64,10 +64,13 @@ fn value_at(values: &[i64], at: usize) -> i64
     0
 }
 
-// The table of nodes' numbers, copied over zeros.
+// The table of nodes' numbers. A slice that is too short for all of a table's is copied over zeros first.
 pub fn table_from(numbers: &[u64], count: u64) -> Table
     ensures { λ r. ⌜ r ≡ table-from (now (numbers .entry)) count ⌝ }
 {
+    if CELLS <= numbers.len() {
+        return building::table_from(numbers, count as usize);
+    }
     let mut padded = [0u64; CELLS];
     write_numbers(numbers, &mut padded);
     building::table_from(&padded, count as usize)

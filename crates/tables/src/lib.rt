@@ -174,30 +174,24 @@ pub fn node_obeys(node: Node, k: usize) -> bool
     (node.kind < KINDS) & (left & (right & ends))
 }
 
-fn nodes_obey(nodes: [Node; NODES], count: usize) -> bool
-    requires { ⌜ count ≤ NODES ⌝ }
-    ensures { λ r. ⌜ r ≡ nodes-obey nodes count ⌝ }
-{
-    let mut ok = true;
-    let mut k = 0;
-    while k < count {
-        let node = nodes[k];
-        let obeys = node_obeys(node, k);
-        ok = ok & obeys;
-        k += 1;
-    }
-    ok
-}
-
-// Refusal 3, of the table alone: 1 to 64 nodes, each of which obeys.
+// Refusal 3, of the table alone: 1 to 64 nodes, each of which obeys. The walk stands here, because a table handed to one more function is copied.
 pub fn table_obeys(table: Table) -> bool
     ensures { λ r. ⌜ r ≡ table-obeys table ⌝ }
 {
     let count = table.count;
+    if count == 0 {
+        return false;
+    }
     if NODES < count {
         return false;
     }
-    let nodes = table.nodes;
-    let each = nodes_obey(nodes, count);
-    (1 <= count) & each
+    let mut each = true;
+    let mut k = 0;
+    while k < count {
+        let node = table.nodes[k];
+        let obeys = node_obeys(node, k);
+        each = each & obeys;
+        k += 1;
+    }
+    each
 }

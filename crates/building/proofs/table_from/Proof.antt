@@ -17,7 +17,7 @@ use Rattle.building.proofs.table_from.Tie as tie
 use Rattle.building.proofs.table_from.Reads as reads
 use Rattle.building.proofs.table_from.Lts as lts
 use Rattle.building.proofs.empty_table.Reads as empty-table-reads
-use Rattle.building.proofs.node_at.Reads as node-at-reads
+use Rattle.building.proofs.read_node.Reads as read-node-reads
 
 abbrev Inv-loop : tie.InvT-loop
 Inv-loop cells count table₀ k₀ table k = (k ≤ count) × (table .nodes ≡ nodes-from cells k)
@@ -38,11 +38,14 @@ loop-holds : tie.Need-loop-holds Inv-loop μ-loop
 unfolding nodes-from
 loop-holds c = (omega arith, ap (λ (t : Table). t .nodes) (c .empty-table2 .ensures))
 
-node-at-requires : tie.Need-node-at-requires Inv-loop μ-loop
-node-at-requires c κs = search needs
+mul-read-node : tie.Need-mul-read-node Inv-loop μ-loop
+mul-read-node c = search needs
 
-mul-t9 : tie.Need-mul-t9 Inv-loop μ-loop
-mul-t9 c = search needs
+read-node-requires : tie.Need-read-node-requires Inv-loop μ-loop
+read-node-requires c κs = search needs
+
+mul-t10 : tie.Need-mul-t10 Inv-loop μ-loop
+mul-t10 c = search needs
 
 element-set-from-table : tie.Need-element-set-from-table Inv-loop μ-loop
 element-set-from-table c = search needs
@@ -55,11 +58,11 @@ loop-less c = search needs
 
 loop-again : tie.Need-loop-again Inv-loop μ-loop
 unfolding nodes-from
-loop-again c = (search needs, rw (add-one, c .before .before .loop .inv .1, c .node-at .ensures))
+loop-again c = (search needs, rw (add-one, c .before .before .loop .inv .1, c .read-node .ensures))
 
 returns-2 : tie.Need-returns-2 Inv-loop μ-loop
 returns-2 c =
-    let a = c .before .before .before .before .args in
+    let a = c .before .before .before .before .before .args in
     let e : c .before .loop .k ≡ a .count = omega arith in
     rw (le-leb (a .count) NODES (c .before .before .before .if1 .left))
     (ap {B = Table} (λ (ns : List Node). record { nodes = ns; count = a .count }) (c .before .loop .inv .1 ∙ ap (nodes-from (now (a .cells))) e))
@@ -74,8 +77,9 @@ table-from-spec =
     returns
     empty-table-requires-2
     loop-holds
-    node-at-requires
-    mul-t9
+    mul-read-node
+    read-node-requires
+    mul-t10
     element-set-from-table
     add-k
     loop-less

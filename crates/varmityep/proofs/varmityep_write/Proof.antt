@@ -14,6 +14,9 @@ slice-aggregate-write-numbers c = search needs
 write-numbers-requires : tie.Need-write-numbers-requires
 write-numbers-requires c κs = search needs
 
+slice-aggregate-table-from : tie.Need-slice-aggregate-table-from
+slice-aggregate-table-from c = search needs
+
 table-from-requires : tie.Need-table-from-requires
 table-from-requires c κs = search needs
 
@@ -36,6 +39,7 @@ varmityep-write-spec =
     (tie.spec
     slice-aggregate-write-numbers
     write-numbers-requires
+    slice-aggregate-table-from
     table-from-requires
     write-numbered-requires
     same-length
