@@ -1,5 +1,4 @@
-//! Times the proved margin and verdict beside plain Rust of the same algorithm, checks that every result and every cell
-//! is equal, and prints the ratios.
+//! Times the proved margin and verdict beside plain Rust of the same algorithm, checks that every result and every cell is equal, and prints the ratios.
 
 mod flat;
 #[path = "../rust/src/names.rs"]
@@ -12,7 +11,7 @@ mod timing;
 
 use flat::{flat_nodes, flat_predicates};
 use names::{Call, ENDS, NODES, RANGES};
-use plain::{ahead, node, opened, Card, Node, Predicate, Range, NO_END};
+use plain::{node, opened, Card, Node, Predicate, Range, NO_END};
 use std::fmt;
 use timing::{best, seconds, times_as_long, Random, Times};
 
@@ -116,8 +115,7 @@ impl fmt::Display for Values {
     }
 }
 
-/// What is timed: a table's margin or its verdict over a recording of two channels, with scales of 1 unless said
-/// otherwise.
+/// What is timed: a table's margin or its verdict over a recording of two channels, with scales of 1 unless said otherwise.
 struct Case {
     name: String,
     nodes: Vec<Node>,
@@ -148,8 +146,7 @@ impl Case {
         }
     }
 
-    /// One round: the library and plain Rust in turn, several times. They must answer the same and leave the same
-    /// cells.
+    /// One round: the library and plain Rust in turn, several times. They must answer the same and leave the same cells.
     fn time(&mut self, predicates: &[Predicate; 16]) {
         let (nodes, f) = (&self.nodes[..], flat(&self.nodes, predicates));
         let card = Card {
@@ -193,18 +190,13 @@ impl Case {
     }
 }
 
-/// Two predicates and one operator with a window over them: one with two operands over both, one with a single operand
-/// over the second.
+/// Two predicates and one operator with a window over them: until or release of both, eventually or always of the second.
 fn one_operator(kind: u64, window: &str) -> (String, [Node; 3]) {
     let (letter, left, right) = match kind {
         5 => ("p0U", 0, 1),
         6 => ("p0R", 0, 1),
         7 => ("F", 1, 0),
-        8 => ("G", 1, 0),
-        9 => ("p0S", 0, 1),
-        10 => ("p0Q", 0, 1),
-        11 => ("O", 1, 0),
-        _ => ("H", 1, 0),
+        _ => ("G", 1, 0),
     };
     let read = plain_sheets::window(window.as_bytes());
     let ([lo, hi, open_lo, open_hi], _) = read.expect("the text is a window");
@@ -212,15 +204,14 @@ fn one_operator(kind: u64, window: &str) -> (String, [Node; 3]) {
     (format!("{letter}{window}p1"), [node(1, 0, 0, 0, 0), node(1, 1, 0, 0, 0), operator])
 }
 
-/// 64 nodes: four predicates, and over them the kinds from "not" to the last one in turn, with random children and
-/// short windows.
-fn mixed_table(last: u64, random: &mut Random) -> Vec<Node> {
+/// 64 nodes: four predicates, and over them every kind in turn with random children and short windows.
+fn mixed_table(random: &mut Random) -> Vec<Node> {
     let mut nodes: Vec<Node> = (0..4).map(|p| node(1, p, 0, 0, 0)).collect();
-    for k in 4..64u64 {
-        let kind = 2 + k % (last - 1);
-        let (left, right) = (random.next(k) as usize, random.next(k) as usize);
+    for k in 4..64 {
+        let (kind, left, right) =
+            (2 + k as u64 % 7, random.next(k as u64) as usize, random.next(k as u64) as usize);
         let lo = random.next(20);
-        nodes.push(match ahead(kind) {
+        nodes.push(match kind {
             2 => node(2, left, 0, 0, 0),
             3 | 4 => node(kind, left, right, 0, 0),
             5 | 6 => node(kind, left, right, lo, lo + random.next(100)),
@@ -230,8 +221,7 @@ fn mixed_table(last: u64, random: &mut Random) -> Vec<Node> {
     nodes
 }
 
-/// 64 nodes: a predicate, and over it by turns `F[0,*]` and `G[0,*]`. Each over the one before would be the same number
-/// everywhere from the third node on.
+/// 64 nodes: a predicate, and over it by turns `F[0,*]` and `G[0,*]`. Each over the one before would be the same number everywhere from the third node on.
 fn endless_table() -> Vec<Node> {
     (0..64)
         .map(|k| if k == 0 { node(1, 0, 0, 0, 0) } else { node(7 + k % 2, 0, 0, 0, NO_END) })
@@ -242,8 +232,7 @@ const UNTIL_WINDOWS: [&str; 5] = ["[0,*]", "[10,600]", "[1800,3600]", "[1800,*]"
 const EVENTUALLY_WINDOWS: [&str; 4] = ["[0,*]", "[10,600]", "[1800,3600]", "[0,0]"];
 /// Before the hour is over, and after its first half.
 const MARKED_WINDOWS: [&str; 2] = ["[0,3600)", "(1800,3600]"];
-/// With 7 everywhere left is 5 and right is -1, so that until and since never settle, release and trigger at once; with
-/// 2 everywhere it is the other way round.
+/// With 7 everywhere left is 5 and right is -1, so that until never settles and release at once; with 2 everywhere it is the other way round.
 const UNTIL_VALUES: [Values; 3] = [Values::Equal(7), Values::Equal(2), Values::Random];
 const EVENTUALLY_VALUES: [Values; 4] =
     [Values::Equal(7), Values::Rising, Values::Falling, Values::Random];
@@ -269,24 +258,13 @@ fn operator_cases(
     cases
 }
 
-/// The margin or the verdict of 64 nodes.
-fn table_case(
-    verdict: bool,
-    what: &str,
-    nodes: &[Node],
-    rows: usize,
-    values: Values,
-    random: &mut Random,
-) -> Case {
-    let asked = if verdict { "verdict" } else { "margin" };
-    Case { verdict, ..Case::new(&format!("64 {what}, {asked}"), nodes, rows, values, random) }
-}
-
+/// Margin and verdict of 64 nodes.
 fn table_cases(random: &mut Random) -> Vec<Case> {
-    let (mixed, endless) = (mixed_table(8, random), endless_table());
+    let (mixed, endless) = (mixed_table(random), endless_table());
     let marked: Vec<Node> = mixed.iter().map(opened).collect();
     let mut case = |verdict: bool, what: &str, nodes: &[Node], rows: usize, values: Values| {
-        table_case(verdict, what, nodes, rows, values, random)
+        let asked = if verdict { "verdict" } else { "margin" };
+        Case { verdict, ..Case::new(&format!("64 {what}, {asked}"), nodes, rows, values, random) }
     };
     let mut cases = Vec::new();
     for verdict in [false, true] {
@@ -305,16 +283,6 @@ fn table_cases(random: &mut Random) -> Vec<Case> {
     let marked = |verdict| case(verdict, "mixed nodes with marks", &marked, 4_096, Values::Random);
     cases.extend([false, true].map(marked));
     cases
-}
-
-/// A third of the nodes look back.
-fn past_table_cases(random: &mut Random) -> Vec<Case> {
-    let mixed = mixed_table(12, random);
-    let asked = [(false, 2_048), (false, 4_096), (true, 2_048), (true, 4_096)];
-    let what = "mixed nodes with past kinds";
-    asked
-        .map(|(verdict, rows)| table_case(verdict, what, &mixed, rows, Values::Random, random))
-        .into()
 }
 
 fn predicates() -> [Predicate; 16] {
@@ -346,7 +314,7 @@ fn print_growth_of_until(cases: &[Case]) {
     }
 }
 
-fn print_growth_of_eventually(letters: &str, cases: &[Case]) {
+fn print_growth_of_eventually(cases: &[Case]) {
     let growths = growths(cases);
     let largest = |of: &str| {
         growths
@@ -358,12 +326,12 @@ fn print_growth_of_eventually(letters: &str, cases: &[Case]) {
     for window in EVENTUALLY_WINDOWS {
         let (name, growth) = largest(window);
         println!(
-            "{letters}, {window}: 4096 rows take at most {growth:.2} times as long as 2048, {name}"
+            "F and G, {window}: 4096 rows take at most {growth:.2} times as long as 2048, {name}"
         );
     }
     let (name, growth) = largest("");
     println!(
-        "{letters}: 4096 rows take at most {growth:.2} times as long as 2048 (2.4 wanted), {name}"
+        "F and G: 4096 rows take at most {growth:.2} times as long as 2048 (2.4 wanted), {name}"
     );
 }
 
@@ -386,30 +354,24 @@ fn print_tables(cases: &[Case]) {
 
 fn main() {
     let (random, predicates) = (&mut Random(12345), predicates());
-    let mut groups = [
-        operator_cases(&[5, 6], &UNTIL_WINDOWS, &UNTIL_VALUES, random),
-        operator_cases(&[7, 8], &EVENTUALLY_WINDOWS, &EVENTUALLY_VALUES, random),
-        table_cases(random),
-        // behind the others, so that their random values are the same as without these
-        operator_cases(&[5, 6, 7, 8], &MARKED_WINDOWS, &[Values::Random], random),
-        operator_cases(&[9, 10], &UNTIL_WINDOWS, &UNTIL_VALUES, random),
-        operator_cases(&[11, 12], &EVENTUALLY_WINDOWS, &EVENTUALLY_VALUES, random),
-        past_table_cases(random),
-    ];
+    let mut untils = operator_cases(&[5, 6], &UNTIL_WINDOWS, &UNTIL_VALUES, random);
+    let mut eventuallies = operator_cases(&[7, 8], &EVENTUALLY_WINDOWS, &EVENTUALLY_VALUES, random);
+    let mut tables = table_cases(random);
+    // last, so that the others' random values are the same as without these
+    let mut marked = operator_cases(&[5, 6, 7, 8], &MARKED_WINDOWS, &[Values::Random], random);
     // rounds over all cases, so that a slow spell of the machine does not fall on one of them alone
     for _ in 0..9 {
-        groups.iter_mut().flatten().for_each(|case| case.time(&predicates));
+        let all = untils.iter_mut().chain(&mut eventuallies).chain(&mut tables).chain(&mut marked);
+        all.for_each(|case| case.time(&predicates));
     }
-    groups.iter().flatten().for_each(Case::print);
-    let [untils, eventuallies, tables, _, sinces, onces, past_tables] = &groups;
-    print_growth_of_until(untils);
-    print_growth_of_until(sinces);
-    print_growth_of_eventually("F and G", eventuallies);
-    print_growth_of_eventually("O and H", onces);
-    print_tables(tables);
-    print_tables(past_tables);
-    let by_ratio = |a: &&Case, b: &&Case| a.seconds.ratio().total_cmp(&b.seconds.ratio());
-    let largest = groups.iter().flatten().max_by(by_ratio).expect("there are cases");
+    let all = || untils.iter().chain(&eventuallies).chain(&tables).chain(&marked);
+    all().for_each(Case::print);
+    print_growth_of_until(&untils);
+    print_growth_of_eventually(&eventuallies);
+    print_tables(&tables);
+    let largest = all()
+        .max_by(|a, b| a.seconds.ratio().total_cmp(&b.seconds.ratio()))
+        .expect("there are cases");
     println!(
         "largest ratio to plain Rust: {:.2} (at most 1.1 wanted), {}, {} rows",
         largest.seconds.ratio(),

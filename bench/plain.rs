@@ -88,8 +88,7 @@ fn joined(row: &[i64], largest: bool, value: i64) -> i64 {
 }
 
 /// The extremum over a source row's places from `low` up to, not including, `high`, which both only move forward.
-/// Cell j of the node's own row, `low` ≤ j < `mid`, holds the extremum over j up to `mid`, and `tail` is that over
-/// `mid` up to `high`.
+/// Cell j of the node's own row, `low` ≤ j < `mid`, holds the extremum over j up to `mid`, and `tail` is that over `mid` up to `high`.
 struct Slide {
     mid: usize,
     high: usize,
@@ -145,8 +144,7 @@ fn bound_at(l: &[i64], r: &[i64], largest: bool, mut run: i64, first: usize, end
 /// From how many seconds on, and before how many.
 type Window = (u64, Option<u64>);
 
-/// An operator with a window. Eventually and always, once and historically have no left row.
-#[derive(Clone, Copy)]
+/// An operator with a window. Eventually and always have no left row.
 struct Temporal {
     largest: bool,
     window: Window,
@@ -154,7 +152,7 @@ struct Temporal {
     right: usize,
 }
 
-/// Fills the own row of an operator with a window from the rows before it, looking ahead.
+/// Fills the own row of an operator with a window from the rows before it.
 type TemporalRow = fn(before: &[i64], own: &mut [i64], times: &[u64], operator: Temporal);
 
 fn temporal_row(before: &[i64], own: &mut [i64], times: &[u64], operator: Temporal) {
@@ -202,36 +200,8 @@ fn temporal_row_afresh(before: &[i64], own: &mut [i64], times: &[u64], operator:
     }
 }
 
-/// The times seen from the last sample: place j is that of the sample j before it.
-fn mirrored(times: &[u64]) -> Vec<u64> {
-    let last = times.last().copied().unwrap_or(0);
-    times.iter().rev().map(|time| last - time).collect()
-}
-
-/// Turns round the rows that an operator reads; a row that it reads twice is turned once.
-fn turn_operands(before: &mut [i64], rows: usize, operator: Temporal) {
-    let mut turn = |q: usize| before[q * rows..(q + 1) * rows].reverse();
-    turn(operator.right);
-    if let Some(left) = operator.left.filter(|&left| left != operator.right) {
-        turn(left);
-    }
-}
-
 fn is_timed(kind: u64) -> bool {
-    (5..=12).contains(&kind)
-}
-
-pub fn looks_back(kind: u64) -> bool {
-    (9..=12).contains(&kind)
-}
-
-/// The kind that looks ahead as this one looks back; one that does not look back is its own.
-pub fn ahead(kind: u64) -> u64 {
-    if looks_back(kind) {
-        kind - 4
-    } else {
-        kind
-    }
+    (5..=8).contains(&kind)
 }
 
 /// Whether a window is within its limits and something is left of it. Nothing is added to an end that may be too large.
@@ -249,13 +219,13 @@ pub fn obeys(node: &Node, k: usize) -> bool {
     let Node { kind, left, right, lo, hi, open_lo, open_hi } = *node;
     let left = match kind {
         1 => left <= 15,
-        2..=12 => left < k,
+        2..=8 => left < k,
         _ => left == 0,
     };
-    let right = if (3..=6).contains(&ahead(kind)) { right < k } else { right == 0 };
+    let right = if (3..=6).contains(&kind) { right < k } else { right == 0 };
     let window =
         if is_timed(kind) { window_obeys(node) } else { [lo, hi, open_lo, open_hi] == [0; 4] };
-    kind <= 12 && left && right && window
+    kind <= 8 && left && right && window
 }
 
 fn accepted(nodes: &[Node], card: &Card) -> bool {
@@ -302,63 +272,42 @@ struct Reading {
     right: usize,
 }
 
-/// What the rows of one call are filled by.
-struct Filling<'a> {
+/// The row of any kind but "not", or of its negation, from the rows before it.
+fn node_row(
+    card: &Card,
+    node: &Node,
+    reading: Reading,
     temporal: TemporalRow,
-    card: &'a Card<'a>,
-    /// Empty where no node looks back.
-    mirrored: Vec<u64>,
-}
-
-impl<'a> Filling<'a> {
-    fn new(temporal: TemporalRow, nodes: &[Node], card: &'a Card<'a>) -> Filling<'a> {
-        let back = nodes.iter().any(|node| looks_back(node.kind));
-        Filling { temporal, card, mirrored: if back { mirrored(card.times) } else { Vec::new() } }
-    }
-
-    /// The row of any kind but "not", or of its negation, from the rows before it, which stay as they are.
-    fn row(&self, node: &Node, reading: Reading, before: &mut [i64], own: &mut [i64]) {
-        let Reading { affirmed, window, left, right } = reading;
-        let (n, kind) = (own.len(), ahead(node.kind));
-        let row = |q: usize| &before[q * n..q * n + n];
-        let largest = affirmed == matches!(kind, 4 | 5 | 7);
-        match kind {
-            0 => own.fill(if affirmed { TOP } else { -TOP }),
-            1 => self.predicate_row(node.left, affirmed, own),
-            2 => own.copy_from_slice(row(left)),
-            3 | 4 => {
-                let (l, r) = (row(left), row(right));
-                for i in 0..n {
-                    own[i] = extreme(largest, l[i], r[i]);
-                }
-            }
-            _ => {
-                let (left, right) = if kind < 7 { (Some(left), right) } else { (None, left) };
-                let operator = Temporal { largest, window, left, right };
-                self.timed_row(looks_back(node.kind), operator, before, own);
+    before: &[i64],
+    own: &mut [i64],
+) {
+    let Reading { affirmed, window, left, right } = reading;
+    let n = card.times.len();
+    let row = |q: usize| &before[q * n..q * n + n];
+    let largest = affirmed == matches!(node.kind, 4 | 5 | 7);
+    match node.kind {
+        0 => own.fill(if affirmed { TOP } else { -TOP }),
+        1 => {
+            let p = card.predicates[node.left];
+            let scale = card.scales[p.channel] as i64;
+            for i in 0..n {
+                let d = distance(p.range, scale, card.values[i * card.channels + p.channel]);
+                own[i] = if affirmed { d } else { -d };
             }
         }
-    }
-
-    fn predicate_row(&self, p: usize, affirmed: bool, own: &mut [i64]) {
-        let Card { predicates, channels, scales, values, .. } = *self.card;
-        let Predicate { channel, range } = predicates[p];
-        let scale = scales[channel] as i64;
-        for (i, cell) in own.iter_mut().enumerate() {
-            let d = distance(range, scale, values[i * channels + channel]);
-            *cell = if affirmed { d } else { -d };
+        2 => own.copy_from_slice(row(left)),
+        3 | 4 => {
+            let (l, r) = (row(left), row(right));
+            for i in 0..n {
+                own[i] = extreme(largest, l[i], r[i]);
+            }
         }
-    }
-
-    /// Looking back is looking ahead over the recording seen from its end.
-    fn timed_row(&self, back: bool, operator: Temporal, before: &mut [i64], own: &mut [i64]) {
-        if !back {
-            return (self.temporal)(before, own, self.card.times, operator);
+        5 | 6 => {
+            temporal(before, own, card.times, Temporal { largest, window, left: Some(left), right })
         }
-        turn_operands(before, own.len(), operator);
-        (self.temporal)(before, own, &self.mirrored, operator);
-        turn_operands(before, own.len(), operator);
-        own.reverse();
+        _ => {
+            temporal(before, own, card.times, Temporal { largest, window, left: None, right: left })
+        }
     }
 }
 
@@ -404,7 +353,6 @@ fn margin_by(temporal: TemporalRow, nodes: &[Node], card: &Card, work: &mut [i64
     if !accepted(nodes, card) || work.len() < nodes.len() * n {
         return None;
     }
-    let filling = Filling::new(temporal, nodes, card);
     for (k, node) in nodes.iter().enumerate() {
         let (before, own) = work.split_at_mut(k * n);
         let own = &mut own[..n];
@@ -419,7 +367,7 @@ fn margin_by(temporal: TemporalRow, nodes: &[Node], card: &Card, work: &mut [i64
                 left: node.left,
                 right: node.right,
             };
-            filling.row(node, reading, before, own);
+            node_row(card, node, reading, temporal, before, own);
         }
     }
     Some(work[(nodes.len() - 1) * n])
@@ -471,15 +419,13 @@ fn verdict_by(
     if !accepted(nodes, card) || work.len() < 2 * nodes.len() * n || !sampled(card, step, drift) {
         return None;
     }
-    let filling = Filling::new(temporal, nodes, card);
     for row in 0..2 * nodes.len() {
         let (node, affirmed) = (&nodes[row / 2], row % 2 == 0);
         let (before, own) = work.split_at_mut(row * n);
-        let contracts = affirmed == matches!(ahead(node.kind), 5 | 7);
-        let window = strengthened(contracts, step, window(node));
+        let window = strengthened(affirmed == matches!(node.kind, 5 | 7), step, window(node));
         let left = 2 * node.left + usize::from(affirmed == (node.kind == 2));
         let reading = Reading { affirmed, window, left, right: 2 * node.right + row % 2 };
-        filling.row(node, reading, before, &mut own[..n]);
+        node_row(card, node, reading, temporal, before, &mut own[..n]);
     }
     let root = 2 * (nodes.len() - 1) * n;
     Some((work[root], work[root + n]))

@@ -1,5 +1,4 @@
-//! Sheets, requirement text and rows read and answered in plain Rust, by the algorithm of the proved library: what its
-//! speed is compared with.
+//! Sheets, requirement text and rows read and answered in plain Rust, by the algorithm of the proved library: what its speed is compared with.
 
 use crate::plain::{self, Card, Node, Predicate, Range, LONGEST, NO_END};
 use std::io::Write;
@@ -268,18 +267,12 @@ impl Builder {
                 let (left, rest) = self.unary(rest, depth - 1)?;
                 Some((self.push(2, left, 0, NO_ENDS)?, rest))
             }
-            _ => {
-                let kind = match letter {
-                    b'F' => 7,
-                    b'G' => 8,
-                    b'O' => 11,
-                    b'H' => 12,
-                    _ => return None,
-                };
+            b'F' | b'G' => {
                 let (ends, rest) = window(rest)?;
                 let (left, rest) = self.unary(rest, depth - 1)?;
-                Some((self.push(kind, left, 0, ends)?, rest))
+                Some((self.push(if letter == b'F' { 7 } else { 8 }, left, 0, ends)?, rest))
             }
+            _ => None,
         }
     }
 
@@ -288,8 +281,6 @@ impl Builder {
         let kind = match rest.first() {
             Some(b'U') => 5,
             Some(b'R') => 6,
-            Some(b'S') => 9,
-            Some(b'Q') => 10,
             _ => return Some((left, rest)),
         };
         let (ends, rest) = window(&rest[1..])?;
@@ -340,18 +331,6 @@ pub fn window(text: &[u8]) -> Read<'_, Ends> {
     let (lo, rest) = number(rest, LONGEST)?;
     let ((hi, open_hi), rest) = upper(rest.strip_prefix(b",")?)?;
     (lo + open_lo + open_hi <= hi).then_some(([lo, hi, open_lo, open_hi], rest))
-}
-
-/// The text of a requirement with each operator that has a window looking back instead of ahead.
-pub fn looking_back(text: &str) -> String {
-    let turned = |letter| match letter {
-        'U' => 'S',
-        'R' => 'Q',
-        'F' => 'O',
-        'G' => 'H',
-        other => other,
-    };
-    text.chars().map(turned).collect()
 }
 
 pub fn requirement(text: &[u8]) -> Option<Vec<Node>> {

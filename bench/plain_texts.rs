@@ -2,7 +2,7 @@
 //! its speed is compared with.
 
 use crate::names::NODE_NUMBERS;
-use crate::plain::{ahead, obeys, Node, NO_END};
+use crate::plain::{obeys, Node, NO_END};
 
 const NODES: u64 = 64;
 const ENCLOSINGS: u64 = 32;
@@ -19,7 +19,7 @@ enum Part {
 }
 
 fn part_of(kind: u64) -> Part {
-    match ahead(kind) {
+    match kind {
         3 => Part::Conjunction,
         4 => Part::Alternative,
         5 | 6 => Part::Bind,
@@ -63,7 +63,7 @@ impl Measure {
     /// Of a node over earlier ones.
     fn over(node: &Node, earlier: &[Measure]) -> Measure {
         let part = part_of(node.kind);
-        let (nodes, enclosings) = match ahead(node.kind) {
+        let (nodes, enclosings) = match node.kind {
             0 | 1 => return LEAF,
             3..=6 => {
                 let (left, right) = (earlier[node.left], earlier[node.right]);
@@ -111,7 +111,7 @@ impl Line {
 
     /// An operator's letter, and its window where it has one.
     fn sign(&mut self, node: &Node) {
-        self.byte(b"Tp!&|URFGSQOH"[node.kind as usize]);
+        self.byte(b"Tp!&|URFG"[node.kind as usize]);
         if node.kind < 5 {
             return;
         }
@@ -129,7 +129,7 @@ impl Line {
     /// The text of node k where a part is due.
     fn node(&mut self, nodes: &[Node], k: usize, due: Part) {
         let node = &nodes[k];
-        match ahead(node.kind) {
+        match node.kind {
             0 => self.sign(node),
             1 => {
                 self.sign(node);

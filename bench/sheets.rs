@@ -1,5 +1,4 @@
-//! Times the proved answer and the proved readers of sheets, requirements and rows beside plain Rust that does the
-//! same, checks that both give the same, and prints the ratios.
+//! Times the proved answer and the proved readers of sheets, requirements and rows beside plain Rust that does the same, checks that both give the same, and prints the ratios.
 
 mod flat;
 #[path = "../rust/src/names.rs"]
@@ -12,12 +11,11 @@ mod plain_sheets;
 mod timing;
 
 use flat::{flat_nodes, flat_predicates};
-use plain_sheets::looking_back;
 use std::hint::black_box;
 use timing::{seconds, Random};
 
 /// Sheets, and what the answer to each begins with.
-const EXAMPLES: [(&str, &[u8], &str); 12] = [
+const EXAMPLES: [(&str, &[u8], &str); 10] = [
     ("booster-turn-up", include_bytes!("../examples/booster-turn-up.sheet"), "rows="),
     (
         "line-amplifier-gain-sag",
@@ -44,12 +42,9 @@ const EXAMPLES: [(&str, &[u8], &str); 12] = [
         include_bytes!("../examples/line-amplifier-repair.sheet"),
         "req=0 rows=",
     ),
-    ("low-output-alarm", include_bytes!("../examples/low-output-alarm.sheet"), "req=1 rows="),
-    ("booster-sign-off", include_bytes!("../examples/booster-sign-off.sheet"), "req=0 rows="),
 ];
 
-/// Requirements of one and two nodes, as many as 8,192 cells take over 2,048 rows. Their windows are short, so that
-/// reading the rows counts.
+/// Requirements of one and two nodes, as many as 8,192 cells take over 2,048 rows. Their windows are short, so that reading the rows counts.
 const SIXTEEN: [&str; 16] = [
     "p0", "T", "G[0,5]p0", "F[0,5]p1", "!p0", "G[1,8]p2", "F[3,10]p3", "!p4", "p5", "G[0,0]p6",
     "F[2,6]p7", "!T", "p8", "G[4,9]p9", "F[1,4]p0", "!p1",
@@ -71,7 +66,6 @@ struct Case {
     what: What,
     name: String,
     text: Vec<u8>,
-    /// Best times of the library and of plain Rust.
     best: (f64, f64),
 }
 
@@ -187,11 +181,6 @@ fn agree(what: What, text: &[u8], ours: &mut Room, theirs: &mut PlainRoom) -> bo
 }
 
 impl Case {
-    fn new(what: What, name: &str, text: &[u8]) -> Case {
-        let (name, text) = (name.to_string(), text.to_vec());
-        Case { what, name, text, best: (f64::MAX, f64::MAX) }
-    }
-
     fn time(&mut self, ours: &mut Room, theirs: &mut PlainRoom) {
         let (what, text) = (self.what, &self.text);
         for _ in 0..9 {
@@ -220,14 +209,11 @@ impl Case {
             What::Rows(_) => "rows",
         };
         let (ours, theirs) = (per / self.best.0, per / self.best.1);
-        print!("{:<42} {bytes:>6} bytes: ", format!("{word}, {}", self.name));
-        print!("{ours:>9.0} {unit}, plain Rust {theirs:>9.0} {unit}, ");
-        println!("ratio {:.2}", self.ratio());
+        println!("{:<42} {bytes:>6} bytes: {ours:>9.0} {unit}, plain Rust {theirs:>9.0} {unit}, ratio {:.2}", format!("{word}, {}", self.name), self.ratio());
     }
 }
 
-/// So many rows, one second apart, of random values that obey the drift, scaled; before one of sixteen stands a filled
-/// one.
+/// So many rows, one second apart, of random values that obey the drift, scaled; before one of sixteen stands a filled one.
 fn random_rows(random: &mut Random, rows: usize, scales: &[u64]) -> String {
     let mut text = String::new();
     for i in 0..rows {
@@ -242,8 +228,7 @@ fn random_rows(random: &mut Random, rows: usize, scales: &[u64]) -> String {
     text
 }
 
-/// What stands before the rows: the scale of each channel, ten predicates, a drift that any two values obey where the
-/// scales are 1, and the requirement.
+/// What stands before the rows: the scale of each channel, ten predicates, a drift that any two values obey where the scales are 1, and the requirement.
 fn front(scales: &[u64], requirement: &str) -> String {
     let channels = scales.len();
     let scales: String = scales
@@ -267,9 +252,6 @@ fn front(scales: &[u64], requirement: &str) -> String {
 /// Until, release, eventually and always, and the same windows with marks.
 const PARTS: [&str; 4] = ["p0U[3,40]p1", "p2R[0,25]p3", "F[2,30]p4", "!G[0,600]p5"];
 const MARKED_PARTS: [&str; 4] = ["p0U(2,41)p1", "p2R[0,26)p3", "F(1,31)p4", "!G[0,601)p5"];
-
-/// Eight operators with windows over four predicates.
-const EIGHT: &str = "F[0,5]G[0,8]F[0,30](p0U[3,40]p1)|G[0,6]F[0,30]G[0,600](p2R[0,25]p3)";
 
 /// A requirement of 63 nodes: four parts by turns, joined.
 fn broad(parts: [&str; 4]) -> String {
@@ -296,7 +278,14 @@ fn cases() -> Vec<Case> {
         random_rows(random, 1_000, &[1])
     );
     let mut cases = Vec::new();
-    let mut case = |what, name: &str, text: &[u8]| cases.push(Case::new(what, name, text));
+    let mut case = |what, name: &str, text: &[u8]| {
+        cases.push(Case {
+            what,
+            name: name.to_string(),
+            text: text.to_vec(),
+            best: (f64::MAX, f64::MAX),
+        })
+    };
     for (name, text, begins) in EXAMPLES {
         case(What::Answer(begins), name, text);
     }
@@ -316,29 +305,7 @@ fn cases() -> Vec<Case> {
     case(What::Requirement, "63 nodes with marks", broad(MARKED_PARTS).as_bytes());
     case(What::Requirement, "32 enclosings", deep().as_bytes());
     case(What::Requirement, "two nodes", b"G[0,600]p0");
-    case(What::Requirement, "63 nodes looking back", looking_back(&broad(PARTS)).as_bytes());
     cases
-}
-
-/// Two sheets of 17 rows: eight operators that look ahead, and the same eight looking back. They are asked for at some
-/// time of the recording, because at its first sample nothing lies behind.
-fn small_sheets() -> [Case; 2] {
-    let rows = random_rows(&mut Random(98765), 17, &[1]);
-    let sheet = |name, eight: &str| {
-        let text = front(&[1], &format!("F[0,*]({eight})")) + &rows;
-        Case::new(What::Answer("rows="), name, text.as_bytes())
-    };
-    [
-        sheet("17 rows, 8 nodes looking ahead", EIGHT),
-        sheet("17 rows, 8 nodes looking back", &looking_back(EIGHT)),
-    ]
-}
-
-fn print_small(sheets: &[Case; 2]) {
-    let [(ours, theirs), (ours_back, theirs_back)] = sheets.each_ref().map(|case| case.best);
-    let (ours, theirs) = (ours_back / ours, theirs_back / theirs);
-    print!("17 rows: 8 nodes looking back take {ours:.2} times as long as 8 looking ahead ");
-    println!("(at most 1.3 wanted); in plain Rust {theirs:.2} times");
 }
 
 /// Sixteen requirements over 2,048 rows in one sheet, and the sixteen sheets of one requirement each.
@@ -352,9 +319,13 @@ struct Sixteen {
 impl Sixteen {
     fn new() -> Sixteen {
         let rows = random_rows(&mut Random(54321), 2_048, &[1]);
-        let text = front(&[1], &SIXTEEN.join("\nreq=")) + &rows;
-        let name = "16 requirements, 2,048 rows";
-        let together = Case::new(What::Answer("req="), name, text.as_bytes());
+        let text = (front(&[1], &SIXTEEN.join("\nreq=")) + &rows).into_bytes();
+        let together = Case {
+            what: What::Answer("req="),
+            name: "16 requirements, 2,048 rows".to_string(),
+            text,
+            best: (f64::MAX, f64::MAX),
+        };
         let apart = SIXTEEN.iter().map(|requirement| front(&[1], requirement) + &rows).collect();
         Sixteen { together, apart, best: (f64::MAX, f64::MAX) }
     }
@@ -380,29 +351,28 @@ impl Sixteen {
         self.together.print();
         let (ours, theirs) =
             (self.together.best.0 / self.best.0, self.together.best.1 / self.best.1);
-        print!("16 requirements in one sheet take {ours:.2} times as long as 16 sheets of one; ");
-        println!("in plain Rust {theirs:.2} times");
+        println!("16 requirements in one sheet take {ours:.2} times as long as 16 sheets of one; in plain Rust {theirs:.2} times");
     }
 }
 
 fn main() {
-    let (mut cases, mut small, mut sixteen) = (cases(), small_sheets(), Sixteen::new());
+    let mut cases = cases();
+    let mut sixteen = Sixteen::new();
     let mut ours = Room::new();
     let mut theirs =
         PlainRoom { lines: Vec::new(), times: vec![0; 4_096], values: vec![0; 8 * 4_096] };
     // rounds over all cases, so that a slow spell of the machine does not fall on one of them alone
     for _ in 0..5 {
-        for case in cases.iter_mut().chain(&mut small) {
+        for case in &mut cases {
             case.time(&mut ours, &mut theirs);
         }
         sixteen.time(&mut ours, &mut theirs);
     }
-    cases.iter().chain(&small).for_each(Case::print);
+    cases.iter().for_each(Case::print);
     println!(
         "largest ratio to plain Rust: {:.2}",
-        cases.iter().chain(&small).map(Case::ratio).fold(0.0, f64::max)
+        cases.iter().map(Case::ratio).fold(0.0, f64::max)
     );
-    print_small(&small);
     sixteen.print();
     println!(
         "ratio of 16 requirements to plain Rust: {:.2} (at most 1.1 wanted)",

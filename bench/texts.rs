@@ -18,7 +18,6 @@ mod timing;
 use flat::flat_nodes;
 use names::NODES;
 use plain::{node, Node, NO_END};
-use plain_sheets::looking_back;
 use plain_texts::LONGEST_TEXT;
 use std::hint::black_box;
 use timing::{best, seconds, Times};
@@ -162,7 +161,6 @@ fn cases() -> Vec<Case> {
         Case::of_text("two nodes", "F[0,7200]p0".to_string()),
         doubled(),
         Case { room: large(FAR).len() - 1, due: Err(15), ..short },
-        Case::of_text(&format!("{every}, looking back"), looking_back(&large(FAR))),
     ]
 }
 

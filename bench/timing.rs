@@ -15,8 +15,7 @@ impl Random {
     }
 }
 
-/// Seconds for one call, from a run of calls that lasts a millisecond or more. The clock is read outside the run,
-/// because some calls take no longer than it does.
+/// Seconds for one call, from a run of calls that lasts a millisecond or more. The clock is read outside the run, because some calls take no longer than it does.
 pub fn seconds(mut call: impl FnMut()) -> f64 {
     let mut calls = 1u32;
     loop {
@@ -36,8 +35,8 @@ pub fn best(times: &[f64]) -> f64 {
     times.iter().copied().fold(f64::INFINITY, f64::min)
 }
 
-/// How many times as long the one takes as the other: the median of the rounds. What is timed in one round is timed
-/// under the same conditions, and a round that was disturbed does not count.
+/// How many times as long the one takes as the other: the median of the rounds. What is timed in one round is timed under
+/// the same conditions, and a round that was disturbed does not count.
 pub fn times_as_long(one: &[f64], other: &[f64]) -> f64 {
     let mut ratios: Vec<f64> = one.iter().zip(other).map(|(a, b)| a / b).collect();
     ratios.sort_by(f64::total_cmp);

@@ -81,8 +81,7 @@ enum {
     VARMITYEP_PREDICATE = 4,
     /* a scale not 1 to 1,000 */
     VARMITYEP_SCALE = 13,
-    /* a table to be watched: a temporal operator (kinds 5 to 12) stands inside another, or looks back
-       (kinds 9 to 12), in any node */
+    /* a table to be watched: a temporal operator (kinds 5 to 8) stands inside another, in any node */
     VARMITYEP_NESTED = 16,
     /* no sample, over 4,096, values not rows x channels long, or scales not one for each channel; of
        a watch: values not one for each channel, or no row accepted yet */
@@ -103,28 +102,22 @@ enum {
 
 /*
  * Kinds of node k, at nodes[7k]; left, right, lo, hi, open_lo and open_hi follow it, and those that a
- * kind does not use are 0. A child is the number of an earlier node, the root is the last one. What
- * stands for a kind in text is named beside it.
- * A window has lo and hi up to 1,000,000,000 seconds, or hi VARMITYEP_NO_END. It is counted from a
- * sample on in kinds 5 to 8, back from it in kinds 9 to 12. The two marks are 1 where that end itself
- * is excluded, else 0: with open_lo the window is read from lo + 1 on, with open_hi up to hi - 1. In
- * text `(` and `)` then stand for `[` and `]`. A window that is left empty, or an open_hi without an
- * end, is refused: by 3 in a table, by 2 in text.
+ * kind does not use are 0. A child is the number of an earlier node, the root is the last one. A window
+ * has lo and hi up to 1,000,000,000 seconds, or hi VARMITYEP_NO_END. The two marks are 1 where that end
+ * itself is excluded, else 0: with open_lo the window is read from lo + 1 on, with open_hi up to
+ * hi - 1. In text `(` and `)` then stand for `[` and `]`. A window that is left empty, or an open_hi
+ * without an end, is refused: by 3 in a table, by 2 in text.
  */
 enum {
-    VARMITYEP_KIND_TRUE = 0,         /* T */
-    VARMITYEP_KIND_PREDICATE = 1,    /* p; its number, 0 to 15, in left */
-    VARMITYEP_KIND_NOT = 2,          /* !; child left */
-    VARMITYEP_KIND_AND = 3,          /* &; children left and right */
-    VARMITYEP_KIND_OR = 4,           /* |; children left and right */
-    VARMITYEP_KIND_UNTIL = 5,        /* U; children left and right, a window */
-    VARMITYEP_KIND_RELEASE = 6,      /* R; children left and right, a window */
-    VARMITYEP_KIND_EVENTUALLY = 7,   /* F; child left, a window */
-    VARMITYEP_KIND_ALWAYS = 8,       /* G; child left, a window */
-    VARMITYEP_KIND_SINCE = 9,        /* S; as until, looking back */
-    VARMITYEP_KIND_TRIGGER = 10,     /* Q; as release, looking back */
-    VARMITYEP_KIND_ONCE = 11,        /* O; as eventually, looking back */
-    VARMITYEP_KIND_HISTORICALLY = 12 /* H; as always, looking back */
+    VARMITYEP_KIND_TRUE = 0,
+    VARMITYEP_KIND_PREDICATE = 1,  /* its number, 0 to 15, in left */
+    VARMITYEP_KIND_NOT = 2,        /* child left */
+    VARMITYEP_KIND_AND = 3,        /* children left and right; so in or, until and release */
+    VARMITYEP_KIND_OR = 4,
+    VARMITYEP_KIND_UNTIL = 5,      /* a window; so in the kinds below */
+    VARMITYEP_KIND_RELEASE = 6,
+    VARMITYEP_KIND_EVENTUALLY = 7, /* child left */
+    VARMITYEP_KIND_ALWAYS = 8      /* child left */
 };
 
 /* Ranges of a predicate, at ranges[2p]; its channel is at ranges[2p + 1]. */
@@ -271,8 +264,7 @@ typedef struct varmityep_watch {
 /*
  * Makes a fresh watch, which has seen no row, for a table (nodes: VARMITYEP_NODES), its predicates
  * and scales; scales_len is the count of channels. Refusal 0, 3, 4 (scales_len not 1 to 8, or a
- * predicate), 13, 16 (a temporal operator inside another, or one that looks back; every node is looked
- * at) or, after these, 8 (numbers or cells too short).
+ * predicate), 13, 16 (every node is looked at) or, after these, 8 (numbers or cells too short).
  * Writes the watch into numbers (VARMITYEP_WATCH_NUMBERS) and cells (VARMITYEP_WATCH_CELLS), places
  * behind it keep their contents. Under 3, 4, 13 and 16 it writes one too, if both have the room: a
  * watch that gives the same number to every row and to its margin.
@@ -289,9 +281,8 @@ uint64_t varmityep_watch_fresh(const uint64_t *nodes, size_t nodes_len, uint64_t
  * nothing else is judged), the number that refused the making, 5 (values_len is not the count of
  * channels), 6 (time is not later than that of the last row accepted, or above 2,000,000,000) or 7.
  * Under a refusal the watch is unchanged: the row is as if it had not come.
- * Here and in varmityep_watch_margin the answer is fixed by what numbers and cells hold, also where
- * no call of varmityep_watch_fresh made it, and is one of these numbers: the making's counts as 3
- * where it is not 3, 4, 13 or 16. crates/watch_cells/specs/Step says how other numbers are read.
+ * Where no call of varmityep_watch_fresh made what stands in numbers and cells, here and in
+ * varmityep_watch_margin, any answer may come, but nothing beyond what is lent is read or written.
  */
 uint64_t varmityep_watch_row(uint64_t *numbers, size_t numbers_len,
                              int64_t *cells, size_t cells_len,

@@ -87,8 +87,7 @@ impl fmt::Display for Refusal {
             }
             Refusal::Scales => "a scale out of range",
             Refusal::Nested => {
-                "a table to be watched in which a temporal operator stands inside another or looks \
-                 back"
+                "a table to be watched in which a temporal operator stands inside another"
             }
             Refusal::Samples => {
                 "no sample, over 4,096, values not rows × channels long, or scales not one for \

@@ -19,27 +19,18 @@ pub mod kind {
     pub const RELEASE: u64 = 6;
     pub const EVENTUALLY: u64 = 7;
     pub const ALWAYS: u64 = 8;
-    pub const SINCE: u64 = 9;
-    pub const TRIGGER: u64 = 10;
-    pub const ONCE: u64 = 11;
-    pub const HISTORICALLY: u64 = 12;
 }
 
 /// Seven numbers; those that a kind does not use are 0. [`kind`] has names for the kinds.
 ///
-/// | Kind | In text | Meaning |
-/// |---|---|---|
-/// | 0 | `T` | true |
-/// | 1 | `p` | the predicate of number `left` |
-/// | 2 | `!` | not `left` |
-/// | 3, 4 | `&`, <code>\|</code> | `left` and `right`, `left` or `right` |
-/// | 5, 6 | `U`, `R` | `left` until `right`, `left` release `right`, in the window `lo` to `hi` |
-/// | 7, 8 | `F`, `G` | eventually `left`, always `left`, in the window `lo` to `hi` |
-/// | 9, 10 | `S`, `Q` | `left` since `right`, `left` trigger `right`, in the window `lo` to `hi` back |
-/// | 11, 12 | `O`, `H` | once `left`, historically `left`, in the window `lo` to `hi` back |
-///
-/// Kinds 9 to 12 look back, up to the recording's first sample: `H[0,600]p0` is "for the last ten
-/// minutes", and `G[0,*](!p1|H[0,600]p0)` asks it wherever p1 is so. A watch takes none of them.
+/// | Kind | Meaning |
+/// |---|---|
+/// | 0 | true |
+/// | 1 | the predicate of number `left` |
+/// | 2 | not `left` |
+/// | 3, 4 | `left` and `right`, `left` or `right` |
+/// | 5, 6 | `left` until `right`, `left` release `right`, in the window `lo` to `hi` |
+/// | 7, 8 | eventually `left`, always `left`, in the window `lo` to `hi` |
 ///
 /// A window has `lo` and `hi` up to 1,000,000,000 seconds, or `hi` [`NO_END`]. Both ends are counted,
 /// unless they are excluded: `open_lo` 1 reads as from `lo` + 1 on, `open_hi` 1 as up to `hi` − 1; in
@@ -75,8 +66,8 @@ impl Table {
     /// left, right, parent, none shared.
     ///
     /// 3 judges the table alone: which predicates are set is not asked. 14: the tree has more than 64
-    /// nodes once each use has its own, or more than 32 of `!`, `G`, `F`, `O`, `H` and `(` would enclose
-    /// one another in the text.
+    /// nodes once each use has its own, or more than 32 of `!`, `G`, `F` and `(` would enclose one
+    /// another in the text.
     pub fn write(&self) -> Result<String, Refusal> {
         let mut text = [0; names::REQUIREMENT_BYTES];
         let length = self.write_into(&mut text)?;

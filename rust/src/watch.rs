@@ -26,8 +26,7 @@ impl Watch {
     /// A watch that has seen no row, for a table, its predicates and one scale for each channel.
     ///
     /// Its making may be refused: by 3, 4 (scales not 1 to 8 in number, or a predicate), 13 or 16 (a
-    /// temporal operator stands inside another or looks back, in a node that the root reaches or in
-    /// another one).
+    /// temporal operator stands inside another, in a node that the root reaches or in another one).
     /// Such a watch gives the same refusal to every row and every margin; [`Watch::refusal`] tells.
     pub fn fresh(table: &Table, predicates: &Predicates, scales: &[u64]) -> Watch {
         let (nodes, flat) = (table::to_flat(table), predicate::to_flat(predicates));

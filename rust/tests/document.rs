@@ -1,6 +1,5 @@
-//! Document 01's example, whole and by its parts, windows from now and without their ends, looking back,
-//! predicates by number, scales, several requirements, tables written out, watches, and every refusal
-//! number.
+//! Document 01's example, whole and by its parts, windows from now and without their ends, predicates
+//! by number, scales, several requirements, tables written out, watches, and every refusal number.
 
 use varmityep::{
     answer, kind, margin, read_requirement, read_rows, read_sheet, verdict, Counts, Judgement,
@@ -146,57 +145,6 @@ fn a_window_left_empty_is_refused() {
         assert_eq!(refusals(&Call { table: table.clone(), ..whole() }).0, Some(Refusal::Table));
         assert_eq!(Watch::fresh(&table, &predicates, &[1]).refusal(), Some(Refusal::Table));
     }
-}
-
-#[test]
-fn some_operators_look_back() {
-    for (text, margin, hold, fail, verdict) in [
-        ("H[0,2]p0", 6, 6, -6, "holds"),
-        ("O[1,2]p0", -TOP, -TOP, -6, "unshown"),
-        ("p0S[0,3]p0", 6, 6, -6, "holds"),
-        ("p0Q[2,9]p0", TOP, TOP, -TOP, "holds"),
-        ("G[0,4]H[0,2]p0", 5, 5, -5, "holds"),
-        ("F[2,2](p0Q[0,2]!p0)", -6, -TOP, 5, "fails"),
-        ("F[2,4]O[0,3]G[0,1]H[0,1]p0", 6, 5, -7, "holds"),
-    ] {
-        let figures = format!("margin={margin} hold={hold} fail={fail} verdict={verdict}");
-        assert_eq!(asked(text), format!("rows=5 filled=0 {figures}\n"));
-    }
-    for (kind, text) in [
-        (kind::SINCE, "p0S(3,9]p0"),
-        (kind::TRIGGER, "p0Q(3,9]p0"),
-        (kind::ONCE, "O(3,9]p0"),
-        (kind::HISTORICALLY, "H(3,9]p0"),
-    ] {
-        let root = Node { lo: 3, hi: 9, open_lo: 1, ..of(kind, 0, 0) };
-        assert_eq!(written(&[LEAF, root]).as_deref(), Ok(text));
-        // A watch takes none, be it reached or not.
-        let predicates = whole().predicates;
-        for nodes in [vec![LEAF, root], vec![LEAF, root, LEAF]] {
-            let watch = Watch::fresh(&Table { nodes }, &predicates, &[1]);
-            assert_eq!(watch.refusal(), Some(Refusal::Nested));
-        }
-    }
-    for text in ["p0S[0,1]p1U[0,1]p2", "p0Sp1", "Op0", "H(p0)", "S[0,1]p0"] {
-        assert_eq!(read_requirement(text.as_bytes()), Err(Refusal::Requirement));
-    }
-    assert_eq!(written(&[LEAF, of(13, 0, 0)]), Err(Refusal::Table));
-}
-
-/// A since over one row, an until over the same, and a once over both: every cell.
-#[test]
-fn a_row_that_is_looked_back_on_stays() {
-    let since = Node { hi: 3, ..of(kind::SINCE, 0, 0) };
-    let until = Node { hi: 1, ..of(kind::UNTIL, 0, 1) };
-    let once = Node { lo: 1, hi: 2, ..of(kind::ONCE, 2, 0) };
-    let table = Table { nodes: vec![LEAF, since, until, once] };
-    let (times, values) = (&[5, 6, 7, 8][..], &[10, 3, 8, 5][..]);
-    let recording = Recording { channels: 1, scales: &[1], times, values };
-    let mut work = [77; 17];
-    assert_eq!(margin(&table, &whole().predicates, &recording, &mut work), Ok(-TOP));
-    let row = [6, -2, 4, 1];
-    assert_eq!(work[..12], [row, row, row].concat());
-    assert_eq!(work[12..], [-TOP, 6, 6, 4, 77]);
 }
 
 #[test]
@@ -593,8 +541,6 @@ fn a_refused_watch_gives_its_number_to_every_call() {
         (of("p0"), &[0; 9], Refusal::Predicates),
         (of("G[0,1]F[0,1]p0"), &[1, MOST_SCALE + 1], Refusal::Scales),
         (of("G[0,1]F[0,1]p0"), &[1], Refusal::Nested),
-        (of("p0&O[0,1]p0"), &[1], Refusal::Nested),
-        (of("p0S[0,1]p0"), &[0], Refusal::Scales),
         (unreached, &[1], Refusal::Nested),
     ] {
         let mut watch = Watch::fresh(&table, &predicates, scales);

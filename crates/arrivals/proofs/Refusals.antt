@@ -1,34 +1,33 @@
 -- Each test of the lists holds exactly where its sentence does, so a number is answered exactly when its condition applies and no earlier one does (`refused` and
 -- `first_is` of refusals).
 -- Assumes nothing.
-use mathlib.Core.Path.{◌≡◌}
+use mathlib.Core.Path.{◌≡◌, sym, ap, ◌∙◌}
 use mathlib.Core.Bool.{Bool, true, false, cond, ◌&&◌, ◌||◌}
 use mathlib.Core.Logic.{◌⊎◌, inl, inr}
 use mathlib.Core.List.{[], ◌∷◌}
-use Prim.Native.Nat.{ℕ, suc, ◌-◌}
+use Prim.Native.Nat.{ℕ, suc, ◌-◌, ◌≤◌}
 use native.Mathlib.Omega.{arith}
 use lib.Dec.{T, leb, ltb, eqb, leb→le, le→leb, ltb→lt, lt→ltb, eqb→eq}
+use lib.ListN.{length}
+use borrow.Author.Tests.{eq-eqb, ne_eqb}
 use mir.Facts.{and_yes, yes_and, yes_eqb}
 use Rattle.lists.proofs.Below.{yes_or, same_test}
 use Rattle.recordings.specs.Card.{Card, rows, last_time}
 use Rattle.recordings.specs.Accepted.{LATEST}
 use Rattle.tables.specs.declared.Table.{Table}
-use Rattle.refusals.specs.First.{Check, first, Exact, AllExact, Passed}
-use Rattle.refusals.proofs.First.{passed, exact_append}
+use Rattle.refusals.specs.First.{first, AllExact}
+use Rattle.refusals.proofs.First.{exact_append}
+use Rattle.rules.specs.Recording.{values_obey}
 use Rattle.rules.specs.Refusals.{table_checks}
 use Rattle.rules.proofs.Recording.{values_are, values_pass}
 use Rattle.rules.proofs.Refusals.{table_exact}
 use Rattle.nesting.proofs.Nesting.{unnested_are, unnested_pass}
-use Rattle.arrivals.specs.Arrivals.{Row, nesting_check, making_checks, Later, follows, row_checks_by, row_checks, in_time, given_checks, offer_checks, some_row_check, asked_checks}
-use Rattle.arrivals.specs.Fits.{next_time}
+use Rattle.arrivals.specs.Arrivals.{Row, nesting_check, making_checks, Later, follows, row_checks, offer_checks, some_row_check, asked_checks}
+use Rattle.arrivals.specs.Fits.{next_time, in_time}
 
 or_yes : (a b : Bool) → T (a || b) → T a ⊎ T b
 or_yes true b h = inl tt
 or_yes false b h = inr h
-
--- whatever stands for 6 between 5 and 7, the list is exact where that is
-by_exact : (channels : ℕ) (six : Check) (r : Row) → Exact six → AllExact (row_checks_by channels six r)
-by_exact channels six r e = (record { sound = eqb→eq _ _; complete = yes_eqb }, λ _. (e, λ _. (record { sound = values_are r.values; complete = values_pass r.values }, λ _. tt)))
 
 module _ (c : Card) (t : Table) where
   pub making_exact : AllExact (making_checks c t)
@@ -53,7 +52,7 @@ module _ (c : Card) (t : Table) where
         (yes_or (eqb (rows c) 0) (ltb (last_time c) r.time) (elim l.rising [ inl e ↦ inl (yes_eqb e) | inr k ↦ inr (lt→ltb (last_time c) r.time k) ]))
 
     row_exact : AllExact (row_checks c r)
-    row_exact = by_exact c.setup.channels _ r (record { sound = later_is; complete = later_passes })
+    row_exact = (record { sound = eqb→eq _ _; complete = yes_eqb }, λ _. (record { sound = later_is; complete = later_passes }, λ _. (record { sound = values_are r.values; complete = values_pass r.values }, λ _. tt)))
 
     pub offer_exact : AllExact (offer_checks c t r)
     offer_exact = exact_append (making_checks c t) (row_checks c r) making_exact (λ _. row_exact)
@@ -66,18 +65,16 @@ same_time false last t =
     (λ h. let b = and_yes (leb (suc last) t) (leb t LATEST) h in yes_and (leb t LATEST) (ltb last t) b.1 (lt→ltb last t (leb→le (suc last) t b.0)))
     (λ h. let b = and_yes (leb t LATEST) (ltb last t) h in yes_and (leb (suc last) t) (leb t LATEST) (le→leb (suc last) t (ltb→lt last t b.1)) b.0)
 
--- a list over given numbers is exact, and where they are a recording's it answers as the recording's own
-module _ (channels next : ℕ) (r : Row) where
-  pub given_exact : AllExact (given_checks channels next r)
-  given_exact =
-      by_exact channels _ r (record {
-        sound = λ h. let b = and_yes (leb next r.time) (leb r.time LATEST) h in record { late = leb→le next r.time b.0; early = leb→le r.time LATEST b.1 };
-        complete = λ l. yes_and (leb next r.time) (leb r.time LATEST) (le→leb next r.time l.late) (le→leb r.time LATEST l.early);
-      })
+pub time_early : (next t : ℕ) → T (in_time next t) → t ≤ LATEST
+time_early next t h = leb→le t LATEST (and_yes (leb next t) (leb t LATEST) h).1
 
-  pub given_passed : first (given_checks channels next r) ≡ 0 → Passed (given_checks channels next r)
-  given_passed e = passed (given_checks channels next r) tt given_exact e
+module _ (c : Card) (r : Row) {channels : ℕ} (hc : channels ≡ c.setup.channels) where
+  pub row_five : (length r.values ≡ channels → ⊥) → 5 ≡ first (row_checks c r)
+  unfolding first
+  row_five h = rw (ne_eqb (length r.values) c.setup.channels (λ e. h (e ∙ sym hc)))
 
-pub given_is : (c : Card) (r : Row) {channels next : ℕ} → channels ≡ c.setup.channels → next ≡ next_time c → first (given_checks channels next r) ≡ first (row_checks c r)
-unfolding first
-given_is c r hc hn = rw (hc, hn, same_time (eqb (rows c) 0) (last_time c) r.time)
+  pub row_later : {next : ℕ} → next ≡ next_time c → length r.values ≡ channels → {a b : Bool} → a ≡ in_time next r.time → b ≡ values_obey r.values → cond a (cond b 0 7) 6 ≡ first (row_checks c r)
+  unfolding first
+  row_later hn h {a} p q =
+      let e : a ≡ follows (rows c) (last_time c) r.time = p ∙ ap (λ (n : ℕ). in_time n r.time) hn ∙ same_time (eqb (rows c) 0) (last_time c) r.time in
+      rw (e, q, eq-eqb (length r.values) c.setup.channels (h ∙ hc))

@@ -48,27 +48,13 @@ pub record Later (c : Card) (t : ℕ) : Type 0 where
 abbrev pub follows : ℕ → ℕ → ℕ → Bool
 follows n last t = leb t LATEST && (eqb n 0 || ltb last t)
 
--- 5: one value for each channel; then 6; 7: no value out of range
-abbrev pub row_checks_by : ℕ → Check → Row → List Check
-row_checks_by channels six r =
-    record { number = 5; sentence = length r.values ≡ channels; passes = eqb (length r.values) channels }
-    ∷ six
+-- 5: one value for each channel; 7: no value out of range
+abbrev pub row_checks : Card → Row → List Check
+row_checks c r =
+    record { number = 5; sentence = length r.values ≡ c.setup.channels; passes = eqb (length r.values) c.setup.channels }
+    ∷ record { number = 6; sentence = Later c r.time; passes = follows (rows c) (last_time c) r.time }
     ∷ record { number = 7; sentence = Values r.values; passes = values_obey r.values }
     ∷ []
-
-abbrev pub row_checks : Card → Row → List Check
-row_checks c r = row_checks_by c.setup.channels (record { number = 6; sentence = Later c r.time; passes = follows (rows c) (last_time c) r.time }) r
-
--- the same from numbers alone, whatever they are: the count of channels, and the least time that the row may have
-pub record InTime (next t : ℕ) : Type 0 where
-  pub late : next ≤ t
-  pub early : t ≤ LATEST
-
-abbrev pub in_time : ℕ → ℕ → Bool
-in_time next t = leb next t && leb t LATEST
-
-abbrev pub given_checks : ℕ → ℕ → Row → List Check
-given_checks channels next r = row_checks_by channels (record { number = 6; sentence = InTime next r.time; passes = in_time next r.time }) r
 
 -- where the making was refused, every row is, by its number
 abbrev pub offer_checks : Card → Table → Row → List Check

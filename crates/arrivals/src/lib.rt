@@ -1,7 +1,10 @@
 // What refuses a watch at its making, and a row that is offered to it. Their sentences are listed in specs/Arrivals.
-ghost use Rattle.std.specs.Prelude.{◌≡◌};
+ghost use Rattle.std.specs.Prelude.{◌≡◌, ◌≤◌};
 ghost use Rattle.refusals.specs.First.{first};
-ghost use Rattle.arrivals.specs.Arrivals.{no_rows, making_checks, in_time, given_checks};
+ghost use Rattle.recordings.specs.Card.{Card};
+ghost use Rattle.recordings.specs.Accepted.{LATEST, Values};
+ghost use Rattle.arrivals.specs.Arrivals.{no_rows, making_checks, row_checks};
+ghost use Rattle.arrivals.specs.Fits.{next_time, in_time};
 
 use recordings::{LATEST, Setup};
 use tables::Table;
@@ -30,7 +33,9 @@ fn in_time(next: u64, time: u64) -> bool
 
 // The first of refusals 5 to 7 that applies to a row, 0 where none does. Of the rows before it, it is asked when the next one may come.
 pub fn row_refusal(channels: u64, next: u64, time: u64, values: &[i64]) -> u64
-    ensures { result ≡ first (given_checks channels next (record { time = time; values = values.now })) }
+    ensures number { (c : Card) → channels ≡ c.setup.channels → next ≡ next_time c → result ≡ first (row_checks c (record { time = time; values = values.now })) }
+    ensures early { result ≡ 0 → time ≤ LATEST }
+    ensures values { result ≡ 0 → Values values.now }
 {
     if values.len() as u64 != channels {
         return 5;

@@ -3,8 +3,7 @@ ghost use Rattle.std.specs.Prelude.{◌≡◌, ◌+◌, ◌≤◌, ◌<◌, leng
 ghost use Rattle.grammar.specs.Reading.{leaf_at};
 ghost use Rattle.tables.specs.Tree.{NODES, no_span};
 ghost use Rattle.building.specs.Nodes.{node, empty_table};
-ghost use Rattle.building.specs.Storing.{WIDTH, CELLS, cells_of, node_read, node_from, table_from};
-ghost use Rattle.building.specs.Storing.{step_of, leaf_cells, pushed_step, pushed_cells, parent_step, wrap_cells, join_cells, closed_step};
+ghost use Rattle.building.specs.Storing.{cells_of, step_of, leaf_cells, pushed_step, pushed_cells, parent_step, wrap_cells, join_cells, closed_step, WIDTH, CELLS, node_read, node_from, table_from};
 
 use tables::{Node, Span, Table};
 use text::{Field, Mark};

@@ -30,7 +30,7 @@ use Rattle.grammar.specs.Operators.{letters, letter, ◌∈◌}
 use Rattle.tables.specs.Tree.{LONGEST, NO_END, marked}
 use Rattle.grammar.specs.Tree.{opens, closes, mark}
 use Rattle.grammar.specs.Grammar.{WindowText, ended, endless}
-use Rattle.grammar.specs.Reading.{bracket_at, high_end_at, window_at, over_window, kind_among, timed_from, timed_among}
+use Rattle.grammar.specs.Reading.{bracket_at, high_end_at, window_at, over_window, timed_at, or_else, timed_among}
 use Rattle.grammar.proofs.Letters.{letter_one, all_in, lettered, none_of}
 
 -- a window's bytes stand between two places
@@ -197,11 +197,11 @@ pub record OperatorIs (ks s : List ℕ) (at k : ℕ) (r : Span) (n : ℕ) : Type
   pub window : WindowText word r
 
 pub timed_is : (ks s : List ℕ) (at k : ℕ) (r : Span) (n : ℕ) → timed_among ks s at ≡ Over k r n → OperatorIs ks s at k r n
-unfolding kind_among
+unfolding timed_among timed_at
 timed_is [] s at k r n h = let z : ◌≡◌ {A = ℕ} 0 1 = cc in absurd (omega arith)
 timed_is (j ∷ ks) s at k r n h = go (timed_is ks s at k r n) (mark_at (letter j) s at) refl h
   where
-    over : (m : ℕ) → mark_at (letter j) s at ≡ Next m → (x : Window) → window_at s m ≡ x → over_window j x ≡ Over k r n → OperatorIs (j ∷ ks) s at k r n
+    over : (m : ℕ) → mark_at (letter j) s at ≡ Next m → (x : Window) → window_at s m ≡ x → or_else (over_window j x) (timed_among ks s at) ≡ Over k r n → OperatorIs (j ∷ ks) s at k r n
     over m e (Ends q i) f g =
         let a : j ≡ k = cc in
         let b : q ≡ r = cc in
@@ -216,7 +216,7 @@ timed_is (j ∷ ks) s at k r n h = go (timed_is ks s at k r n) (mark_at (letter 
     over m e Window_as_Bad f g = let z : ◌≡◌ {A = ℕ} 0 1 = cc in absurd (omega arith)
 
     go : (timed_among ks s at ≡ Over k r n → OperatorIs ks s at k r n) → (m : Mark) → mark_at (letter j) s at ≡ m
-        → timed_from s (after_mark m (λ i. Number j i) (kind_among ks s at)) ≡ Over k r n → OperatorIs (j ∷ ks) s at k r n
+        → or_else (after_mark m (λ i. over_window j (window_at s i)) Absent) (timed_among ks s at) ≡ Over k r n → OperatorIs (j ∷ ks) s at k r n
     go more (Next m) e g = over m e (window_at s m) refl g
     go more Mark_as_Bad e g =
         let o = more g in
@@ -225,7 +225,7 @@ timed_is (j ∷ ks) s at k r n h = go (timed_is ks s at k r n) (mark_at (letter 
 -- the letter of one of the kinds and a window's bytes are read
 pub timed_made : (ks : List ℕ) → lettered ks ≡ true → {k : ℕ} {x : List ℕ} {r : Span} → k ∈ ks → WindowText x r
     → (s : List ℕ) (at : ℕ) (t : List ℕ) → drop at s ≡ letter k ++ (x ++ t) → timed_among ks s at ≡ Over k r (at + 1 + length x)
-unfolding kind_among
+unfolding timed_among timed_at
 timed_made [] l i w s at t e = absurd (Memᴰ.not-nil i)
 timed_made (j ∷ ks) l {k} {x} {r} i w s at t e =
     by_test (eqb (get_or letters k 0) (get_or letters j 0)) same (other (λ m. timed_made ks (both (ltb j (length letters)) (lettered ks) l).1 m w s at t e))
@@ -233,10 +233,10 @@ timed_made (j ∷ ks) l {k} {x} {r} i w s at t e =
     j_in : j < length letters
     j_in = ltb-true j (length letters) (both (ltb j (length letters)) (lettered ks) l).0
 
-    here : j ≡ k → timed_among (j ∷ ks) s at ≡ Over k r (at + 1 + length x)
+    here : j ≡ k → or_else (timed_at j s at) (timed_among ks s at) ≡ Over k r (at + 1 + length x)
     here q = rw (q, mark_made (letter k) s (x ++ t) at (omega arith) e, window_made w s (at + 1) t (after_bytes s at (letter k) (x ++ t) e))
 
-    same : eqb (get_or letters k 0) (get_or letters j 0) ≡ true → timed_among (j ∷ ks) s at ≡ Over k r (at + 1 + length x)
+    same : eqb (get_or letters k 0) (get_or letters j 0) ≡ true → or_else (timed_at j s at) (timed_among ks s at) ≡ Over k r (at + 1 + length x)
     same q = here (letter_one j k j_in (ltb-true k (length letters) (all_in (λ m. ltb m (length letters)) i l)) (sym (eqb-true _ _ q)))
 
     later : eqb (get_or letters k 0) (get_or letters j 0) ≡ false → (k ≡ j) ⊎ (k ∈ ks) → k ∈ ks
@@ -244,12 +244,12 @@ timed_made (j ∷ ks) l {k} {x} {r} i w s at t e =
     later q (inr m) = m
 
     other : (k ∈ ks → timed_among ks s at ≡ Over k r (at + 1 + length x)) → eqb (get_or letters k 0) (get_or letters j 0) ≡ false
-        → timed_among (j ∷ ks) s at ≡ Over k r (at + 1 + length x)
+        → or_else (timed_at j s at) (timed_among ks s at) ≡ Over k r (at + 1 + length x)
     other more q = rw (mark_first (get_or letters j 0) [] s at (letter k ++ (x ++ t)) e q) (more (later q (Memᴰ.cases_cons i)))
 
 -- where a byte stands that is the letter of none of the kinds, none is read
 pub timed_none : (ks s : List ℕ) (at : ℕ) (l : List ℕ) → drop at s ≡ l → none_of (get_or l 0 0) ks ≡ true → timed_among ks s at ≡ Absent
-unfolding kind_among
+unfolding timed_among timed_at
 timed_none [] s at l e h = refl
 timed_none (k ∷ ks) s at l e h =
     let t = both (not (eqb (get_or l 0 0) (get_or letters k 0))) (none_of (get_or l 0 0) ks) h in

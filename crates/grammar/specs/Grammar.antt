@@ -18,7 +18,7 @@ pub data WindowText : List ℕ → Span → Type 0 where
   endless : {v : List ℕ} {lo : ℕ} (low : Bool) → Numeral v lo → lo ≤ LONGEST
       → WindowText (opens low ++ (v ++ (bytes "," ++ bytes "*]"))) (marked lo NO_END (mark low) 0)
 
--- `Derives part d text tree`: the text is such a part, says the tree, and at most d of `!`, `G`, `F`, `H`, `O` and `(` enclose one another in it
+-- `Derives part d text tree`: the text is such a part, says the tree, and at most d of `!`, `G`, `F` and `(` enclose one another in it
 pub data Derives : Part → ℕ → List ℕ → Tree → Type 0 where
   -- alternative = conjunction, then any count of `|` conjunction, grouped to the left
   alternative_one : {d : ℕ} {w : List ℕ} {a : Tree} → Derives conjunction d w a → Derives alternative d w a
@@ -44,7 +44,7 @@ pub data Derives : Part → ℕ → List ℕ → Tree → Type 0 where
   -- or a parenthesised alternative
   unary_group : {d : ℕ} {w : List ℕ} {a : Tree} → Derives alternative d w a → Derives unary (suc d) (bytes "(" ++ (w ++ bytes ")")) a
 
--- at most so many of `!`, `G`, `F`, `H`, `O` and `(` enclose one another
+-- at most so many of `!`, `G`, `F` and `(` enclose one another
 abbrev pub ENCLOSINGS : ℕ
 ENCLOSINGS = 32
 

@@ -2,21 +2,21 @@
 use Rattle.std.specs.Prelude.{ℕ, get_or}
 use mathlib.Core.List.{List, [], ◌∷◌, Memᴰ}
 use Rattle.text.specs.Bytes.{bytes}
-use Rattle.tables.specs.Kind.{until_kind, release_kind, eventually_kind, always_kind, since_kind, trigger_kind, once_kind, historically_kind}
+use Rattle.tables.specs.Kind.{until_kind, release_kind, eventually_kind, always_kind}
 
--- the letter of each kind of node, at the kind's place: true, predicate, not, and, or, until, release, eventually, always, since, trigger, once, historically
+-- the letter of each kind of node, at the kind's place: true, predicate, not, and, or, until, release, eventually, always
 abbrev pub letters : List ℕ
-letters = bytes "Tp!&|URFGSQOH"
+letters = bytes "Tp!&|URFG"
 
 abbrev pub letter : ℕ → List ℕ
 letter k = get_or letters k 0 ∷ []
 
--- the kinds with a window that stand between two unaries, and before one
+-- the kinds with a window that stand between two unaries (until, release), and before one (eventually, always)
 abbrev pub binders : List ℕ
-binders = until_kind ∷ release_kind ∷ since_kind ∷ trigger_kind ∷ []
+binders = until_kind ∷ release_kind ∷ []
 
 abbrev pub prefixes : List ℕ
-prefixes = eventually_kind ∷ always_kind ∷ once_kind ∷ historically_kind ∷ []
+prefixes = eventually_kind ∷ always_kind ∷ []
 
 infix 50 ◌∈◌
 abbrev pub ◌∈◌ : ℕ → List ℕ → Type 0

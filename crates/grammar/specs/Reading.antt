@@ -44,19 +44,20 @@ abbrev pub over_window : ℕ → Window → Operator
 over_window k (Ends r n) = Over k r n
 over_window k Window_as_Bad = Operator-as-Bad
 
--- whichever of some kinds' letters stands at a place: the kind, and the place after its letter
-unfoldable pub kind_among : List ℕ → List ℕ → ℕ → Field
-kind_among [] s at = Field-as-Bad
-kind_among (k ∷ ks) s at = after_mark (mark_at (letter k) s at) (λ n. Number k n) (kind_among ks s at)
+-- the letter of a kind, and its window
+unfoldable pub timed_at : ℕ → List ℕ → ℕ → Operator
+timed_at k s at = after_mark (mark_at (letter k) s at) (λ n. over_window k (window_at s n)) Absent
 
--- a kind that was read, with its window
-abbrev pub timed_from : List ℕ → Field → Operator
-timed_from s (Number k n) = over_window k (window_at s n)
-timed_from s Field-as-Bad = Absent
+-- the first operator unless it is absent, then the second
+abbrev pub or_else : Operator → Operator → Operator
+or_else Absent y = y
+or_else (Over k r n) y = Over k r n
+or_else Operator-as-Bad y = Operator-as-Bad
 
 -- whichever of some kinds with a window stands at a place
-abbrev pub timed_among : List ℕ → List ℕ → ℕ → Operator
-timed_among ks s at = timed_from s (kind_among ks s at)
+unfoldable pub timed_among : List ℕ → List ℕ → ℕ → Operator
+timed_among [] s at = Absent
+timed_among (k ∷ ks) s at = or_else (timed_at k s at) (timed_among ks s at)
 
 -- what binds the unary before a place to the one after it
 abbrev pub binder_at : List ℕ → ℕ → Operator

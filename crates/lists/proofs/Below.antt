@@ -45,16 +45,6 @@ module _ (p : ℕ → Bool) where
     | no e ↦ yes_or (any_below p n) (p n) (inl (at_any n j (omega arith) t))
   ]
 
--- two tests of every number are one test of both
-pub all_both : (p q : ℕ → Bool) (n : ℕ) → all_below (λ j. p j && q j) n ≡ all_below p n && all_below q n
-all_both p q n =
-    same_test
-    (λ h. yes_and (all_below p n) (all_below q n) (at_all p n (λ j i. (and_yes (p j) (q j) (all_at (λ m. p m && q m) n h j i)).0))
-    (at_all q n (λ j i. (and_yes (p j) (q j) (all_at (λ m. p m && q m) n h j i)).1)))
-    (λ h.
-    let a = and_yes (all_below p n) (all_below q n) h in
-    at_all (λ m. p m && q m) n (λ j i. yes_and (p j) (q j) (all_at p n a.0 j i) (all_at q n a.1 j i)))
-
 -- ---- a loop `ok = ok & b; n += 1` that tests the numbers below `count` one after the other
 -- before the test of n, `ok` says whether p holds of every number below n
 pub record Tested (p : ℕ → Bool) (count n : ℕ) (ok : Bool) : Type 0 where

@@ -1,16 +1,14 @@
--- Rows of places that leave no gap above a step: from each place on they are a line, and from each place back, counted from the end, they are one too. So what an
--- operator sees from one place is met in what it sees from a near place of another row. Until and since cross from a contracted window to the window, release and
--- trigger from an expanded one.
+-- Rows of places that leave no gap above a step: from each place on they are a line, so what an operator sees from one place is met in what it sees
+-- from a near place of another row. Until crosses from a contracted window to the window, release from an expanded one.
 -- Assumes nothing.
 use mathlib.Core.Path.{◌≡◌, refl, sym, subst}
 use Prim.Native.Nat.{ℕ, suc, ◌+◌, ◌-◌, ◌≤◌, ◌<◌}
-use native.Mathlib.Nat.{add-suc, add-zero, sub-zero}
+use native.Mathlib.Nat.{add-suc, add-zero}
 use native.Mathlib.Omega.{arith}
 use Rattle.logic.specs.declared.Window.{Window}
 use Rattle.logic.specs.declared.Extremum.{Extremum}
 use Rattle.logic.specs.declared.Extremum.TheVariants.{Largest, Smallest}
-use Rattle.logic.specs.declared.Direction.{Direction}
-use Rattle.logic.specs.declared.Direction.TheVariants.{Future, Past}
+use Rattle.logic.specs.Formula.{Direction, future}
 use Rattle.logic.specs.Reading.{Places, place, count, offset}
 use Rattle.logic.specs.Strengthening.{strengthen_window}
 use Rattle.logic.proofs.Windows.{Near, Spread, contraction_spread, expansion_spread}
@@ -40,35 +38,12 @@ module _ {s b e : ℕ} {F : Places} (D : Dense s b e F) where
     size = F.end - i;
     whole = omega arith;
     at = λ m. F.time (i + m);
-    times = offset Future F i;
+    times = offset future F i;
     counts = λ m k. rw add-zero (omega (arith, ordered i (i + m) h.low (omega arith) (omega arith)));
     rises = λ m k. rw add-suc (D.rises (i + m) (omega arith) (omega arith));
     close = λ m k. rw add-suc (D.close (i + m) (omega arith) (omega arith));
     ends = D.ends (i + (F.end - suc i)) (omega arith);
   }
-
-  not_late : (i : ℕ) → In F i → F.time i ≤ e
-  not_late i h = subst (F.time i ≤◌) (D.ends (F.end - 1) (omega arith)) (ordered i (F.end - 1) h.low (omega arith) (omega arith))
-
-  -- the places from i back, in the mirror: each stands as far from e as it did, on the other side
-  line_past : (i : ℕ) → In F i → Line s (e - b)
-  line_past i h = record {
-    last = i - F.first;
-    size = suc i - F.first;
-    whole = omega arith;
-    at = λ m. e - F.time (i - m);
-    times = offset Past F i;
-    counts = λ m k. rw sub-zero (omega (arith, not_late i h, ordered (i - m) i (omega arith) (omega arith) h.high));
-    rises = λ m k. rw (before m k) (omega (arith, D.rises (i - suc m) (omega arith) (omega arith), not_late (suc (i - suc m)) (omega arith)));
-    close = λ m k. rw (before m k) (omega (arith, D.close (i - suc m) (omega arith) (omega arith), not_late (suc (i - suc m)) (omega arith)));
-    ends = rw (bottom, D.begins);
-  }
-    where
-      before : (m : ℕ) → m < i - F.first → i - m ≡ suc (i - suc m)
-      before m k = omega arith
-
-      bottom : i - (i - F.first) ≡ F.first
-      bottom = omega arith
 
 -- place i of F and place t of G, at most s apart
 pub record Close (s : ℕ) (F G : Places) (i t : ℕ) : Type 0 where
@@ -94,29 +69,18 @@ row d F w i = record { window = w; times = offset d F i; size = count d F i }
 
 -- the place m steps away is one of the places
 stays : (d : Direction) {F : Places} {i : ℕ} (m : ℕ) → In F i → m < count d F i → In F (place d i m)
-stays Future m h k = omega arith
-stays Past m h k = omega arith
+stays future m h k = omega arith
 
 module _ {s b e : ℕ} {F G : Places} (DF : Dense s b e F) (DG : Dense s b e G) {v w : Window} (sp : Spread s v w) (i t : ℕ) (c : Close s F G i t) where
   starts_near : Near s (F.time (i + 0)) (G.time (t + 0))
   starts_near = rw (add-zero i, add-zero t) c.near
 
-  mirrored_near : Near s (e - F.time (i - 0)) (e - G.time (t - 0))
-  mirrored_near = rw (sub-zero i, sub-zero t) (omega (arith, c.near, not_late DF i c.here, not_late DG t c.there))
-
   -- what window v shows of F from i is met in what w shows of G from t
   crossing : (d : Direction) → Meets (λ m n. Close s F G (place d i m) (place d t n)) (row d F v i) (row d G w t)
-  unfolding Meets line_future line_past
-  crossing Future m h k =
-      mapped (λ p q a z n. record { here = stays Future p c.here (omega arith); there = stays Future q c.there z; near = n })
+  unfolding Meets line_future
+  crossing future m h k =
+      mapped (λ p q a z n. record { here = stays future p c.here (omega arith); there = stays future q c.there z; near = n })
       (meet (line_future DF i c.here) (line_future DG t c.there) starts_near sp m (omega arith) k)
-  crossing Past m h k =
-      mapped
-      (λ p q a z n.
-      let x = stays Past p c.here (omega arith) in
-      let y = stays Past q c.there z in
-      record { here = x; there = y; near = omega (arith, not_late DF (i - p) x, not_late DG (t - q) y) })
-      (meet (line_past DF i c.here) (line_past DG t c.there) mirrored_near sp m (omega arith) k)
 
 module _ {s b e : ℕ} {F G : Places} (DF : Dense s b e F) (DG : Dense s b e G) where
   -- both ways: until from F to G, release from G to F

@@ -7,7 +7,7 @@ use Prim.Native.Nat.{ℕ}
 use Rattle.logic.specs.declared.Window.{Window}
 use Rattle.logic.specs.declared.Extremum.{Extremum}
 use Rattle.logic.specs.declared.Extremum.TheVariants.{Largest, Smallest}
-use Rattle.logic.specs.Formula.{dual, Formula, truth, atom, negation, junction, temporal, conjunction, disjunction, until, release, eventually, always, since, trigger, once, historically}
+use Rattle.logic.specs.Formula.{dual, Formula, truth, atom, negation, junction, temporal, conjunction, disjunction, until, release, eventually, always}
 use Rattle.logic.specs.Reading.{Algebra, Places, place, count, offset, along, read, booleans, boolean_extreme, boolean_nothing}
 use Rattle.logic.specs.Negation.{push, Normal}
 use Rattle.logic.proofs.Steps.{Step, along_step, same}
@@ -79,19 +79,6 @@ module _ {P : Type 0} where
 
   pub push_always : (w : Window) (φ : Formula P) → push false (always w φ) ≡ eventually w (push false φ)
   push_always w φ = refl
-
-  -- the same looking back
-  pub push_since : (w : Window) (l r : Formula P) → push false (since w l r) ≡ trigger w (push false l) (push false r)
-  push_since w l r = refl
-
-  pub push_trigger : (w : Window) (l r : Formula P) → push false (trigger w l r) ≡ since w (push false l) (push false r)
-  push_trigger w l r = refl
-
-  pub push_once : (w : Window) (φ : Formula P) → push false (once w φ) ≡ historically w (push false φ)
-  push_once w φ = refl
-
-  pub push_historically : (w : Window) (φ : Formula P) → push false (historically w φ) ≡ once w (push false φ)
-  push_historically w φ = refl
 
 -- ---- true and false
 pub booleans_dual : DeMorgan booleans

@@ -1,7 +1,6 @@
 -- The mathematics of the reading. `Witness` and `Words`: the truth of the temporal operators in plain words. `Steps`: a relation that the operations keep is kept
 -- by every reading. `Duality`: "not" pushed down changes nothing. `Margins`: whole numbers against truth.
 -- `Extremes`: the larger and the smaller of two do not depend on order or repetition. `Beaten`: what may be left out of an extremum, and so of until and release.
--- `Mirror`: looking back is looking ahead with time run backward.
 -- `Windows`, `Line`, `Carry`, `Crossing`: what is read at samples carries over to all seconds near them.
 pub mod Witness
 pub mod Words
@@ -14,4 +13,3 @@ pub mod Crossing
 pub mod Margins
 pub mod Beaten
 pub mod Extremes
-pub mod Mirror

@@ -2,14 +2,16 @@
 -- Assumes nothing.
 use Rattle.logic.specs.declared.Extremum.{Extremum}
 use Rattle.logic.specs.declared.Extremum.TheVariants.{Largest, Smallest}
-use Rattle.logic.specs.declared.Direction.{Direction}
-use Rattle.logic.specs.declared.Direction.TheVariants.{Future, Past}
 use Rattle.logic.specs.declared.Window.{Window}
 
 -- an operator takes the largest of two values ("or", until, eventually) or the smallest ("and", release, always, their duals), as src/ declares it
 abbrev pub dual : Extremum → Extremum
 dual Largest = Smallest
 dual Smallest = Largest
+
+-- where a temporal operator looks: at later places
+pub data Direction : Type 0 where
+  future : Direction
 
 pub data Formula (P : Type 0) : Type 0 where
   truth : Formula P
@@ -18,7 +20,7 @@ pub data Formula (P : Type 0) : Type 0 where
   junction : Extremum → Formula P → Formula P → Formula P
   temporal : Direction → Extremum → Window → Formula P → Formula P → Formula P
 
--- the requirement table's kinds 3 to 12 by their names
+-- the requirement table's kinds 3 to 8 by their names
 abbrev pub conjunction : {P : Type 0} → Formula P → Formula P → Formula P
 conjunction l r = junction Smallest l r
 
@@ -26,10 +28,10 @@ abbrev pub disjunction : {P : Type 0} → Formula P → Formula P → Formula P
 disjunction l r = junction Largest l r
 
 abbrev pub until : {P : Type 0} → Window → Formula P → Formula P → Formula P
-until w l r = temporal Future Largest w l r
+until w l r = temporal future Largest w l r
 
 abbrev pub release : {P : Type 0} → Window → Formula P → Formula P → Formula P
-release w l r = temporal Future Smallest w l r
+release w l r = temporal future Smallest w l r
 
 -- eventually is until from true, always is release from false
 abbrev pub eventually : {P : Type 0} → Window → Formula P → Formula P
@@ -37,16 +39,3 @@ eventually w φ = until w truth φ
 
 abbrev pub always : {P : Type 0} → Window → Formula P → Formula P
 always w φ = release w (negation truth) φ
-
--- the same looking back: since and its dual trigger, once and historically
-abbrev pub since : {P : Type 0} → Window → Formula P → Formula P → Formula P
-since w l r = temporal Past Largest w l r
-
-abbrev pub trigger : {P : Type 0} → Window → Formula P → Formula P → Formula P
-trigger w l r = temporal Past Smallest w l r
-
-abbrev pub once : {P : Type 0} → Window → Formula P → Formula P
-once w φ = since w truth φ
-
-abbrev pub historically : {P : Type 0} → Window → Formula P → Formula P
-historically w φ = trigger w (negation truth) φ

@@ -5,4 +5,3 @@ pub mod Reading
 pub mod Negation
 pub mod Strengthening
 pub mod Words
-pub mod Mirror

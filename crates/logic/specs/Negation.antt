@@ -1,5 +1,4 @@
--- "Not" pushed down to predicates and true: the negation normal form. "And" with "or", until with release, eventually with always, since with trigger, once with
--- historically change places; windows are kept.
+-- "Not" pushed down to predicates and true: the negation normal form. "And" with "or", until with release, eventually with always change places; windows are kept.
 -- Assumes nothing.
 use Rattle.std.specs.Prelude.{Bool, true, false, not}
 use Rattle.logic.specs.declared.Extremum.{Extremum}

@@ -1,16 +1,14 @@
 -- One reading of a requirement. Read into whole numbers over the samples it is the margin; read into true and false it is the truth, over the samples or,
 -- with seconds for samples, over a history.
 -- Assumes nothing.
-use Rattle.std.specs.Prelude.{Bool, true, false, not, ◌&&◌, ◌||◌, cond, ℕ, suc, ◌+◌, ◌-◌, ℤ, pos, neg_ℤ}
+use Rattle.std.specs.Prelude.{Bool, true, false, not, ◌&&◌, ◌||◌, cond, ℕ, ◌+◌, ◌-◌, ℤ, pos, neg_ℤ}
 use Rattle.numbers.specs.Order.{smaller_of, larger_of}
 use Rattle.lists.specs.Fold.{fold}
 use Rattle.logic.specs.declared.Window.{Window}
 use Rattle.logic.specs.Window.{inside}
 use Rattle.logic.specs.declared.Extremum.{Extremum}
 use Rattle.logic.specs.declared.Extremum.TheVariants.{Largest, Smallest}
-use Rattle.logic.specs.declared.Direction.{Direction}
-use Rattle.logic.specs.declared.Direction.TheVariants.{Future, Past}
-use Rattle.logic.specs.Formula.{dual, Formula, truth, atom, negation, junction, temporal}
+use Rattle.logic.specs.Formula.{dual, Direction, future, Formula, truth, atom, negation, junction, temporal}
 
 -- what a requirement is read into: "not", the larger and the smaller of two, and the largest and the smallest over nothing
 pub record Algebra (X : Type 0) : Type 0 where
@@ -24,26 +22,23 @@ pub record Places : Type 0 where
   pub end : ℕ
   pub time : ℕ → ℕ
 
--- from place i on, or from i back: the place m steps away, how many places there are, and the time between
+-- from place i on: the place m steps away, how many places there are, and the time between
 abbrev pub place : Direction → ℕ → ℕ → ℕ
-place Future i m = i + m
-place Past i m = i - m
+place future i m = i + m
 
 abbrev pub count : Direction → Places → ℕ → ℕ
-count Future F i = F.end - i
-count Past F i = suc i - F.first
+count future F i = F.end - i
 
 abbrev pub offset : Direction → Places → ℕ → ℕ → ℕ
-offset Future F i m = F.time (i + m) - F.time i
-offset Past F i m = F.time i - F.time (i - m)
+offset future F i m = F.time (i + m) - F.time i
 
 module _ {X : Type 0} (A : Algebra X) where
   -- the largest, or the smallest, of the first n
   abbrev pub extremum : Extremum → (ℕ → X) → ℕ → X
   extremum e f n = fold (A.extreme e) (A.over_nothing e) f n
 
-  -- until and since: the largest, over the places m steps away whose time d m is in the window, of the smaller of right at m and left at every place before m.
-  -- Release and trigger: the smallest of the larger.
+  -- until: the largest, over the places m whose time d m is in the window, of the smaller of right at m and left at every place before m.
+  -- Release: the smallest of the larger.
   abbrev pub along : Extremum → Window → (ℕ → ℕ) → (ℕ → X) → (ℕ → X) → ℕ → X
   along e w d l r n = extremum e (λ m. cond (inside w (d m)) (A.extreme (dual e) (r m) (extremum (dual e) l m)) (A.over_nothing e)) n
 

@@ -31,7 +31,7 @@ contraction s w = record { from = delayed s w.from; stop = sooner s w.stop }
 abbrev pub expansion : ℕ → Window → Window
 expansion s w = record { from = w.from - s; stop = later s w.stop }
 
--- until and eventually, since and once contract their windows; release and always, trigger and historically expand them
+-- until and eventually contract their windows, release and always expand them
 abbrev pub strengthen_window : Extremum → ℕ → Window → Window
 strengthen_window Largest s w = contraction s w
 strengthen_window Smallest s w = expansion s w

@@ -11,13 +11,6 @@ pub enum Extremum {
     Smallest,
 }
 
-// Where a temporal operator looks: at later places, or at earlier ones.
-#[derive(Drop)]
-pub enum Direction {
-    Future,
-    Past,
-}
-
 // The end of a window: none, or the first second past it.
 #[derive(Drop)]
 pub enum Stop {

@@ -1,37 +1,19 @@
 -- The test of refusal 16 holds exactly where its sentence does, node for node. Inside a temporal operator that passes it, no other stands.
 -- Assumes nothing.
-use mathlib.Core.Path.{◌≡◌, refl}
 use Prim.Native.Nat.{ℕ}
-use mathlib.Core.Bool.{Bool, false}
+use mathlib.Core.Bool.{Bool}
 use lib.Dec.{T}
 use mir.Facts.{and_yes}
 use Rattle.lists.proofs.Below.{all_at, at_all}
 use Rattle.logic.specs.declared.Extremum.{Extremum}
 use Rattle.logic.specs.declared.Window.{Window}
-use Rattle.logic.specs.declared.Direction.{Direction}
-use Rattle.logic.specs.declared.Direction.TheVariants.{Future, Past}
-use Rattle.logic.specs.Formula.{Formula, temporal}
-use Rattle.tables.specs.declared.Node.{Node}
+use Rattle.logic.specs.Formula.{Direction, Formula, temporal}
 use Rattle.tables.specs.declared.Table.{Table}
-use Rattle.tables.specs.Kind.{Operator, constant, named, negated, unknown, joined, binary, unary, looks_back}
-use Rattle.tables.specs.Tree.{tree, formula}
+use Rattle.tables.specs.Tree.{tree}
 use Rattle.nesting.specs.Nesting.{momentary, unnested, nodes_unnested, Unnested}
 
 pub inside_momentary : {P : Type 0} (d : Direction) (e : Extremum) (w : Window) (l r : Formula P) → T (unnested (temporal d e w l r)) → T (momentary l) × T (momentary r)
-inside_momentary Future e w l r t = and_yes (momentary l) (momentary r) t
-inside_momentary Past e w l r t = absurd t
-
--- nor does it look back: an operator that passes looks ahead, if it looks anywhere
-pub not_back : (o : Operator) (n : Node) (φ : ℕ → Formula ℕ) → T (unnested (formula o n φ)) → looks_back o ≡ false
-not_back constant n φ t = refl
-not_back named n φ t = refl
-not_back negated n φ t = refl
-not_back unknown n φ t = refl
-not_back (joined e) n φ t = refl
-not_back (binary Future e) n φ t = refl
-not_back (binary Past e) n φ t = absurd t
-not_back (unary Future e) n φ t = refl
-not_back (unary Past e) n φ t = absurd t
+inside_momentary d e w l r t = and_yes (momentary l) (momentary r) t
 
 module _ (t : Table) where
   abbrev passes : ℕ → Bool

@@ -14,12 +14,11 @@ use lib.Seq.{get_or-set_same, get_or-set_other}
 use mir.Facts.{yes_and}
 use Rattle.lists.specs.Fold.{all_below}
 use Rattle.lists.proofs.Below.{same_test, all_at, Tested}
-use Rattle.logic.specs.declared.Direction.TheVariants.{Future, Past}
 use Rattle.logic.specs.declared.Extremum.TheVariants.{Largest, Smallest}
 use Rattle.logic.specs.Formula.{Formula}
 use Rattle.tables.specs.declared.Node.{Node}
 use Rattle.tables.specs.declared.Table.{Table}
-use Rattle.tables.specs.Kind.{Operator, constant, named, negated, unknown, joined, binary, unary, operator, looks_back}
+use Rattle.tables.specs.Kind.{Operator, constant, named, negated, unknown, joined, binary, unary, operator}
 use Rattle.tables.specs.Tree.{NODES, formula, node_at, tree}
 use Rattle.tables.specs.Rules.{Used, left_use, right_use, timed, NodeRules, TableRules}
 use Rattle.tables.proofs.Rules.{named_small}
@@ -63,20 +62,18 @@ module _ (ns : List Node) (k : ℕ) (noted : ℕ → Bool) (before : (c : ℕ) �
 
   -- and no earlier node nests
   module _ (earlier : (c : ℕ) → c < k → T (unnested (tree ns c))) where
-    nested_by_operator : (o : Operator) → Used (left_use o) k n.left → Used (right_use o) k n.right → not (timed o && (looks_back o || below o)) ≡ unnested (formula o n (tree ns))
+    nested_by_operator : (o : Operator) → Used (left_use o) k n.left → Used (right_use o) k n.right → not (timed o && below o) ≡ unnested (formula o n (tree ns))
     nested_by_operator constant l r = refl
     nested_by_operator named l r = refl
     nested_by_operator negated l r = same_test (λ _. earlier n.left l) (λ _. tt)
     nested_by_operator unknown l r = refl
     nested_by_operator (joined e) l r =
         same_test (λ _. yes_and (unnested (tree ns n.left)) (unnested (tree ns n.right)) (earlier n.left l) (earlier n.right r)) (λ _. tt)
-    nested_by_operator (binary Past e) l r = refl
-    nested_by_operator (unary Past e) l r = refl
-    nested_by_operator (binary Future e) l r = rw (before n.left l, before n.right r) (none_lasts (momentary (tree ns n.left)) (momentary (tree ns n.right)))
-    nested_by_operator (unary Future Largest) l r = rw (before n.left l) (alone (momentary (tree ns n.left)))
-    nested_by_operator (unary Future Smallest) l r = rw (before n.left l) (alone (momentary (tree ns n.left)))
+    nested_by_operator (binary d e) l r = rw (before n.left l, before n.right r) (none_lasts (momentary (tree ns n.left)) (momentary (tree ns n.right)))
+    nested_by_operator (unary d Largest) l r = rw (before n.left l) (alone (momentary (tree ns n.left)))
+    nested_by_operator (unary d Smallest) l r = rw (before n.left l) (alone (momentary (tree ns n.left)))
 
-    unnested_node : NodeRules (node_at ns k) k → not (timed (operator n.kind) && (looks_back (operator n.kind) || below (operator n.kind))) ≡ unnested (tree ns k)
+    unnested_node : NodeRules (node_at ns k) k → not (timed (operator n.kind) && below (operator n.kind)) ≡ unnested (tree ns k)
     unnested_node r = rw (tree_node ns k r) (nested_by_operator (operator n.kind) r.left r.right)
 
 -- ---- the walk over a table's nodes
@@ -104,19 +101,19 @@ module _ (t : Table) (rules : TableRules t) (k : ℕ) (h : k < t.count) where
   pub places : ((node_at t.nodes k).left < NODES) × ((node_at t.nodes k).right < NODES)
   places = named_small (rules.each k h) (omega (arith, rules.few_nodes))
 
-  pub noted_next : (notes : List Bool) {ok a b p : Bool} → Noted t k notes ok → a ≡ timed (operator (node_at t.nodes k).kind) → p ≡ looks_back (operator (node_at t.nodes k).kind)
+  pub noted_next : (notes : List Bool) {ok a b : Bool} → Noted t k notes ok → a ≡ timed (operator (node_at t.nodes k).kind)
       → b ≡ in_operands (operator (node_at t.nodes k).kind) (get_or notes (node_at t.nodes k).left false) (get_or notes (node_at t.nodes k).right false)
-      → Noted t (k + 1) (set notes k (a || b)) (ok && not (a && (p || b)))
-  noted_next notes {ok} {a} {b} {p} i ha hp hb = record { tested = record { inside = omega arith; so_far = so_far }; long = length-set notes k (a || b) ∙ i.long; each = each }
+      → Noted t (k + 1) (set notes k (a || b)) (ok && not (a && b))
+  noted_next notes {ok} {a} {b} i p q = record { tested = record { inside = omega arith; so_far = so_far }; long = length-set notes k (a || b) ∙ i.long; each = each }
     where
       noted : ℕ → Bool
       noted j = get_or notes j false
 
-      so_far : ok && not (a && (p || b)) ≡ all_below (clear t) (k + 1)
-      so_far = rw (add-one k, i.tested.so_far) (where_so (all_below (clear t) k) (λ s. rw (ha, hp, hb) (unnested_node t.nodes k noted i.each (all_at (clear t) k s) (rules.each k h))))
+      so_far : ok && not (a && b) ≡ all_below (clear t) (k + 1)
+      so_far = rw (add-one k, i.tested.so_far) (where_so (all_below (clear t) k) (λ s. rw (p, q) (unnested_node t.nodes k noted i.each (all_at (clear t) k s) (rules.each k h))))
 
       each : (j : ℕ) → j < k + 1 → get_or (set notes k (a || b)) j false ≡ lasting (tree t.nodes j)
       each j g = elim (ℕ_discrete j k) [
-        | yes e ↦ rw e (get_or-set_same notes k (a || b) false (omega (arith, rules.few_nodes, i.long)) ∙ (rw (ha, hb) (lasting_node t.nodes k noted i.each (rules.each k h))))
+        | yes e ↦ rw e (get_or-set_same notes k (a || b) false (omega (arith, rules.few_nodes, i.long)) ∙ (rw (p, q) (lasting_node t.nodes k noted i.each (rules.each k h))))
         | no e ↦ get_or-set_other notes k j (a || b) false e ∙ i.each j (omega arith)
       ]

@@ -1,9 +1,8 @@
--- Refusal 16: a temporal operator stands inside another, or looks back. On requirements, and the test of a table, which looks at every node. `proofs/Nesting` shows the test equal to its
+-- Refusal 16: a temporal operator stands inside another. On requirements, and the test of a table, which looks at every node. `proofs/Nesting` shows the test equal to its
 -- sentence, `Unnested`.
 -- Assumes nothing.
 use Rattle.std.specs.Prelude.{Bool, true, false, ◌&&◌, List, ℕ, ◌<◌, T}
 use Rattle.lists.specs.Fold.{all_below}
-use Rattle.logic.specs.declared.Direction.TheVariants.{Future, Past}
 use Rattle.logic.specs.Formula.{Formula, truth, atom, negation, junction, temporal}
 use Rattle.tables.specs.declared.Node.{Node}
 use Rattle.tables.specs.declared.Table.{Table}
@@ -17,14 +16,13 @@ momentary (negation φ) = momentary φ
 momentary (junction e l r) = momentary l && momentary r
 momentary (temporal d e w l r) = false
 
--- none stands inside another, at any depth, and none looks back
+-- none stands inside another, at any depth
 abbrev pub unnested : {P : Type 0} → Formula P → Bool
 unnested truth = true
 unnested (atom p) = true
 unnested (negation φ) = unnested φ
 unnested (junction e l r) = unnested l && unnested r
-unnested (temporal Future e w l r) = momentary l && momentary r
-unnested (temporal Past e w l r) = false
+unnested (temporal d e w l r) = momentary l && momentary r
 
 -- 16: every node is asked, whether the root reaches it or not
 unfoldable pub nodes_unnested : List Node → ℕ → Bool

@@ -1,4 +1,4 @@
-// Refusal 16: whether a temporal operator stands inside another, or looks back. Of each node it is noted whether a temporal operator stands in it, and a temporal node asks that of its operands.
+// Refusal 16: whether a temporal operator stands inside another. Of each node it is noted whether a temporal operator stands in it, and a temporal node asks that of its operands.
 ghost use Rattle.std.specs.Prelude.{◌≡◌};
 ghost use Rattle.tables.specs.Kind.{operator};
 ghost use Rattle.tables.specs.Rules.{TableRules};
@@ -29,9 +29,8 @@ pub fn unnested(table: Table) -> bool
         let left = node.left;
         let right = node.right;
         let here = tables::is_timed(node.kind);
-        let back = tables::looks_back(node.kind);
         let below = operands_timed(node.kind, timed[left], timed[right]);
-        ok = ok & !(here & (back | below));
+        ok = ok & !(here & below);
         timed[k] = here | below;
     }
     ok

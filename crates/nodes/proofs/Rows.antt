@@ -4,22 +4,19 @@ use mathlib.Core.Path.{◌≡◌, subst}
 use mathlib.Core.Bool.{Bool}
 use mathlib.Core.List.{List}
 use mathlib.Core.Logic.{inl, inr}
-use Prim.Native.Nat.{ℕ, ◌≤◌, ◌<◌}
+use Prim.Native.Nat.{ℕ, ◌<◌}
 use native.Mathlib.Omega.{arith}
 use lib.IntN.{ℤ}
-use lib.ListN.{length}
 use Rattle.lists.specs.Fill.{fill}
 use Rattle.logic.specs.declared.Window.{Window}
 use Rattle.logic.specs.declared.Extremum.{Extremum}
 use Rattle.logic.specs.declared.Extremum.TheVariants.{Smallest}
-use Rattle.logic.specs.declared.Direction.{Direction}
-use Rattle.logic.specs.Formula.{dual}
+use Rattle.logic.specs.Formula.{dual, future}
 use Rattle.logic.specs.Reading.{margin_extreme, margin_nothing}
 use Rattle.logic.specs.Negation.{turn}
 use Rattle.recordings.specs.Card.{Card, rows, scale, predicate, samples}
 use Rattle.recordings.specs.Distance.{TOP}
 use Rattle.recordings.specs.Margin.{distance_at}
-use Rattle.recordings.specs.Accepted.{MOST_ROWS}
 use Rattle.recordings.proofs.Margins.{measured, channel_scaled}
 use Rattle.points.specs.Point.{signed}
 use Rattle.rows.specs.Cells.{Above, Leaf}
@@ -42,8 +39,8 @@ module _ {w : List ℤ} {c : Card} {n : Node} {left right row : ℕ} (a : NodeAs
   pub above : (operand : ℕ) → operand < row → Above w (rows c) operand row
   above operand h = record { earlier = h; room = a.room }
 
-  pub row_asks : (l : Left) (operand : ℕ) → LeftEarlier row l → operand < row → TemporalAsks w c.times l operand row × (length c.times ≤ MOST_ROWS)
-  row_asks l operand h k = (record { left_earlier = h; right_earlier = k; right_bounded = a.bounded operand k; room = a.room; times_rise = record { rising = a.recorded.times.rising } }, a.recorded.lengths.few_rows)
+  pub row_asks : (l : Left) (operand : ℕ) → LeftEarlier row l → operand < row → TemporalAsks w c.times l operand row
+  row_asks l operand h k = record { left_earlier = h; right_earlier = k; right_bounded = a.bounded operand k; room = a.room; times_rise = record { rising = a.recorded.times.rising } }
 
   -- a node names what is set, so its channel is there
   pub channel_known : n.kind ≡ predicate_kind → (predicate c n.left).channel < c.setup.channels
@@ -77,10 +74,10 @@ module _ (c : Card) (n : Node) (w : Window) (l r : ℕ → ℤ) (base len : ℕ)
   unfolding node_value
   joined_arm o t h = rw o (rw t at h)
 
-  pub binary_arm : {d z : Direction} {x y : Extremum} → operator n.kind ≡ binary d x → z ≡ d → y ≡ turn b x → out ≡ fill base len (temporal_at z y w (samples c) l r) work → out ≡ fill base len (node_value c b w (operator n.kind) n l r) work
+  pub binary_arm : {x y : Extremum} → operator n.kind ≡ binary future x → y ≡ turn b x → out ≡ fill base len (temporal_at future y w (samples c) l r) work → out ≡ fill base len (node_value c b w (operator n.kind) n l r) work
   unfolding node_value
-  binary_arm o s t h = rw o (rw (s, t) at h)
+  binary_arm o t h = rw o (rw t at h)
 
-  pub unary_arm : {d z : Direction} {x y : Extremum} → operator n.kind ≡ unary d x → z ≡ d → y ≡ turn b x → out ≡ fill base len (temporal_at z y w (samples c) (λ m. margin_nothing TOP (dual y)) l) work → out ≡ fill base len (node_value c b w (operator n.kind) n l r) work
+  pub unary_arm : {x y : Extremum} → operator n.kind ≡ unary future x → y ≡ turn b x → out ≡ fill base len (temporal_at future y w (samples c) (λ m. margin_nothing TOP (dual y)) l) work → out ≡ fill base len (node_value c b w (operator n.kind) n l r) work
   unfolding node_value
-  unary_arm o s t h = rw o (rw (s, t) at h)
+  unary_arm o t h = rw o (rw t at h)

@@ -51,10 +51,9 @@ pub fn node_row(
     if !tables::is_timed(kind) {
         return rows::joined_row(rows, e, work, left, right, row);
     }
-    let d = tables::direction_of(kind);
     if tables::has_right(kind) {
-        past::timed_row(d, times, e, window, work, Left::Row(left), right, row)
+        temporal::temporal_row(times, e, window, work, Left::Row(left), right, row)
     } else {
-        past::timed_row(d, times, e, window, work, Left::Absent, left, row)
+        temporal::temporal_row(times, e, window, work, Left::Absent, left, row)
     }
 }

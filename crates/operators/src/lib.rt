@@ -1,9 +1,9 @@
 // The pieces of a requirement text that hold no other requirement: letters, windows and operators.
-ghost use Rattle.std.specs.Prelude.{◌≡◌, ◌∷◌, [], ◌≤◌, ◌<◌, length, get_or};
+ghost use Rattle.std.specs.Prelude.{◌≡◌, ◌≤◌, ◌<◌, length, get_or};
 ghost use Rattle.text.specs.Mark.{mark_at};
 ghost use Rattle.tables.specs.Tree.{LONGEST};
 ghost use Rattle.grammar.specs.Operators.{letters, letter};
-ghost use Rattle.grammar.specs.Reading.{bracket_at, high_end_at, window_at, over_window, kind_among, timed_from, binder_at, prefix_at};
+ghost use Rattle.grammar.specs.Reading.{bracket_at, high_end_at, window_at, over_window, timed_at, or_else, binder_at, prefix_at};
 
 use grammar::{Operator, Window};
 use tables::Span;
@@ -21,7 +21,7 @@ pub fn letter_of(kind: u64) -> u8
     ensures { result ≡ get_or letters kind 0 }
 {
     if kind < tables::KINDS {
-        letter_among(b"Tp!&|URFGSQOH", kind)
+        letter_among(b"Tp!&|URFG", kind)
     } else {
         0
     }
@@ -109,64 +109,46 @@ fn over(kind: u64, w: Window) -> Operator
     }
 }
 
-// A kind that was read, with its window.
-fn read_timed(s: &[u8], kind: Field) -> Operator
-    ensures { result ≡ timed_from s.now kind }
+// The letter of a kind and its window.
+fn read_timed(s: &[u8], at: usize, kind: u64) -> Operator
+    ensures { result ≡ timed_at kind s.now at }
 {
-    let Field::Number(found, next) = kind else {
+    let Mark::Next(next) = read_letter(s, at, kind) else {
         return Operator::Absent;
     };
-    over(found, read_window(s, next))
+    over(kind, read_window(s, next))
 }
 
-// Whichever of four kinds' letters stands at a place: the kind, and the place after its letter.
-fn read_kind(s: &[u8], at: usize, first: u64, second: u64, third: u64, fourth: u64) -> Field
-    ensures { result ≡ kind_among (first ∷ second ∷ third ∷ fourth ∷ []) s.now at }
+// The first operator, or the second where that is absent.
+fn or_else(first: Operator, second: Operator) -> Operator
+    ensures { result ≡ or_else first second }
 {
-    if let Mark::Next(next) = read_letter(s, at, first) {
-        return Field::Number(first, next);
+    match first {
+        Operator::Absent => second,
+        Operator::Over(kind, span, next) => Operator::Over(kind, span, next),
+        Operator::Bad => Operator::Bad,
     }
-    if let Mark::Next(next) = read_letter(s, at, second) {
-        return Field::Number(second, next);
-    }
-    if let Mark::Next(next) = read_letter(s, at, third) {
-        return Field::Number(third, next);
-    }
-    let Mark::Next(next) = read_letter(s, at, fourth) else {
-        return Field::Bad;
-    };
-    Field::Number(fourth, next)
 }
 
-// What binds a unary to the one before it: until, release, since or trigger.
+// What binds a unary to the one before it: until or release.
 pub fn read_binder(s: &[u8], at: usize) -> Operator
     ensures { result ≡ binder_at s.now at }
 {
-    let kind = read_kind(
-        s,
-        at,
-        tables::UNTIL,
-        tables::RELEASE,
-        tables::SINCE,
-        tables::TRIGGER,
-    );
-    read_timed(s, kind)
+    or_else(
+        read_timed(s, at, tables::UNTIL),
+        read_timed(s, at, tables::RELEASE),
+    )
 }
 
-// What a unary begins with, where it is an operator: not, eventually, always, once or historically.
+// What a unary begins with, where it is an operator: not, eventually or always.
 pub fn read_prefix(s: &[u8], at: usize) -> Operator
     ensures { result ≡ prefix_at s.now at }
 {
     if let Mark::Next(next) = read_letter(s, at, tables::NOT) {
         return Operator::Over(tables::NOT, tables::no_span(), next);
     }
-    let kind = read_kind(
-        s,
-        at,
-        tables::EVENTUALLY,
-        tables::ALWAYS,
-        tables::ONCE,
-        tables::HISTORICALLY,
-    );
-    read_timed(s, kind)
+    or_else(
+        read_timed(s, at, tables::EVENTUALLY),
+        read_timed(s, at, tables::ALWAYS),
+    )
 }

@@ -29,24 +29,21 @@ fn names_set(node: Node, predicates: [Predicate; 16]) -> bool
     is_set(range)
 }
 
-// Refusal 3, of a table and what it names. The table's rules are asked here node by node, because a table handed to one more function is copied.
+// Refusal 3, of a table and what it names. The walk stands here, because a table handed to one more function is copied.
 pub fn requirement_obeys(table: Table, predicates: [Predicate; 16]) -> bool
     ensures { result ≡ requirement_obeys table predicates }
 {
+    let obeys = tables::table_obeys(table);
+    if !obeys {
+        return false;
+    }
     let count = table.count;
-    if count == 0 {
-        return false;
-    }
-    if tables::NODES < count {
-        return false;
-    }
     let mut ok = true;
     let mut k = 0;
     while k < count {
         let node = table.nodes[k];
-        let obeys = tables::node_obeys(node, k);
         let set = names_set(node, predicates);
-        ok = ok & (obeys & set);
+        ok = ok & set;
         k += 1;
     }
     ok

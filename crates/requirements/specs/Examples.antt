@@ -1,8 +1,8 @@
--- Worked texts: what the grammar says of each, written out by hand.
+-- Worked texts: what document 01's grammar says of each, written out by hand.
 use Rattle.std.specs.Prelude.{ℕ, zero, suc, List, [], ◌∷◌, ◌++◌}
 use Prim.Native.String.{String}
 use Rattle.text.specs.Bytes.{bytes}
-use Rattle.tables.specs.Kind.{not_kind, and_kind, or_kind, until_kind, release_kind, eventually_kind, always_kind, since_kind, trigger_kind, once_kind, historically_kind}
+use Rattle.tables.specs.Kind.{not_kind, and_kind, or_kind, until_kind, release_kind, eventually_kind, always_kind}
 use Rattle.tables.specs.Tree.{NO_END, marked, span, no_span}
 use Rattle.grammar.specs.Tree.{Tree, truth, predicate, one, two}
 use Rattle.requirements.specs.declared.Requirement.{Requirement}
@@ -105,12 +105,4 @@ examples =
     ∷ is_none (bytes "F(p0)")
     ∷ reads_as (times 31 "!" ++ bytes "F(0,1]T") (nots 31 (one eventually_kind (marked 0 1 1 0) truth))
     ∷ is_none (times 31 "!" ++ bytes "F(0,1](T)")
-    -- looking back: S and Q bind as U and R do, O and H stand where F and G do and count as enclosings
-    ∷ reads_as (bytes "p0S[0,1]p1&p2") (and (two since_kind (span 0 1) (p 0) (p 1)) (p 2))
-    ∷ reads_as (bytes "!p0Q(0,1]p1") (two trigger_kind (marked 0 1 1 0) (no (p 0)) (p 1))
-    ∷ reads_as (bytes "O[0,*]H[2,3]p0") (one once_kind (span 0 NO_END) (one historically_kind (span 2 3) (p 0)))
-    ∷ is_none (bytes "p0S[0,1]p1U[0,1]p2")
-    ∷ is_none (bytes "Hp0")
-    ∷ reads_as (times 31 "!" ++ bytes "H[0,1]T") (nots 31 (one historically_kind (span 0 1) truth))
-    ∷ is_none (times 32 "!" ++ bytes "O[0,1]T")
     ∷ []

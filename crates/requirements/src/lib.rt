@@ -24,7 +24,7 @@ pub struct Counted {
     pub count: usize,
 }
 
-// At most so many of `!`, `G`, `F`, `H`, `O` and `(` enclose one another.
+// At most so many of `!`, `G`, `F` and `(` enclose one another.
 const ENCLOSINGS: usize = 32;
 
 // unary = `!` unary, `G` or `F` window unary, `T`, `p` with 0 to 15, or a parenthesised alternative.

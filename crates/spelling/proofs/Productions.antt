@@ -72,13 +72,13 @@ each_in P (Memᴰ.head e) h = subst P (sym e) h.0
 each_in P (Memᴰ.tail m) h = each_in P m h.1
 
 pub prefix_timed : {k : ℕ} → k ∈ prefixes → timed (operator k) ≡ true
-prefix_timed m = each_in (λ k. timed (operator k) ≡ true) m (refl, (refl, (refl, (refl, tt))))
+prefix_timed m = each_in (λ k. timed (operator k) ≡ true) m (refl, (refl, tt))
 
 pub binder_timed : {k : ℕ} → k ∈ binders → timed (operator k) ≡ true
-binder_timed m = each_in (λ k. timed (operator k) ≡ true) m (refl, (refl, (refl, (refl, tt))))
+binder_timed m = each_in (λ k. timed (operator k) ≡ true) m (refl, (refl, tt))
 
 pub binder_part : {k : ℕ} → k ∈ binders → part_of k ≡ bind
-binder_part m = each_in (λ k. part_of k ≡ bind) m (refl, (refl, (refl, (refl, tt))))
+binder_part m = each_in (λ k. part_of k ≡ bind) m (refl, (refl, tt))
 
 -- ---- a kind's part from tests
 

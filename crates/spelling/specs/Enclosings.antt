@@ -1,4 +1,4 @@
--- How many of `!`, `G`, `F`, `H`, `O` and `(` enclose one another in the text of a tree, counted on the tree: the parentheses that are written count. `proofs/Least` shows that no text of the tree has fewer.
+-- How many of `!`, `G`, `F` and `(` enclose one another in the text of a tree, counted on the tree: the parentheses that are written count. `proofs/Least` shows that no text of the tree has fewer.
 -- Assumes nothing.
 use Rattle.std.specs.Prelude.{ℕ, suc, ◌+◌, max, cond}
 use Rattle.grammar.specs.declared.Part.{Part}

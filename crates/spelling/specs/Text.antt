@@ -15,7 +15,7 @@ use Rattle.grammar.specs.Tree.{opens, closes, Tree, truth, predicate, one, two}
 
 -- ---- parts
 
--- which part of the grammar an operator makes: "or" an alternative, "and" a conjunction, until, release, since and trigger a bind, all else a unary
+-- which part of the grammar an operator makes: "or" an alternative, "and" a conjunction, until and release a bind, all else a unary
 abbrev pub operator_part : Operator → Part
 operator_part constant = unary
 operator_part named = unary

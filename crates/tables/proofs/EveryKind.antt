@@ -12,7 +12,8 @@ use Rattle.lists.specs.Fold.{all_below}
 use Rattle.lists.proofs.Below.{all_at}
 use Rattle.logic.specs.declared.Extremum.{Extremum}
 use Rattle.logic.specs.declared.Extremum.TheVariants.{Largest, Smallest}
-use Rattle.tables.specs.Kind.{Operator, constant, named, negated, unknown, joined, binary, unary, kinds, operator, operator_extremum, operator_direction, looks_back, is_named, is_not, true_kind, predicate_kind, not_kind, and_kind, or_kind, until_kind, release_kind, eventually_kind, since_kind, trigger_kind, once_kind, historically_kind}
+use Rattle.logic.specs.Formula.{future}
+use Rattle.tables.specs.Kind.{Operator, constant, named, negated, unknown, joined, binary, unary, kinds, operator, operator_extremum, is_not, true_kind, predicate_kind, not_kind, and_kind, or_kind, until_kind, release_kind, eventually_kind, always_kind}
 use Rattle.tables.specs.Rules.{Use, child, number, unused, is_child, left_use, right_use, timed}
 
 abbrev is_number : Use → Bool
@@ -67,27 +68,18 @@ same_use {u = unused} {v = unused} t = refl
 abbrev from_to : ℕ → ℕ → ℕ → Bool
 from_to a b k = leb a k && leb k b
 
-pub left_test : (k : ℕ) → from_to not_kind historically_kind k ≡ is_child (left_use (operator k))
-left_test = by_test (from_to not_kind historically_kind) (λ o. is_child (left_use o)) tt (λ k h. rw (le-leb not_kind k (omega arith), lt-leb k historically_kind (omega arith)) tt)
+pub left_test : (k : ℕ) → from_to not_kind always_kind k ≡ is_child (left_use (operator k))
+left_test = by_test (from_to not_kind always_kind) (λ o. is_child (left_use o)) tt (λ k h. rw (le-leb not_kind k (omega arith), lt-leb k always_kind (omega arith)) tt)
 
-pub right_test : (k : ℕ) → (from_to and_kind release_kind k || from_to since_kind trigger_kind k) ≡ is_child (right_use (operator k))
-right_test =
-    by_test (λ k. from_to and_kind release_kind k || from_to since_kind trigger_kind k) (λ o. is_child (right_use o)) tt
-    (λ k h. rw (le-leb and_kind k (omega arith), lt-leb k release_kind (omega arith), le-leb since_kind k (omega arith), lt-leb k trigger_kind (omega arith)) tt)
+pub right_test : (k : ℕ) → from_to and_kind release_kind k ≡ is_child (right_use (operator k))
+right_test = by_test (from_to and_kind release_kind) (λ o. is_child (right_use o)) tt (λ k h. rw (le-leb and_kind k (omega arith), lt-leb k release_kind (omega arith)) tt)
 
-pub timed_test : (k : ℕ) → from_to until_kind historically_kind k ≡ timed (operator k)
-timed_test = by_test (from_to until_kind historically_kind) timed tt (λ k h. rw (le-leb until_kind k (omega arith), lt-leb k historically_kind (omega arith)) tt)
+pub timed_test : (k : ℕ) → from_to until_kind always_kind k ≡ timed (operator k)
+timed_test = by_test (from_to until_kind always_kind) timed tt (λ k h. rw (le-leb until_kind k (omega arith), lt-leb k always_kind (omega arith)) tt)
 
-pub largest_test : (k : ℕ) → (eqb k or_kind || (eqb k until_kind || (eqb k eventually_kind || (eqb k since_kind || eqb k once_kind)))) ≡ is_largest (operator_extremum (operator k))
-largest_test =
-    by_test (λ k. eqb k or_kind || (eqb k until_kind || (eqb k eventually_kind || (eqb k since_kind || eqb k once_kind)))) (λ o. is_largest (operator_extremum o)) tt
-    (λ k h. rw (ne_eqb k or_kind (λ (e : k ≡ or_kind). omega arith), ne_eqb k until_kind (λ (e : k ≡ until_kind). omega arith), ne_eqb k eventually_kind (λ (e : k ≡ eventually_kind). omega arith), ne_eqb k since_kind (λ (e : k ≡ since_kind). omega arith), ne_eqb k once_kind (λ (e : k ≡ once_kind). omega arith)) tt)
-
-pub past_test : (k : ℕ) → from_to since_kind historically_kind k ≡ looks_back (operator k)
-past_test = by_test (from_to since_kind historically_kind) looks_back tt (λ k h. rw (le-leb since_kind k (omega arith), lt-leb k historically_kind (omega arith)) tt)
-
-pub named_test : (k : ℕ) → eqb k predicate_kind ≡ is_named (operator k)
-named_test = by_test (λ k. eqb k predicate_kind) is_named tt (λ k h. rw (ne_eqb k predicate_kind (λ (e : k ≡ predicate_kind). omega arith)) tt)
+pub largest_test : (k : ℕ) → (eqb k or_kind || (eqb k until_kind || eqb k eventually_kind)) ≡ is_largest (operator_extremum (operator k))
+largest_test = by_test (λ k. eqb k or_kind || (eqb k until_kind || eqb k eventually_kind)) (λ o. is_largest (operator_extremum o)) tt
+    (λ k h. rw (ne_eqb k or_kind (λ (e : k ≡ or_kind). omega arith), ne_eqb k until_kind (λ (e : k ≡ until_kind). omega arith), ne_eqb k eventually_kind (λ (e : k ≡ eventually_kind). omega arith)) tt)
 
 not_test : (k : ℕ) → eqb k not_kind ≡ is_not (operator k)
 not_test = by_test (λ k. eqb k not_kind) is_not tt (λ k h. rw (ne_eqb k not_kind (λ (e : k ≡ not_kind). omega arith)) tt)
@@ -125,11 +117,11 @@ joined_form (joined e) t h = refl
 joined_form (binary d e) t h = absurd (subst T h tt)
 joined_form (unary d e) t h = absurd (subst T h tt)
 
-pub temporal_form : (o : Operator) → timed o ≡ true → o ≡ cond (is_child (right_use o)) (binary (operator_direction o) (operator_extremum o)) (unary (operator_direction o) (operator_extremum o))
+pub temporal_form : (o : Operator) → timed o ≡ true → o ≡ cond (is_child (right_use o)) (binary future (operator_extremum o)) (unary future (operator_extremum o))
 temporal_form constant h = absurd (subst T (sym h) tt)
 temporal_form named h = absurd (subst T (sym h) tt)
 temporal_form negated h = absurd (subst T (sym h) tt)
 temporal_form unknown h = absurd (subst T (sym h) tt)
 temporal_form (joined e) h = absurd (subst T (sym h) tt)
-temporal_form (binary d e) h = refl
-temporal_form (unary d e) h = refl
+temporal_form (binary future e) h = refl
+temporal_form (unary future e) h = refl

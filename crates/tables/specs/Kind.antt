@@ -3,8 +3,7 @@
 use Rattle.std.specs.Prelude.{Bool, true, false, List, [], ◌∷◌, ℕ, get_or}
 use Rattle.logic.specs.declared.Extremum.{Extremum}
 use Rattle.logic.specs.declared.Extremum.TheVariants.{Largest, Smallest}
-use Rattle.logic.specs.declared.Direction.{Direction}
-use Rattle.logic.specs.declared.Direction.TheVariants.{Future, Past}
+use Rattle.logic.specs.Formula.{Direction, future}
 
 -- what a kind asks for: nothing, a predicate's number, one operand, two; the temporal ones a window too
 pub data Operator : Type 0 where
@@ -13,7 +12,7 @@ pub data Operator : Type 0 where
   binary : Direction → Extremum → Operator
   unary : Direction → Extremum → Operator
 
--- 0 true, 1 predicate, 2 not, 3 and, 4 or, 5 until, 6 release, 7 eventually, 8 always, 9 since, 10 trigger, 11 once, 12 historically
+-- 0 true, 1 predicate, 2 not, 3 and, 4 or, 5 until, 6 release, 7 eventually, 8 always
 abbrev pub kinds : List Operator
 kinds =
     constant
@@ -21,14 +20,10 @@ kinds =
     ∷ negated
     ∷ joined Smallest
     ∷ joined Largest
-    ∷ binary Future Largest
-    ∷ binary Future Smallest
-    ∷ unary Future Largest
-    ∷ unary Future Smallest
-    ∷ binary Past Largest
-    ∷ binary Past Smallest
-    ∷ unary Past Largest
-    ∷ unary Past Smallest
+    ∷ binary future Largest
+    ∷ binary future Smallest
+    ∷ unary future Largest
+    ∷ unary future Smallest
     ∷ []
 
 abbrev pub operator : ℕ → Operator
@@ -43,33 +38,6 @@ operator_extremum unknown = Smallest
 operator_extremum (joined e) = e
 operator_extremum (binary d e) = e
 operator_extremum (unary d e) = e
-
--- where an operator looks; the others look nowhere
-abbrev pub operator_direction : Operator → Direction
-operator_direction constant = Future
-operator_direction named = Future
-operator_direction negated = Future
-operator_direction unknown = Future
-operator_direction (joined e) = Future
-operator_direction (binary d e) = d
-operator_direction (unary d e) = d
-
--- whether it looks back
-abbrev pub is_past : Direction → Bool
-is_past Future = false
-is_past Past = true
-
-abbrev pub looks_back : Operator → Bool
-looks_back o = is_past (operator_direction o)
-
-abbrev pub is_named : Operator → Bool
-is_named constant = false
-is_named named = true
-is_named negated = false
-is_named unknown = false
-is_named (joined e) = false
-is_named (binary d e) = false
-is_named (unary d e) = false
 
 abbrev pub is_not : Operator → Bool
 is_not constant = false
@@ -107,15 +75,3 @@ eventually_kind = 7
 
 abbrev pub always_kind : ℕ
 always_kind = 8
-
-abbrev pub since_kind : ℕ
-since_kind = 9
-
-abbrev pub trigger_kind : ℕ
-trigger_kind = 10
-
-abbrev pub once_kind : ℕ
-once_kind = 11
-
-abbrev pub historically_kind : ℕ
-historically_kind = 12

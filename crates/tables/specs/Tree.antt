@@ -39,7 +39,7 @@ as_read w = record { from = w.lo + w.openlo; stop = cond (eqb w.hi NO_END) Endle
 abbrev pub window : Node → Window
 window n = as_read n.span
 
--- what stands left of a single operand: eventually and once are until and since from true, always and historically are release and trigger from false
+-- what stands left of a single operand: eventually is until from true, always is release from false
 abbrev pub unary_left : Extremum → Formula ℕ
 unary_left Largest = truth
 unary_left Smallest = negation truth

@@ -1,11 +1,11 @@
 // The requirement table: up to 64 nodes of seven numbers each, the root last; and the test of its rules, which specs/Rules.antt states.
 // The tests take every number that the types hold: none of them adds to a number that it has not bounded.
 ghost use Rattle.std.specs.Prelude.{◌≡◌, ◌≤◌};
-ghost use Rattle.tables.specs.Kind.{operator, operator_extremum, operator_direction, looks_back};
+ghost use Rattle.tables.specs.Kind.{operator, operator_extremum};
 ghost use Rattle.tables.specs.Tree.{NODES, no_span};
 ghost use Rattle.tables.specs.Rules.{is_child, left_use, right_use, timed, use_obeys, in_limits, window_obeys, is_blank, ends_obey, node_obeys, nodes_obey, table_obeys};
 
-use logic::{Direction, Extremum};
+use logic::Extremum;
 
 // The kinds of nodes; the definitions have them in specs/Kind.antt.
 pub const TRUE: u64 = 0;
@@ -26,16 +26,8 @@ pub const EVENTUALLY: u64 = 7;
 
 pub const ALWAYS: u64 = 8;
 
-pub const SINCE: u64 = 9;
-
-pub const TRIGGER: u64 = 10;
-
-pub const ONCE: u64 = 11;
-
-pub const HISTORICALLY: u64 = 12;
-
 // How many kinds there are.
-pub const KINDS: u64 = 13;
+pub const KINDS: u64 = 9;
 
 // A table has up to so many nodes.
 pub const NODES: usize = 64;
@@ -87,51 +79,31 @@ pub fn no_span() -> Span
 pub fn has_left(kind: u64) -> bool
     ensures { result ≡ is_child (left_use (operator kind)) }
 {
-    (NOT <= kind) & (kind <= HISTORICALLY)
+    (NOT <= kind) & (kind <= ALWAYS)
 }
 
 // Whether its right number is.
 pub fn has_right(kind: u64) -> bool
     ensures { result ≡ is_child (right_use (operator kind)) }
 {
-    ((AND <= kind) & (kind <= RELEASE)) | ((SINCE <= kind) & (kind <= TRIGGER))
+    (AND <= kind) & (kind <= RELEASE)
 }
 
 // Whether it has a window.
 pub fn is_timed(kind: u64) -> bool
     ensures { result ≡ timed (operator kind) }
 {
-    (UNTIL <= kind) & (kind <= HISTORICALLY)
+    (UNTIL <= kind) & (kind <= ALWAYS)
 }
 
 // The extremum that it takes, if it takes one.
 pub fn extremum_of(kind: u64) -> Extremum
     ensures { result ≡ operator_extremum (operator kind) }
 {
-    if (kind == OR)
-        | ((kind == UNTIL) | ((kind == EVENTUALLY) | ((kind == SINCE) | (kind == ONCE))))
-    {
+    if (kind == OR) | ((kind == UNTIL) | (kind == EVENTUALLY)) {
         Extremum::Largest
     } else {
         Extremum::Smallest
-    }
-}
-
-// Whether it looks back.
-pub fn looks_back(kind: u64) -> bool
-    ensures { result ≡ looks_back (operator kind) }
-{
-    (SINCE <= kind) & (kind <= HISTORICALLY)
-}
-
-// Where it looks, if it looks anywhere.
-pub fn direction_of(kind: u64) -> Direction
-    ensures { result ≡ operator_direction (operator kind) }
-{
-    if looks_back(kind) {
-        Direction::Past
-    } else {
-        Direction::Future
     }
 }
 

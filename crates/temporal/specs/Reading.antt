@@ -1,11 +1,9 @@
--- What a temporal row holds: an operator, whether it looks ahead or back, read over the places of a list of times.
+-- What a temporal row holds: until and release, eventually and always, read over the places of a list of times.
 -- Assumes nothing.
 use Rattle.std.specs.Prelude.{List, ℕ, suc, ◌+◌, ◌*◌, ◌≤◌, ◌<◌, ℤ, length, get_or}
-use Rattle.lists.specs.Fill.{fill}
 use Rattle.logic.specs.declared.Window.{Window}
 use Rattle.logic.specs.declared.Extremum.{Extremum}
-use Rattle.logic.specs.declared.Direction.{Direction}
-use Rattle.logic.specs.Formula.{dual}
+use Rattle.logic.specs.Formula.{dual, Direction}
 use Rattle.logic.specs.Reading.{Places, place, count, offset, along, margins, margin_nothing}
 use Rattle.recordings.specs.Distance.{TOP}
 use Rattle.rows.specs.Cells.{cell}
@@ -16,7 +14,7 @@ use Rattle.temporal.specs.declared.Left.TheVariants.{Row, Absent}
 abbrev pub places : List ℕ → Places
 places times = record { first = 0; end = length times; time = λ i. get_or times i 0 }
 
--- the left operand: a row; or nothing, for eventually and once, until and since from true, and for always and historically, release and trigger from false
+-- the left operand: a row; or nothing, for eventually, which is until from true, and for always, which is release from false
 abbrev pub left_at : Extremum → List ℤ → ℕ → Left → ℕ → ℤ
 left_at e w n (Row r) i = cell w n r i
 left_at e w n Absent i = margin_nothing TOP (dual e)
@@ -24,12 +22,6 @@ left_at e w n Absent i = margin_nothing TOP (dual e)
 -- the reading of a temporal operator at place i, from its operands' values
 abbrev pub temporal_at : Direction → Extremum → Window → Places → (ℕ → ℤ) → (ℕ → ℤ) → ℕ → ℤ
 temporal_at d e w F l r i = along (margins TOP) e w (offset d F i) (λ m. l (place d i m)) (λ m. r (place d i m)) (count d F i)
-
--- the cells w with the row of a temporal operator filled
-abbrev pub temporal_filled : Direction → Extremum → Window → List ℕ → Left → ℕ → ℕ → List ℤ → List ℤ
-temporal_filled d e v times left right row w =
-    let n = length times in
-    fill (row * n) n (temporal_at d e v (places times) (left_at e w n left) (cell w n right)) w
 
 -- times rise
 pub record Rising (times : List ℕ) : Type 0 where

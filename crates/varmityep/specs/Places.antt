@@ -1,7 +1,6 @@
 -- What each place of a C function's slices holds.
 -- Assumes nothing.
 use Rattle.std.specs.Prelude.{List, [], ◌∷◌, ℕ, ℤ, pos}
-use Rattle.std.specs.Borrow.{Bor}
 use Rattle.recordings.specs.declared.Verdict.{Verdict}
 use Rattle.recordings.specs.declared.Verdict.TheVariants.{Holds, Fails, NotShown}
 use Rattle.recordings.specs.Card.{Card, card}
@@ -15,10 +14,7 @@ use Rattle.sheets.specs.declared.Sheet.{Sheet}
 use Rattle.sheet_rows.specs.declared.Answer.{Answer as Rows}
 use Rattle.flat.specs.Predicates.{range_from, predicates_from}
 use Rattle.flat.specs.Scales.{scales_from, setup_from}
-use Rattle.flat.specs.Tables.{table_from}
 use Rattle.arrivals.specs.Arrivals.{watch_setup}
-use Rattle.watches.specs.declared.Watch.{Watch}
-use Rattle.watches.specs.Run.{made_in}
 use Rattle.lists.specs.Front.{written}
 
 -- what a requirement is read against: a setup in flat numbers, and a recording
@@ -28,10 +24,6 @@ card_from ranges ends channels scales times values = card (setup_from ranges end
 -- what a watch is made with: the count of scales is its channel count
 abbrev pub watch_setup_from : List ℕ → List ℤ → List ℕ → Setup
 watch_setup_from ranges ends scales = watch_setup (predicates_from ranges ends) (scales_from scales)
-
--- and the watch that is made so in what was lent
-abbrev pub watch_made : Bor (List ℕ) → ℕ → Bor (List ℕ) → Bor (List ℤ) → Bor (List ℕ) → Watch → Watch
-watch_made nodes count ranges ends scales w = made_in (watch_setup_from ranges.now ends.now scales.now) (table_from nodes.now count) w
 
 -- one predicate in four numbers
 abbrev pub predicate_of : ℕ → ℕ → ℤ → ℤ → Predicate

@@ -17,13 +17,14 @@ ghost use Rattle.margins.specs.Answers.{margin_outcome, margin_judged, margin_ce
 ghost use Rattle.verdicts.specs.Answer.{verdict_outcome, verdict_judged, verdict_cells};
 ghost use Rattle.answers.specs.Answers.{answers_of};
 ghost use Rattle.outcome_lines.specs.Printed.{LINES, lines_of};
+ghost use Rattle.recordings.specs.Card.{Card};
+ghost use Rattle.tables.specs.declared.Table.{Table};
 ghost use Rattle.refusals.specs.First.{first};
-ghost use Rattle.arrivals.specs.Arrivals.{no_rows};
+ghost use Rattle.arrivals.specs.Arrivals.{no_rows, margin_so_far};
 ghost use Rattle.watch_cells.specs.State.{NUMBERS, CELLS};
 ghost use Rattle.watches.specs.Watches.{Roomy, lent_checks, SameBehind};
-ghost use Rattle.watches.specs.Run.{lent, Watching, offered, told};
-ghost use Rattle.varmityep.specs.Places.{watch_setup_from, watch_made, sheet_numbers, row_places, card_from, predicate_of};
-ghost use Rattle.varmityep.specs.Places.{handed, distance_handed, margin_handed, verdict_number, verdict_handed};
+ghost use Rattle.watches.specs.Run.{lent, Watching, Took};
+ghost use Rattle.varmityep.specs.Places.{watch_setup_from, sheet_numbers, row_places, card_from, predicate_of, handed, distance_handed, margin_handed, verdict_number, verdict_handed};
 
 use recordings::{Predicate, Verdict};
 use writing::Written;
@@ -290,7 +291,7 @@ pub extern "C" fn varmityep_watch_fresh(
 ) -> u64
     ensures number { result ≡ first (lent_checks (watch_setup_from ranges.now ends.now scales.now) (table_from nodes.now count) (length numbers.old) (length cells.old)) }
     ensures watch { Roomy (length numbers.old) (length cells.old) → Watching (lent numbers.exit cells.exit) (table_from nodes.now count) (no_rows (watch_setup_from ranges.now ends.now scales.now)) }
-    ensures places { lent numbers.exit cells.exit ≡ watch_made nodes.entry count ranges.entry ends.entry scales.entry (lent numbers.entry cells.entry) }
+    ensures short { (Roomy (length numbers.old) (length cells.old) → ⊥) → (numbers.new ≡ numbers.old) × (cells.new ≡ cells.old) }
     ensures behind { SameBehind NUMBERS 0 numbers.old numbers.new × SameBehind CELLS (pos 0) cells.old cells.new }
 {
     let table = flat::table_from(nodes, count);
@@ -307,7 +308,9 @@ pub extern "C" fn varmityep_watch_row(
     time: u64,
     values: &[i64],
 ) -> u64
-    ensures { record { number = result; watch = lent numbers.exit cells.exit } ≡ offered (lent numbers.entry cells.entry) (record { time = time; values = values.now }) }
+    ensures row { Took (lent numbers.entry cells.entry) (record { time = time; values = values.now }) (record { number = result; watch = lent numbers.exit cells.exit }) }
+    ensures short { (Roomy (length numbers.old) (length cells.old) → ⊥) → result ≡ 8 }
+    ensures behind { SameBehind NUMBERS 0 numbers.old numbers.new × SameBehind CELLS (pos 0) cells.old cells.new }
 {
     watches::take(numbers, cells, time, values)
 }
@@ -315,8 +318,10 @@ pub extern "C" fn varmityep_watch_row(
 // The margin of the rows that a watch has accepted.
 #[unsafe(no_mangle)]
 pub extern "C" fn varmityep_watch_margin(numbers: &[u64], cells: &[i64], res: &mut [i64]) -> u64
-    ensures number { result ≡ (margin_outcome (told (lent numbers.entry cells.entry))).number }
-    ensures res { res.new ≡ margin_handed (margin_outcome (told (lent numbers.entry cells.entry))) res.old }
+    ensures number { (t : Table) (c : Card) → Watching (lent numbers.entry cells.entry) t c → result ≡ (margin_so_far c t).number }
+    ensures res { (t : Table) (c : Card) → Watching (lent numbers.entry cells.entry) t c → res.new ≡ margin_handed (margin_so_far c t) res.old }
+    ensures refused { (result ≡ 0 → ⊥) → res.new ≡ res.old }
+    ensures short { (Roomy (length numbers.now) (length cells.now) → ⊥) → result ≡ 8 }
 {
     let answer = watches::tell(numbers, cells);
     hand_margin(answer, res)

@@ -15,7 +15,7 @@ use Rattle.tables.specs.Tree.{window, node_at}
 use Rattle.rules.specs.Refusals.{Sound}
 use Rattle.verdicts.specs.Cells.{row_value}
 
--- until and eventually, since and once contract their windows, release and always, trigger and historically expand them; the others have none
+-- until and eventually contract their windows, release and always expand them; the others have none
 abbrev pub strong_window : Bool → ℕ → Operator → Node → Window
 strong_window b step o n = strengthen_window (turn b (operator_extremum o)) step (window n)
 

@@ -6,7 +6,7 @@ use Prim.Native.Nat.{ℕ, zero, suc, ◌+◌, ◌-◌, ◌*◌, ◌≤◌, ◌<�
 use native.Mathlib.Omega.{arith}
 use native.Mathlib.Decide.{ℕ_discrete}
 use lib.ListN.{length, get_or, set, length-set}
-use lib.Seq.{get_or-set_same, get_or-set_other, set-get_or}
+use lib.Seq.{get_or-set_same, get_or-set_other}
 use lib.IntN.{ℤ, pos}
 use borrow.Author.Tests.{le-leb, lt-ltb}
 use Rattle.recordings.specs.declared.Range.{Range}
@@ -18,7 +18,6 @@ use Rattle.tables.specs.Tree.{NODES, tree}
 use Rattle.flat.specs.Predicates.{range_from}
 use Rattle.arrivals.specs.Arrivals.{Row, with_row}
 use Rattle.watch_cells.specs.State.{HELD_AT, predicate_in, held_in, carried_by, part_of, cell_of, Planned, Held}
-use Rattle.watch_cells.specs.Step.{Three, stored}
 use Rattle.watch_cells.specs.Taking.{SameBeyond, Taking}
 
 -- ---- node k's own cells alone are written
@@ -56,29 +55,22 @@ module _ (cells : List ℤ) (k : ℕ) (x y : ℤ) where
   pub two_third : held_in stored_two k 2 ≡ held_in cells k 2
   two_third = set_other (set cells (HELD_AT + NODES * 0 + k) x) k 1 y 2 (λ (e : ◌≡◌ {A = ℕ} 2 1). omega arith) ∙ set_other cells k 0 x 2 (λ (e : ◌≡◌ {A = ℕ} 2 0). omega arith)
 
-  -- what a node carries, written again
-  pub third_kept : stored cells k (record { newest = x; margin = y; carried = held_in cells k 2 }) ≡ stored_two
-  third_kept = ap (λ (z : ℤ). set stored_two (HELD_AT + NODES * 2 + k) z) (sym two_third) ∙ set-get_or stored_two (HELD_AT + NODES * 2 + k) (pos 0)
-
--- its margin at sample 0, written again
-pub second_kept : (cells : List ℤ) (k : ℕ) (x : ℤ) → stored_two cells k x (held_in cells k 1) ≡ set cells (HELD_AT + NODES * 0 + k) x
-second_kept cells k x =
-    ap (λ (z : ℤ). set (set cells (HELD_AT + NODES * 0 + k) x) (HELD_AT + NODES * 1 + k) z) (sym (set_other cells k 0 x 1 (λ (e : ◌≡◌ {A = ℕ} 1 0). omega arith)))
-    ∙ set-get_or (set cells (HELD_AT + NODES * 0 + k) x) (HELD_AT + NODES * 1 + k) (pos 0)
-
 -- and all three
-module _ (cells : List ℤ) (k : ℕ) (x : Three) where
-  pub stored_only : Only cells (stored cells k x) k
-  stored_only = only_then (two_only cells k x.newest x.margin) (only_one (stored_two cells k x.newest x.margin) k 2 x.carried (omega arith))
+module _ (cells : List ℤ) (k : ℕ) (x y z : ℤ) where
+  abbrev pub stored_three : List ℤ
+  stored_three = set (stored_two cells k x y) (HELD_AT + NODES * 2 + k) z
 
-  pub stored_newest : HELD_AT + NODES * 0 + k < length cells → held_in (stored cells k x) k 0 ≡ x.newest
-  stored_newest l = set_other (stored_two cells k x.newest x.margin) k 2 x.carried 0 (λ (e : ◌≡◌ {A = ℕ} 0 2). omega arith) ∙ two_first cells k x.newest x.margin l
+  pub three_only : Only cells stored_three k
+  three_only = only_then (two_only cells k x y) (only_one (stored_two cells k x y) k 2 z (omega arith))
 
-  pub stored_margin : HELD_AT + NODES * 1 + k < length cells → held_in (stored cells k x) k 1 ≡ x.margin
-  stored_margin l = set_other (stored_two cells k x.newest x.margin) k 2 x.carried 1 (λ (e : ◌≡◌ {A = ℕ} 1 2). omega arith) ∙ two_second cells k x.newest x.margin l
+  pub three_first : HELD_AT + NODES * 0 + k < length cells → held_in stored_three k 0 ≡ x
+  three_first l = set_other (stored_two cells k x y) k 2 z 0 (λ (e : ◌≡◌ {A = ℕ} 0 2). omega arith) ∙ two_first cells k x y l
 
-  pub stored_carried : HELD_AT + NODES * 2 + k < length cells → held_in (stored cells k x) k 2 ≡ x.carried
-  stored_carried l = set_same (stored_two cells k x.newest x.margin) k 2 x.carried (rw (length-set, length-set) l)
+  pub three_second : HELD_AT + NODES * 1 + k < length cells → held_in stored_three k 1 ≡ y
+  three_second l = set_other (stored_two cells k x y) k 2 z 1 (λ (e : ◌≡◌ {A = ℕ} 1 2). omega arith) ∙ two_second cells k x y l
+
+  pub three_third : HELD_AT + NODES * 2 + k < length cells → held_in stored_three k 2 ≡ z
+  three_third l = set_same (stored_two cells k x y) k 2 z (rw (length-set, length-set) l)
 
 module _ {cells after : List ℤ} {k : ℕ} (O : Only cells after k) (hk : k < NODES) where
   other_node : (j part : ℕ) → part < 3 → j < NODES → (j ≡ k → ⊥) → held_in after j part ≡ held_in cells j part

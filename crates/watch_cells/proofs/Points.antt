@@ -1,40 +1,41 @@
--- What one node is worked out from. A window without end reaches as far as a sample can be, another as far as its high end; what is not below the least margin has a negative.
+-- What one node is worked out from. A window without end reaches as far as a sample can be, another as far as its high end; true and a predicate have a value of their own.
 -- Assumes nothing.
-use mathlib.Core.Path.{◌≡◌, refl, ap}
+use mathlib.Core.Path.{◌≡◌, refl, sym, ap, ◌∙◌, subst}
 use mathlib.Core.List.{List}
-use mathlib.Core.Bool.{Bool, true, false, cond, ◌&&◌, ◌||◌}
-use Prim.Native.Nat.{ℕ, zero, suc, ◌+◌, ◌-◌, ◌≤◌, ◌<◌, min}
+use mathlib.Core.Bool.{Bool, true, false, cond, ◌&&◌}
+use Prim.Native.Nat.{ℕ, zero, suc, ◌+◌, ◌-◌, ◌≤◌, ◌<◌}
 use native.Mathlib.Nat.{add-zero}
 use native.Mathlib.Omega.{arith}
-use native.Mathlib.Decide.{ℕ_discrete, dec_lt}
-use lib.Dec.{leb, ltb, eqb, leb→le, le→leb, ltb→lt, lt→ltb}
-use lib.ListN.{length, get_or}
+use native.Mathlib.Decide.{ℕ_discrete}
+use lib.Dec.{T, leb, ltb, eqb, leb→le, le→leb, ltb→lt, lt→ltb}
+use lib.ListN.{length}
 use lib.IntN.{ℤ, pos, negsuc, neg_ℤ}
-use lib.Signed.{lt_z, le_z}
-use borrow.Author.Tests.{eq-eqb, ne_eqb, le-leb, lt-leb, lt-ltb, le-ltb}
+use lib.Signed.{le_z}
+use borrow.Author.Tests.{eq-eqb, ne_eqb, le-leb}
 use mir.Syntax.{w64}
 use mir.Val.{SFits}
 use Rattle.numbers.specs.Order.{Within}
-use Rattle.numbers.proofs.Parts.{le_parts, nle_parts, parts_lt, parts_nlt, holds, fails, taken, not_taken}
-use Rattle.refusals.proofs.First.{answers}
+use Rattle.numbers.proofs.Parts.{le_parts, nle_parts, holds, fails, abs_parts}
 use Rattle.lists.proofs.Below.{same_test}
 use Rattle.logic.specs.declared.Stop.TheVariants.{Endless, Before}
 use Rattle.logic.specs.Window.{reaches, inside}
-use Rattle.logic.specs.declared.Extremum.TheVariants.{Largest}
-use Rattle.logic.proofs.Beaten.{nothing_moves}
-use Rattle.recordings.specs.declared.Predicate.{Predicate}
+use Rattle.logic.specs.declared.Extremum.{Extremum}
+use Rattle.logic.specs.Formula.{dual, future}
+use Rattle.logic.specs.Reading.{margin_nothing}
+use Rattle.recordings.specs.declared.Range.{Range}
 use Rattle.recordings.specs.Distance.{TOP, scaled_distance}
-use Rattle.recordings.specs.Accepted.{MOST_SCALE}
-use Rattle.predicates.specs.Predicates.{range_obeys}
 use Rattle.tables.specs.declared.Node.{Node}
-use Rattle.tables.specs.Kind.{kinds, operator, looks_back, always_kind}
+use Rattle.tables.specs.Kind.{binary, unary, kinds, operator, predicate_kind}
+use Rattle.tables.specs.Tree.{NODES, NO_END}
 use Rattle.tables.specs.Rules.{window_obeys, WindowRules}
 use Rattle.tables.specs.Closed.{closed_node}
-use Rattle.tables.proofs.EveryKind.{known_kind}
 use Rattle.tables.proofs.Rules.{window_passes}
-use Rattle.tables.specs.Tree.{NO_END}
-use Rattle.watch_cells.specs.State.{kept_node, kept_window}
-use Rattle.watch_cells.specs.Step.{kind_read, opposite_of, distance_from}
+use Rattle.refusals.proofs.First.{answers}
+use Rattle.watch_cells.specs.State.{kept_node, kept_window, held_in}
+use Rattle.watch_cells.specs.Taking.{point_of, IsDistance, LeafValue, TimedAsks}
+
+pub clash : {b : Bool} → b ≡ true → b ≡ false → ⊥
+clash e f = subst T (sym e ∙ f) tt
 
 reached : (d hi : ℕ) → d ≤ NO_END → leb d hi ≡ reaches (cond (eqb hi NO_END) Endless (Before (suc hi - 0))) d
 reached d hi h = elim (ℕ_discrete hi NO_END) [
@@ -49,39 +50,49 @@ inside_is n d h = rw (add-zero n.span.lo) (ap (λ (b : Bool). leb n.span.lo d &&
 pub kept_closed : (n : Node) → WindowRules n.span → kept_node n ≡ closed_node n
 kept_closed n r = let e : window_obeys n.span ≡ true = answers (window_passes n.span r) in rw e refl
 
--- ---- a predicate has a distance, or one of three tests fails
-module _ (p : Predicate) (k : ℕ) (xs : List ℤ) where
-  never : (a b : Bool) (x y : ℤ) → cond (a && (b && false)) x y ≡ y
-  never true true x y = refl
-  never true false x y = refl
-  never false b x y = refl
+-- true and predicates come first
+pub leaf_point : (kind : ℕ) (leaf l r : ℤ) → kind ≤ 1 → leaf ≡ point_of (operator kind) leaf l r
+leaf_point zero leaf l r h = refl
+leaf_point (suc zero) leaf l r h = refl
+leaf_point (suc (suc kind)) leaf l r h = absurd (omega arith)
 
-  pub no_channel : length xs ≤ p.channel → distance_from p k xs ≡ pos TOP
-  no_channel h = rw (le-ltb p.channel (length xs) h)
-
-  pub no_scale : MOST_SCALE < k → distance_from p k xs ≡ pos TOP
-  no_scale h = rw (lt-leb k MOST_SCALE h) (never (ltb p.channel (length xs)) true _ _)
-
-  pub no_range : range_obeys p.range ≡ false → distance_from p k xs ≡ pos TOP
-  no_range e = rw e (never (ltb p.channel (length xs)) (leb k MOST_SCALE) _ _)
-
-  module _ (a : p.channel < length xs) (b : k ≤ MOST_SCALE) (e : range_obeys p.range ≡ true) where
-    pub distance_had : distance_from p k xs ≡ scaled_distance TOP k p.range (get_or xs p.channel (pos 0))
-    distance_had = rw (lt-ltb p.channel (length xs) a, le-leb k MOST_SCALE b, e)
-
--- ---- a number that is none of the next four is past them
+-- a number that is none of the next four is past them
 pub past : (n x : ℕ) → n ≤ x → (x ≡ n → ⊥) → (x ≡ n + 1 → ⊥) → (x ≡ n + 2 → ⊥) → (x ≡ n + 3 → ⊥) → n + 4 ≤ x
 past n x h a b c d = omega arith
 
--- a kind past always is read as always, and one that does not look back as it is
-pub last_read : (x : ℕ) → always_kind ≤ x → kind_read x ≡ operator always_kind
-last_read x h = let e : min x always_kind ≡ always_kind = omega arith in ap operator e
+pub last_kind : (x : ℕ) → x < length kinds → 8 ≤ x → x ≡ 8
+last_kind x below h = omega arith
 
-pub known_read : (x : ℕ) → x < length kinds → looks_back (operator x) ≡ false → kind_read x ≡ operator x
-known_read x h ahead = elim (dec_lt always_kind x) [
-  | yes e ↦ absurd (rw (lt-leb x always_kind e, ahead) at (known_kind (λ o k. leb k always_kind || looks_back o) tt x h))
-  | no e ↦ let z : min x always_kind ≡ x = omega arith in ap operator z
-]
+-- ---- what a leaf and a temporal operator are worked out from, by the kind
+pub true_leaf : {numbers : List ℕ} {cells values : List ℤ} {n : Node} → n.kind ≡ 0 → LeafValue numbers cells values n (pos TOP)
+true_leaf e = record { own = omega arith; true_is = λ z. refl; named_is = λ z. absurd (omega arith) }
+
+pub named_leaf : {numbers : List ℕ} {cells values : List ℤ} {n : Node} {v : ℤ} → n.kind ≡ predicate_kind → IsDistance numbers cells values n v → LeafValue numbers cells values n v
+named_leaf e h = record { own = omega arith; true_is = λ z. absurd (z e); named_is = λ z. h }
+
+module _ {cells : List ℤ} {n : Node} {e : Extremum} {l r : ℤ} where
+  pub binary_asks : operator n.kind ≡ binary future e → (n.left < NODES → l ≡ held_in cells n.left 0) → (n.right < NODES → r ≡ held_in cells n.right 0) → TimedAsks cells n e l r
+  binary_asks o hl hr = record {
+    windowed = rw o refl;
+    extremum_is = rw o refl;
+    left_two = λ z. hl;
+    left_one = λ z. absurd (clash (rw o refl) z);
+    right_two = λ z. hr;
+    right_one = λ z. absurd (clash (rw o refl) z);
+  }
+
+  pub unary_asks : operator n.kind ≡ unary future e → l ≡ margin_nothing TOP (dual e) → (n.left < NODES → r ≡ held_in cells n.left 0) → TimedAsks cells n e l r
+  unary_asks o hl hr = record {
+    windowed = rw o refl;
+    extremum_is = rw o refl;
+    left_two = λ z. absurd (clash z (rw o refl));
+    left_one = λ z. hl;
+    right_two = λ z. absurd (clash z (rw o refl));
+    right_one = λ z. hr;
+  }
+
+pub distance_same : {k s : ℕ} {r q : Range} {v x : ℤ} → s ≡ k → r ≡ q → x ≡ v → scaled_distance TOP s r x ≡ scaled_distance TOP k q v
+distance_same a b d = rw (a, b, d)
 
 -- ---- the least margin: what is not below it has a negative, and no margin is below it
 abbrev least : ℤ
@@ -92,11 +103,5 @@ negative_fits (pos zero) h e = record { sfits = omega arith }
 negative_fits (pos (suc n)) h e = record { sfits = omega (arith, h.sfits) }
 negative_fits (negsuc n) h e = record { sfits = omega (arith, le_parts least (negsuc n) (holds e)) }
 
-pub opposite_above : (a : ℤ) → le_z least a ≡ true → opposite_of a ≡ neg_ℤ a
-opposite_above a e = ap neg_ℤ (not_taken (lt_z a least) a least (parts_nlt a least (le_parts least a (holds e))))
-
-pub opposite_below : (a : ℤ) → le_z least a ≡ false → opposite_of a ≡ pos TOP
-opposite_below a e = ap neg_ℤ (taken (lt_z a least) a least (parts_lt a least (nle_parts least a (fails e))))
-
-pub opposite_is : (a : ℤ) → Within TOP a → opposite_of a ≡ neg_ℤ a
-opposite_is a w = ap neg_ℤ (nothing_moves TOP Largest a w)
+pub no_margin_below : (a : ℤ) → Within TOP a → le_z least a ≡ false → ⊥
+no_margin_below a w e = omega (arith, w.size, abs_parts a, nle_parts least a (fails e))

@@ -1,4 +1,3 @@
--- How a watch lies in two slices (`State`), what a row does to the cells of any (`Step`), and to those of one that has taken a recording's rows (`Taking`).
+-- How a watch lies in two slices (`State`), and what a row does to its nodes' cells (`Taking`).
 pub mod State
-pub mod Step
 pub mod Taking

@@ -1,17 +1,19 @@
 // A watch in numbers, and one row more taken by each of its nodes, in place: a caller lends the watch, and nothing is copied at a row. Of a node without window the row gives the
 // value there, and the margin at sample 0 comes from its operands'. A temporal operator takes in the new sample and carries left's extremum along.
-// Nothing is asked of what the slices hold: specs/Step says what a row does to any numbers and cells.
-ghost use Rattle.std.specs.Prelude.{◌≡◌, cond, ◌≤◌, ◌<◌, length};
+// Nothing is asked of what the slices hold. Numbers that no making left give some margin; no place outside the slices is read or written.
+ghost use Rattle.std.specs.Prelude.{◌≡◌, ◌≤◌, ◌<◌, neg_ℤ, length};
+ghost use Rattle.numbers.specs.Order.{Within};
 ghost use Rattle.logic.specs.Window.{inside};
-ghost use Rattle.logic.specs.Formula.{dual};
-ghost use Rattle.logic.specs.declared.Direction.TheVariants.{Future};
-ghost use Rattle.logic.specs.Reading.{margin_extreme, margin_nothing};
+ghost use Rattle.logic.specs.Formula.{future};
 ghost use Rattle.recordings.specs.Distance.{TOP};
+ghost use Rattle.recordings.specs.Card.{Card};
 ghost use Rattle.recordings.specs.Accepted.{Values};
-ghost use Rattle.tables.specs.Kind.{negated, joined, binary, unary};
+ghost use Rattle.tables.specs.declared.Table.{Table};
+ghost use Rattle.tables.specs.Kind.{operator, negated, joined, binary, unary};
 ghost use Rattle.tables.specs.Tree.{NODES, NO_END};
+ghost use Rattle.arrivals.specs.Arrivals.{Row};
 ghost use Rattle.watch_cells.specs.State.{NUMBERS, CELLS, node_in, kept_window, held_in};
-ghost use Rattle.watch_cells.specs.Step.{Sample, three_in, stored, operand_in, opposite_of, distance_in, leaf_takes, timed_takes, taken_as, node_taken, nodes_taken};
+ghost use Rattle.watch_cells.specs.Taking.{IsDistance, LeafValue, IsPoint, TimedAsks, so_far, margin_after, newest_of, SameBeyond, Arriving, Taking, NodeTakes};
 
 use logic::Extremum;
 use recordings::TOP;
@@ -47,10 +49,10 @@ fn node_of(numbers: &[u64], k: usize) -> Node
     building::read_node(numbers, NODES_AT + building::WIDTH * k)
 }
 
-// The distance of the row's value from a predicate, TOP where there is none.
+// The distance of the row's value from a predicate. Numbers that no making left name some predicate and some scale; TOP where there is no distance.
 fn distance_of(numbers: &[u64], cells: &[i64], values: &[i64], node: Node) -> i64
     requires { (NUMBERS ≤ length numbers.now) × (CELLS ≤ length cells.now) × Values values.now }
-    ensures { result ≡ distance_in numbers.now cells.now values.now node.left }
+    ensures { IsDistance numbers.now cells.now values.now node result }
 {
     let named = node.left % 16;
     let at = RANGES_AT + 2 * named;
@@ -69,17 +71,17 @@ fn distance_of(numbers: &[u64], cells: &[i64], values: &[i64], node: Node) -> i6
     points::scaled_distance(range, scale, values[channel])
 }
 
-// A part of the cells of the node that a number names.
+// A part of a node's cells. Numbers that no making left name some node.
 fn operand(cells: &[i64], child: usize, part: usize) -> i64
     requires { (CELLS ≤ length cells.now) × (part < 3) }
-    ensures { result ≡ operand_in cells.now child part }
+    ensures { child < NODES → result ≡ held_in cells.now child part }
 {
     cells[HELD_AT + tables::NODES * part + child % tables::NODES]
 }
 
-// Minus a margin. What is below all margins counts as the least, so that there is a negative.
+// Minus a margin. What is below all margins isn't negated.
 fn opposite(a: i64) -> i64
-    ensures { result ≡ opposite_of a }
+    ensures { Within TOP a → result ≡ neg_ℤ a }
 {
     if numbers::at_most(points::BOTTOM, a) {
         numbers::negated(a)
@@ -91,7 +93,7 @@ fn opposite(a: i64) -> i64
 // "Not", from one part of its operand's cells.
 fn negation_at(cells: &[i64], node: Node, part: usize) -> i64
     requires { (CELLS ≤ length cells.now) × (part < 3) }
-    ensures { result ≡ opposite_of (operand_in cells.now node.left part) }
+    ensures { (k : _) → k ≤ NODES → operator node.kind ≡ negated → IsPoint cells.now node k part result }
 {
     let a = operand(cells, node.left, part);
     opposite(a)
@@ -100,7 +102,7 @@ fn negation_at(cells: &[i64], node: Node, part: usize) -> i64
 // "And" or "or", from one part of their operands' cells.
 fn junction_at(cells: &[i64], node: Node, e: Extremum, part: usize) -> i64
     requires { (CELLS ≤ length cells.now) × (part < 3) }
-    ensures { result ≡ margin_extreme e (operand_in cells.now node.left part) (operand_in cells.now node.right part) }
+    ensures { (k : _) → k ≤ NODES → operator node.kind ≡ joined e → IsPoint cells.now node k part result }
 {
     let a = operand(cells, node.left, part);
     let b = operand(cells, node.right, part);
@@ -118,7 +120,7 @@ fn in_window(node: Node, since: u64) -> bool
 // What a node holds before the row; `none` before the first.
 fn so_far(cells: &[i64], opening: bool, none: i64, k: usize, part: usize) -> i64
     requires { (CELLS ≤ length cells.now) × (k < NODES) × (part < 3) }
-    ensures { result ≡ cond opening none (held_in cells.now k part) }
+    ensures { result ≡ so_far cells.now opening none k part }
 {
     if opening {
         none
@@ -129,7 +131,7 @@ fn so_far(cells: &[i64], opening: bool, none: i64, k: usize, part: usize) -> i64
 
 // A temporal operator's margin with one sample more, where that is in the window: right there is joined with what left was before it.
 fn margin_after(e: Extremum, margin: i64, carried: i64, right: i64, here: bool) -> i64
-    ensures { result ≡ cond here (margin_extreme e margin (margin_extreme (dual e) right carried)) margin }
+    ensures { result ≡ margin_after e margin carried right here }
 {
     if here {
         points::extreme(e, margin, points::extreme(logic::dual(e), right, carried))
@@ -140,7 +142,7 @@ fn margin_after(e: Extremum, margin: i64, carried: i64, right: i64, here: bool) 
 
 // A temporal operator at the row itself, behind which there is no sample yet: right there, if its window starts now.
 fn newest_of(node: Node, e: Extremum, right: i64) -> i64
-    ensures { result ≡ cond (inside (kept_window node) 0) right (margin_nothing TOP e) }
+    ensures { result ≡ newest_of node e right }
 {
     if in_window(node, 0) {
         right
@@ -152,7 +154,8 @@ fn newest_of(node: Node, e: Extremum, right: i64) -> i64
 // True or a predicate takes the row: at sample 0 it keeps what it had at the first one.
 fn take_leaf(cells: &mut [i64], leaf: i64, opening: bool, k: usize)
     requires { (CELLS ≤ length cells.old) × (k < NODES) }
-    ensures { cells.new ≡ stored cells.old k (leaf_takes opening leaf (three_in cells.old k)) }
+    ensures taken { (numbers values : _) (since : _) (n : _) → n ≡ node_in numbers k → LeafValue numbers cells.old values n leaf → NodeTakes numbers cells.old cells.new values opening since k }
+    ensures beyond { SameBeyond cells.old cells.new }
 {
     cells[HELD_AT + tables::NODES * NEWEST + k] = leaf;
     if opening {
@@ -163,7 +166,8 @@ fn take_leaf(cells: &mut [i64], leaf: i64, opening: bool, k: usize)
 // "Not", "and" or "or" takes the row: it has a value there, and one at sample 0.
 fn take_point(cells: &mut [i64], newest: i64, margin: i64, k: usize)
     requires { (CELLS ≤ length cells.old) × (k < NODES) }
-    ensures { cells.new ≡ stored cells.old k (record { newest = newest; margin = margin; carried = held_in cells.old k 2 }) }
+    ensures taken { (numbers values : _) (opening : _) (since : _) (n : _) → n ≡ node_in numbers k → IsPoint cells.old n k 0 newest → IsPoint cells.old n k 1 margin → NodeTakes numbers cells.old cells.new values opening since k }
+    ensures beyond { SameBeyond cells.old cells.new }
 {
     cells[HELD_AT + tables::NODES * NEWEST + k] = newest;
     cells[HELD_AT + tables::NODES * MARGIN + k] = margin;
@@ -172,7 +176,8 @@ fn take_point(cells: &mut [i64], newest: i64, margin: i64, k: usize)
 // "Not" takes the row.
 fn take_not(numbers: &[u64], cells: &mut [i64], k: usize)
     requires { (NUMBERS ≤ length numbers.now) × (CELLS ≤ length cells.old) × (k < NODES) }
-    ensures { (s : Sample) → cells.new ≡ taken_as negated numbers.now s k cells.old }
+    ensures taken { (values : _) (opening : _) (since : _) → operator (node_in numbers.now k).kind ≡ negated → NodeTakes numbers.now cells.old cells.new values opening since k }
+    ensures beyond { SameBeyond cells.old cells.new }
 {
     let node = node_of(numbers, k);
     let newest = negation_at(cells, node, NEWEST);
@@ -183,7 +188,8 @@ fn take_not(numbers: &[u64], cells: &mut [i64], k: usize)
 // "And" or "or" takes the row.
 fn take_joined(numbers: &[u64], cells: &mut [i64], e: Extremum, k: usize)
     requires { (NUMBERS ≤ length numbers.now) × (CELLS ≤ length cells.old) × (k < NODES) }
-    ensures { (s : Sample) → cells.new ≡ taken_as (joined e) numbers.now s k cells.old }
+    ensures taken { (values : _) (opening : _) (since : _) → operator (node_in numbers.now k).kind ≡ joined e → NodeTakes numbers.now cells.old cells.new values opening since k }
+    ensures beyond { SameBeyond cells.old cells.new }
 {
     let node = node_of(numbers, k);
     let newest = junction_at(cells, node, e, NEWEST);
@@ -203,7 +209,8 @@ fn take_timed(
     k: usize,
 )
     requires { (CELLS ≤ length cells.old) × (k < NODES) × (since ≤ NO_END) }
-    ensures { cells.new ≡ stored cells.old k (timed_takes e (kept_window node) opening since left right (three_in cells.old k)) }
+    ensures taken { (numbers values : _) → node ≡ node_in numbers k → TimedAsks cells.old node e left right → NodeTakes numbers cells.old cells.new values opening since k }
+    ensures beyond { SameBeyond cells.old cells.new }
 {
     let other = logic::dual(e);
     let margin = so_far(cells, opening, points::over_nothing(e), k, MARGIN);
@@ -220,7 +227,8 @@ fn take_timed(
 // Until or release takes the row.
 fn take_binary(numbers: &[u64], cells: &mut [i64], e: Extremum, opening: bool, since: u64, k: usize)
     requires { (NUMBERS ≤ length numbers.now) × (CELLS ≤ length cells.old) × (k < NODES) × (since ≤ NO_END) }
-    ensures { (values : _) → cells.new ≡ taken_as (binary Future e) numbers.now (record { values = values; opening = opening; since = since }) k cells.old }
+    ensures taken { (values : _) → operator (node_in numbers.now k).kind ≡ binary future e → NodeTakes numbers.now cells.old cells.new values opening since k }
+    ensures beyond { SameBeyond cells.old cells.new }
 {
     let node = node_of(numbers, k);
     let left = operand(cells, node.left, NEWEST);
@@ -231,7 +239,8 @@ fn take_binary(numbers: &[u64], cells: &mut [i64], e: Extremum, opening: bool, s
 // Eventually or always takes the row.
 fn take_unary(numbers: &[u64], cells: &mut [i64], e: Extremum, opening: bool, since: u64, k: usize)
     requires { (NUMBERS ≤ length numbers.now) × (CELLS ≤ length cells.old) × (k < NODES) × (since ≤ NO_END) }
-    ensures { (values : _) → cells.new ≡ taken_as (unary Future e) numbers.now (record { values = values; opening = opening; since = since }) k cells.old }
+    ensures taken { (values : _) → operator (node_in numbers.now k).kind ≡ unary future e → NodeTakes numbers.now cells.old cells.new values opening since k }
+    ensures beyond { SameBeyond cells.old cells.new }
 {
     let node = node_of(numbers, k);
     let left = points::over_nothing(logic::dual(e));
@@ -249,7 +258,8 @@ fn take_node(
     k: usize,
 )
     requires { (NUMBERS ≤ length numbers.now) × (CELLS ≤ length cells.old) × (k < NODES) × Values values.now × (since ≤ NO_END) }
-    ensures { cells.new ≡ node_taken numbers.now (record { values = values.entry.now; opening = opening; since = since }) k cells.old }
+    ensures taken { NodeTakes numbers.now cells.old cells.new values.now opening since k }
+    ensures beyond { SameBeyond cells.old cells.new }
 {
     let kind = kind_of(numbers, k);
     match kind {
@@ -278,7 +288,8 @@ pub fn take_nodes(
     count: usize,
 )
     requires { (NUMBERS ≤ length numbers.now) × (CELLS ≤ length cells.old) × (count ≤ NODES) × Values values.now × (since ≤ NO_END) }
-    ensures { cells.new ≡ nodes_taken numbers.now (record { values = values.entry.now; opening = opening; since = since }) count cells.old }
+    ensures taken { (t : Table) (c : Card) (r : Row) → Arriving values.now opening since t c r → count ≡ t.count → Taking numbers.now cells.old t c r 0 → Taking numbers.now cells.new t c r count }
+    ensures beyond { SameBeyond cells.old cells.new }
 {
     let mut k = 0;
     while k < count {

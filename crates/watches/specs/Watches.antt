@@ -1,6 +1,6 @@
 -- A watch of a table that has taken the rows of a recording: what each of its numbers and cells is. A refused making gives one too, of no row, whose first number is that refusal.
 -- Assumes nothing.
-use Rattle.std.specs.Prelude.{◌≡◌, ◌&&◌, List, [], ◌∷◌, ◌++◌, map, ℕ, ◌*◌, ◌≤◌, ◌<◌, leb, length, get_or, replicate, ℤ, pos}
+use Rattle.std.specs.Prelude.{◌≡◌, ◌&&◌, cond, List, [], ◌∷◌, ◌++◌, map, ℕ, ◌*◌, ◌≤◌, ◌<◌, leb, eqb, length, get_or, set, replicate, ℤ, pos}
 use Rattle.lists.specs.Fill.{fill, fill_rows}
 use Rattle.lists.specs.Front.{written}
 use Rattle.recordings.specs.declared.Predicate.{Predicate}
@@ -77,3 +77,7 @@ fresh_numbers number t ps ks old = put_at 0 0 (number ∷ t.count ∷ 0 ∷ 0 �
 
 abbrev pub fresh_cells : List Predicate → List ℤ → List ℤ
 fresh_cells ps old = fill HELD_AT (3 * NODES) (λ i. pos 0) (written (ends_of ps) old)
+
+-- ---- the first row's time is kept as the first time
+abbrev pub begun : ℕ → List ℕ → List ℕ
+begun time numbers = cond (eqb (get_or numbers 3 0) 0) (set numbers 2 time) numbers

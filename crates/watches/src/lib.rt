@@ -1,16 +1,21 @@
 // A margin while the card runs. A watch is made from a table, its predicates and scales, takes one row at a time and tells the margin of the rows that it has accepted, without
 // storing them: its size is fixed. It is a struct by value; `make`, `take` and `tell` are the same for a watch that a caller lends as two slices, and nothing is copied there.
-ghost use Rattle.std.specs.Prelude.{◌≡◌, map, ◌≤◌, ◌+◌, ◌-◌, ◌*◌, min, eqb, pos, length, get_or, set, replicate};
+ghost use Rattle.std.specs.Prelude.{◌≡◌, map, ◌≤◌, ◌<◌, ◌+◌, ◌-◌, ◌*◌, min, eqb, pos, length, get_or};
 ghost use Rattle.lists.specs.Fill.{fill};
 ghost use Rattle.lists.specs.Front.{written};
 ghost use Rattle.flat.specs.Predicates.{ends_of};
+ghost use Rattle.recordings.specs.Card.{Card, rows};
+ghost use Rattle.recordings.specs.Margin.{margin};
 ghost use Rattle.recordings.specs.Accepted.{LATEST, Values};
-ghost use Rattle.tables.specs.Tree.{NODES};
+ghost use Rattle.tables.specs.declared.Table.{Table};
+ghost use Rattle.tables.specs.Tree.{NODES, root};
+ghost use Rattle.tables.specs.Rules.{TableRules};
 ghost use Rattle.refusals.specs.First.{first};
-ghost use Rattle.arrivals.specs.Arrivals.{watch_setup, no_rows};
+ghost use Rattle.margins.specs.Answers.{margin_outcome};
+ghost use Rattle.arrivals.specs.Arrivals.{watch_setup, no_rows, with_row, offer_refusal, accepted, margin_so_far};
 ghost use Rattle.watch_cells.specs.State.{NUMBERS, CELLS, HELD_AT, kept_node};
-ghost use Rattle.watches.specs.Watches.{Roomy, room_check, lent_checks, SameBehind, setup_numbers, fresh_numbers, fresh_cells};
-ghost use Rattle.watches.specs.Run.{lent, Watching, made_in, refusal_read, next_in, arrival_checks, first_at, with_one, offered, root_in, told};
+ghost use Rattle.watches.specs.Watches.{Kept, Watches, Roomy, room_check, lent_checks, SameBehind, setup_numbers, fresh_numbers, fresh_cells, begun};
+ghost use Rattle.watches.specs.Run.{lent, Watching, Took, Told};
 
 use margins::Answer;
 use recordings::{Predicate, Scales, Setup};
@@ -50,8 +55,7 @@ impl Watch {
 
     // A fresh watch has seen no row. A refused making hands back a watch too, which gives its number to every later call.
     pub fn fresh(table: Table, predicates: [Predicate; 16], scales: Scales) -> Watch
-        ensures watch { Watching result table (no_rows (watch_setup predicates scales)) }
-        ensures places { result ≡ made_in (watch_setup predicates scales) table (record { numbers = replicate NUMBERS 0; cells = replicate CELLS (pos 0) }) }
+        ensures { Watching result table (no_rows (watch_setup predicates scales)) }
     {
         let mut numbers = [0u64; Watch::NUMBERS];
         let mut cells = [0i64; Watch::CELLS];
@@ -64,7 +68,7 @@ impl Watch {
 
     // One row more. A refused one hands back the watch as it was.
     pub fn row(self, time: u64, values: &[i64]) -> Taken
-        ensures { result ≡ offered self (record { time = time; values = values.now }) }
+        ensures { Took self (record { time = time; values = values.now }) result }
     {
         let mut numbers = self.numbers;
         let mut cells = self.cells;
@@ -80,7 +84,7 @@ impl Watch {
 
     // The margin of the rows accepted so far.
     pub fn margin(self) -> Answer
-        ensures { result ≡ told self }
+        ensures { Told self result }
     {
         let numbers = self.numbers;
         let cells = self.cells;
@@ -191,7 +195,7 @@ pub fn make(
 ) -> u64
     ensures number { result ≡ first (lent_checks (watch_setup predicates scales) table (length numbers.old) (length cells.old)) }
     ensures watch { Roomy (length numbers.old) (length cells.old) → Watching (lent numbers.exit cells.exit) table (no_rows (watch_setup predicates scales)) }
-    ensures places { lent numbers.exit cells.exit ≡ made_in (watch_setup predicates scales) table (lent numbers.entry cells.entry) }
+    ensures short { (Roomy (length numbers.old) (length cells.old) → ⊥) → (numbers.new ≡ numbers.old) × (cells.new ≡ cells.old) }
     ensures behind { SameBehind NUMBERS 0 numbers.old numbers.new × SameBehind CELLS (pos 0) cells.old cells.new }
 {
     let setup = Setup {
@@ -210,28 +214,16 @@ pub fn make(
     number
 }
 
-// What a making was refused by, as later calls answer it. Another number, which no making leaves, counts as 3, so that every answer is one of the papers'.
-// By remainders, because tests for equality would be joined with a row's own test of 0 into one that each row pays for.
-fn refusal_read(number: u64) -> u64
-    ensures { result ≡ refusal_read number }
-{
-    if (number <= 16) & (number % 16 == 0) {
-        return number;
-    }
-    if (number <= 13) & (number % 9 == 4) {
-        return number;
-    }
-    3
-}
-
-// The first refusal that applies to a row, where there is room for a watch.
+// The first refusal that applies to a row.
 fn offer_refusal(numbers: &[u64], time: u64, values: &[i64]) -> u64
     requires { NUMBERS ≤ length numbers.now }
-    ensures { result ≡ first (arrival_checks numbers.now (record { time = time; values = values.now })) }
+    ensures number { (cells : _) (t : Table) (c : Card) → Watches numbers.now cells t c → result ≡ offer_refusal c t (record { time = time; values = values.now }) }
+    ensures early { result ≡ 0 → time ≤ LATEST }
+    ensures values { result ≡ 0 → Values values.now }
 {
     let refusal = numbers[REFUSAL];
     if refusal != 0 {
-        return refusal_read(refusal);
+        return refusal;
     }
     arrivals::row_refusal(numbers[CHANNELS], numbers[NEXT], time, values)
 }
@@ -239,8 +231,8 @@ fn offer_refusal(numbers: &[u64], time: u64, values: &[i64]) -> u64
 // Whether the row is the first; then its time is the first time.
 fn begin(numbers: &mut [u64], time: u64) -> bool
     requires { NUMBERS ≤ length numbers.old }
-    ensures first { result ≡ eqb (next_in numbers.old) 0 }
-    ensures numbers { numbers.new ≡ set numbers.old 2 (first_at numbers.old time) }
+    ensures first { result ≡ eqb (get_or numbers.old 3 0) 0 }
+    ensures numbers { numbers.new ≡ begun time numbers.old }
 {
     let opening = numbers[NEXT] == 0;
     if opening {
@@ -255,7 +247,7 @@ fn seconds(start: u64, time: u64) -> u64
     if start <= time { time - start } else { 0 }
 }
 
-// A count of nodes: no more than there is room for.
+// A count of nodes. Numbers that no making left have no more than there is room for.
 fn node_count(count: u64) -> usize
     ensures { result ≡ min count NODES }
 {
@@ -269,7 +261,8 @@ fn node_count(count: u64) -> usize
 // A row that was accepted.
 fn take_row(numbers: &mut [u64], cells: &mut [i64], time: u64, values: &[i64])
     requires { (NUMBERS ≤ length numbers.old) × (CELLS ≤ length cells.old) × (time ≤ LATEST) × Values values.now }
-    ensures { lent numbers.exit cells.exit ≡ with_one (lent numbers.entry cells.entry) (record { time = time; values = values.now }) }
+    ensures watch { (t : Table) (c : Card) → Watches numbers.old cells.old t c → offer_refusal c t (record { time = time; values = values.now }) ≡ 0 → Watches numbers.new cells.new t (with_row c (record { time = time; values = values.now })) }
+    ensures behind { SameBehind NUMBERS 0 numbers.old numbers.new × SameBehind CELLS (pos 0) cells.old cells.new }
 {
     let opening = begin(numbers, time);
     let since = seconds(numbers[START], time);
@@ -280,7 +273,9 @@ fn take_row(numbers: &mut [u64], cells: &mut [i64], time: u64, values: &[i64])
 
 // One row more, in a watch that is lent. A refused one leaves it as it is.
 pub fn take(numbers: &mut [u64], cells: &mut [i64], time: u64, values: &[i64]) -> u64
-    ensures { record { number = result; watch = lent numbers.exit cells.exit } ≡ offered (lent numbers.entry cells.entry) (record { time = time; values = values.now }) }
+    ensures row { Took (lent numbers.entry cells.entry) (record { time = time; values = values.now }) (record { number = result; watch = lent numbers.exit cells.exit }) }
+    ensures short { (Roomy (length numbers.old) (length cells.old) → ⊥) → result ≡ 8 }
+    ensures behind { SameBehind NUMBERS 0 numbers.old numbers.new × SameBehind CELLS (pos 0) cells.old cells.new }
 {
     if !is_roomy(numbers.len(), cells.len()) {
         return 8;
@@ -293,22 +288,17 @@ pub fn take(numbers: &mut [u64], cells: &mut [i64], time: u64, values: &[i64]) -
     0
 }
 
-// Where the root's margin stands: in the second of the nodes' runs, at the last node; of no node, at the first.
+// Where the root's margin stands: in the second of the nodes' runs, at the last node. The remainder gives numbers that no making left some node, too.
 fn root_cell(count: u64) -> usize
-    ensures { result ≡ HELD_AT + NODES * 1 + (min count NODES - 1) }
+    ensures { (result < CELLS) × (1 ≤ count → count ≤ NODES → result ≡ HELD_AT + NODES + (count - 1)) }
 {
-    let nodes = node_count(count);
-    if nodes == 0 {
-        HELD_AT + tables::NODES
-    } else {
-        HELD_AT + tables::NODES + nodes - 1
-    }
+    HELD_AT + tables::NODES + (count as usize % tables::NODES + 63) % tables::NODES
 }
 
 // The root's margin at sample 0.
 fn root_margin(numbers: &[u64], cells: &[i64]) -> i64
     requires { (NUMBERS ≤ length numbers.now) × (CELLS ≤ length cells.now) }
-    ensures { result ≡ root_in numbers.now cells.now }
+    ensures { (t : Table) (c : Card) → Kept numbers.now cells.now t c → TableRules t → 1 ≤ rows c → result ≡ margin c (root t) 0 }
 {
     let at = root_cell(numbers[COUNT]);
     cells[at]
@@ -316,15 +306,15 @@ fn root_margin(numbers: &[u64], cells: &[i64]) -> i64
 
 // The margin of the rows accepted so far, of a watch that is lent.
 pub fn tell(numbers: &[u64], cells: &[i64]) -> Answer
-    ensures { result ≡ told (lent numbers.entry cells.entry) }
+    ensures margin { Told (lent numbers.entry cells.entry) result }
+    ensures short { (Roomy (length numbers.now) (length cells.now) → ⊥) → (margin_outcome result).number ≡ 8 }
 {
     if !is_roomy(numbers.len(), cells.len()) {
         return Answer::Refused(8);
     }
     let refusal = numbers[REFUSAL];
     if refusal != 0 {
-        let number = refusal_read(refusal);
-        return Answer::Refused(number);
+        return Answer::Refused(refusal);
     }
     if numbers[NEXT] == 0 {
         return Answer::Refused(5);

@@ -106,7 +106,7 @@ fn expanded(step: u64, w: Window) -> Window
     }
 }
 
-// Until and eventually, since and once contract their windows; release and always, trigger and historically expand them.
+// Until and eventually contract their windows, release and always expand them.
 pub fn strengthened(e: Extremum, step: u64, w: Window) -> Window
     requires { Short w × (step ≤ NO_END) }
     ensures { result ≡ strengthen_window e step w }

@@ -5,7 +5,6 @@ use crate::claimed;
 use crate::compare::{self, Others, BEHIND, SIGNED_NOISE, WHOLE_CALL, WHOLE_SHEET, WHOLE_TABLE};
 use crate::half_open::{limit_windows, same_when_moved};
 use crate::library::{COUNTS, NODES, NODE_NUMBERS};
-use crate::looking_back::{limit_past, same_when_mirrored};
 use crate::marked;
 use crate::names::LINES;
 use crate::ordered;
@@ -53,17 +52,17 @@ pub struct Family {
 
 /// A family's place gives its seeds, so a new one goes to the end.
 pub const FAMILIES: [Family; 11] = [
-    Family { name: "sound", share: 150, run: sound_sheet },
-    Family { name: "tiny", share: 140, run: tiny_sheet },
-    Family { name: "faulty", share: 150, run: faulty_sheet },
-    Family { name: "damaged", share: 80, run: damaged_sheet },
+    Family { name: "sound", share: 180, run: sound_sheet },
+    Family { name: "tiny", share: 90, run: tiny_sheet },
+    Family { name: "faulty", share: 190, run: faulty_sheet },
+    Family { name: "damaged", share: 100, run: damaged_sheet },
     Family { name: "several", share: 70, run: several_sheet },
     Family { name: "calls", share: 150, run: library_call },
     Family { name: "requirements", share: 50, run: requirement_text },
-    Family { name: "rows", share: 40, run: rows_text },
-    Family { name: WINDOWS, share: 45, run: windows_call },
+    Family { name: "rows", share: 50, run: rows_text },
+    Family { name: WINDOWS, share: 30, run: windows_call },
     Family { name: WRITTEN, share: 50, run: written_table },
-    Family { name: WATCH, share: 75, run: watched_rows },
+    Family { name: WATCH, share: 40, run: watched_rows },
 ];
 
 pub const WINDOWS: &str = "windows";
@@ -281,7 +280,6 @@ fn library_call(bench: &mut Bench, rng: &mut Prng) -> Result<(), Failure> {
     tally_refused(bench.tally, &foretold.call.table);
     if foretold.margin == 0 && rng.once_in(2) {
         at(&shown, same_when_moved(bench, &foretold.call))?;
-        at(&shown, same_when_mirrored(bench, &foretold.call))?;
     }
     bench.tally.add(format!("margin call refused={}", foretold.margin));
     bench.tally.add(format!("verdict call refused={}", foretold.verdict));
@@ -392,7 +390,6 @@ pub fn limit_sheets(bench: &mut Bench) -> Result<(), Failure> {
     limit_distances(bench)?;
     limit_tables(bench)?;
     limit_windows(bench)?;
-    limit_past(bench)?;
     limit_watches(bench)
 }
 

@@ -8,7 +8,6 @@ use peer::predicate::{Predicate, Predicates, Range, UNSET};
 use peer::recording::Recording;
 use peer::refusal::Refusal;
 use peer::sheet::Sheet;
-use peer::step::Slices;
 use peer::table::{Node, Table};
 use peer::verdict::Verdict;
 use peer::watch::Watch;
@@ -71,7 +70,7 @@ fn flat_scales(sheet: &Sheet) -> [u64; SCALES] {
 }
 
 /// The numbers of a lent slice, 0 for each that it does not have.
-pub fn padded<T: Copy + Default, const N: usize>(lent: &[T]) -> [T; N] {
+fn padded<T: Copy + Default, const N: usize>(lent: &[T]) -> [T; N] {
     std::array::from_fn(|place| lent.get(place).copied().unwrap_or_default())
 }
 
@@ -231,13 +230,7 @@ impl Library for Peer {
     }
 
     fn watch_row(&self, numbers: &mut [u64], cells: &mut [i64], time: u64, values: &[i64]) -> u64 {
-        let Some(before) = kept::watch(numbers, cells) else {
-            let mut slices = Slices { numbers: numbers.to_vec(), cells: cells.to_vec() };
-            let taken = slices.row(time, values);
-            numbers.copy_from_slice(&slices.numbers);
-            cells.copy_from_slice(&slices.cells);
-            return hand(taken, |()| ());
-        };
+        let Some(before) = kept::watch(numbers, cells) else { return Refusal::Work.number() };
         let mut watch = before.clone();
         let taken = watch.row(time, values);
         // Whatever the peer makes of a row is kept, so that what it must not do is seen.
@@ -248,10 +241,7 @@ impl Library for Peer {
     }
 
     fn watch_margin(&self, numbers: &[u64], cells: &[i64], result: &mut [i64]) -> u64 {
-        let margin = match kept::watch(numbers, cells) {
-            Some(watch) => watch.margin(),
-            None => Slices { numbers: numbers.to_vec(), cells: cells.to_vec() }.margin(),
-        };
-        hand(margin, |margin| write(&[margin], result))
+        let Some(watch) = kept::watch(numbers, cells) else { return Refusal::Work.number() };
+        hand(watch.margin(), |margin| write(&[margin], result))
     }
 }

@@ -4,14 +4,12 @@
 use crate::compare::{self, WHOLE_CALL, WHOLE_TABLE};
 use crate::families::{at, foretold_call, Bench, Failure};
 use crate::flat::flat_nodes;
-use crate::looking_back::same_when_mirrored;
 use crate::marked::moved;
 use crate::names::REQUIREMENT_BYTES;
 use crate::shapes::letter;
 use crate::watched::plainly_watched;
 use crate::written::read_again;
 use peer::generate::calls::{Call, Foretold};
-use peer::generate::kinds::{is_binary, looks_back, TEMPORAL};
 use peer::generate::marks::{every_window, out_of_place, seconds_left};
 use peer::generate::requirements::window_text;
 use peer::generate::watches::{Offer, Watching};
@@ -22,7 +20,7 @@ use peer::table::{kind, Node, Table};
 use peer::window::Window;
 
 pub fn limit_windows(bench: &mut Bench) -> Result<(), Failure> {
-    let cases = |window| TEMPORAL.map(|kind| Case::of(kind, window));
+    let cases = |window| (kind::UNTIL..=kind::ALWAYS).map(move |kind| Case::of(kind, window));
     for case in every_window().into_iter().flat_map(cases) {
         at(format!("{:?}\n", case.call.table).as_bytes(), case.held(bench))?;
         bench.tally.add("limits");
@@ -64,7 +62,7 @@ struct Case {
 impl Case {
     fn of(kind: u64, window: Node) -> Case {
         let leaf = |left| Node { kind: kind::PREDICATE, left, ..Node::default() };
-        let binary = is_binary(kind);
+        let binary = matches!(kind, kind::UNTIL | kind::RELEASE);
         let root = Node { kind, right: u64::from(binary), ..window };
         let nodes = if binary { vec![leaf(0), leaf(1), root] } else { vec![leaf(0), root] };
         let letter = letter(&root).filter(|_| root.open_lo.max(root.open_hi) <= 1);
@@ -94,7 +92,6 @@ impl Case {
         let (call, text) = (&self.call, self.text.as_deref().unwrap_or_default());
         foretold(bench, call, 0)?;
         same_when_moved(bench, call)?;
-        same_when_mirrored(bench, call)?;
         let root = |table: Table| table.nodes.last().map(Node::window);
         let read = moved(&call.table).and_then(root);
         if read.is_some() && read != self.read {
@@ -122,7 +119,7 @@ fn refused(bench: &mut Bench, call: &Call) -> Result<(), String> {
     Ok(())
 }
 
-/// Margin, verdict and watch give this number; 16 is the watch's, if an operator looks back.
+/// Margin, verdict and watch give this number.
 fn foretold(bench: &mut Bench, call: &Call, number: u64) -> Result<(), String> {
     let foretold = Foretold { call: call.clone(), margin: number, verdict: number };
     foretold_call(bench, &foretold).map_err(|failure| failure.what)?;
@@ -130,8 +127,6 @@ fn foretold(bench: &mut Bench, call: &Call, number: u64) -> Result<(), String> {
     let offer = |(&time, &value)| Offer { time, values: vec![value], number: 0 };
     let offers = rows.map(offer).collect();
     let (table, scales) = (call.table.clone(), call.recording.scales.clone());
-    let back = number == 0 && table.nodes.iter().any(|node| looks_back(node.kind));
-    let number = if back { 16 } else { number };
     let watching = Watching { table, predicates: call.predicates, scales, number, offers };
     plainly_watched(bench, &watching, None)
 }

@@ -7,9 +7,6 @@ use peer::watch::Watch;
 use std::cell::RefCell;
 use std::collections::VecDeque;
 
-/// No number that stands in front of a watch or of noise, which the peer takes for what they are.
-const FIRST: u64 = 0x5EED_0000_0000_0000;
-
 /// So many states are kept, the last ones.
 const MOST: usize = 100;
 
@@ -38,7 +35,7 @@ pub fn keep(watch: Watch, numbers: &mut [u64], cells: &mut [i64]) {
         }
         numbers[..WATCH_NUMBERS].fill(0);
         cells[..WATCH_CELLS].fill(0);
-        numbers[0] = FIRST + kept.last;
+        numbers[0] = kept.last;
     });
 }
 
@@ -46,7 +43,7 @@ pub fn keep(watch: Watch, numbers: &mut [u64], cells: &mut [i64]) {
 pub fn watch(numbers: &[u64], cells: &[i64]) -> Option<Watch> {
     KEPT.with_borrow(|kept| {
         let number = *numbers.first().filter(|_| fits(numbers, cells))?;
-        let (_, watch) = kept.watches.iter().rev().find(|(kept, _)| FIRST + *kept == number)?;
+        let (_, watch) = kept.watches.iter().rev().find(|(kept, _)| *kept == number)?;
         Some(watch.clone())
     })
 }

@@ -12,7 +12,6 @@ mod half_open;
 mod header;
 mod kept;
 mod library;
-mod looking_back;
 mod marked;
 // Without a library the functions are unused, the forms of what is lent are not.
 #[cfg_attr(not(any(feature = "proved", test)), allow(dead_code))]
@@ -197,8 +196,8 @@ fn run_long(others: &Others, tally: &mut Tally, run: u64) -> bool {
 
 /// What must come up, and how often: every refusal and every verdict, of every entry point, every
 /// order of predicates, every fault of `c=` lines, cards with unequal scales, all that claims may
-/// be about, every temporal operator with every pair of marks, every kind of table that is written and
-/// of pair in its text, every kind of watch and of row that is offered to one, every shape of window.
+/// be about, every pair of marks, every kind of table that is written and of pair in its text, every
+/// kind of watch and of row that is offered to one, every shape of window.
 fn wanted(thousands: u64, long: bool) -> Vec<(String, u64)> {
     let mut wanted = wanted_refusals(thousands);
     for verdict in ["holds", "fails", "unshown"] {
@@ -262,10 +261,7 @@ fn wanted_refusals(thousands: u64) -> Vec<(String, u64)> {
 /// Each pair of marks of each operator, and each refusal for marks alone. Those of windows, watches and
 /// claims stand among what these may be about.
 fn wanted_marks(thousands: u64) -> Vec<(String, u64)> {
-    let mut wanted = vec![
-        ("margin call: excluded ends moved".to_string(), 10 * thousands),
-        ("margin call: mirrored".to_string(), 10 * thousands),
-    ];
+    let mut wanted = vec![("margin call: excluded ends moved".to_string(), 10 * thousands)];
     for form in marked::all() {
         wanted.push((format!("answer: {form}"), thousands));
         wanted.push((format!("{WRITTEN}: {form}"), thousands));

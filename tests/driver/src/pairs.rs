@@ -32,17 +32,14 @@ pub fn without(text: &[u8], pair: Pair) -> Vec<u8> {
     [&text[..open], &text[open + 1..close], &text[close + 1..]].concat()
 }
 
-const INSIDE: [&str; 4] = ["alternative", "conjunction", "bind", "bind that looks back"];
+const INSIDE: [&str; 3] = ["alternative", "conjunction", "bind"];
 const LEFT_OF_AND: &str = "left of &";
 const RIGHT_OF_AND: &str = "right of &";
 const RIGHT_OF_OR: &str = "right of |";
 const LEFT_OF_BIND: &str = "left of a bind";
 const RIGHT_OF_BIND: &str = "right of a bind";
-const LEFT_OF_PAST_BIND: &str = "left of a since or trigger";
-const RIGHT_OF_PAST_BIND: &str = "right of a since or trigger";
 const UNDER_NOT: &str = "under a not";
 const UNDER_WINDOW: &str = "under always or eventually";
-const UNDER_PAST_WINDOW: &str = "under historically or once";
 
 /// Every kind of pair that a text needs.
 pub fn all() -> Vec<String> {
@@ -50,10 +47,7 @@ pub fn all() -> Vec<String> {
         [LEFT_OF_AND, RIGHT_OF_AND, RIGHT_OF_OR].map(|place| kind(INSIDE[0], place)).into();
     all.push(kind(INSIDE[1], RIGHT_OF_AND));
     for inside in INSIDE {
-        let places = [
-            LEFT_OF_BIND, RIGHT_OF_BIND, LEFT_OF_PAST_BIND, RIGHT_OF_PAST_BIND, UNDER_NOT,
-            UNDER_WINDOW, UNDER_PAST_WINDOW,
-        ];
+        let places = [LEFT_OF_BIND, RIGHT_OF_BIND, UNDER_NOT, UNDER_WINDOW];
         all.extend(places.map(|place| kind(inside, place)));
     }
     all
@@ -69,7 +63,6 @@ pub fn about(text: &[u8], pair: Pair) -> String {
         Ok(Tree::Or(..)) => INSIDE[0],
         Ok(Tree::And(..)) => INSIDE[1],
         Ok(Tree::Until(..) | Tree::Release(..)) => INSIDE[2],
-        Ok(Tree::Since(..) | Tree::Trigger(..)) => INSIDE[3],
         _ => "unary",
     };
     kind(inside, place(&text[..pair.open], text.get(pair.close + 1)))
@@ -83,11 +76,8 @@ fn place(before: &[u8], behind: Option<&u8>) -> &'static str {
     match (before[..end].last(), behind) {
         (Some(b'!'), _) => UNDER_NOT,
         (Some(b'G' | b'F'), _) => UNDER_WINDOW,
-        (Some(b'H' | b'O'), _) => UNDER_PAST_WINDOW,
         (Some(b'U' | b'R'), _) => RIGHT_OF_BIND,
-        (Some(b'S' | b'Q'), _) => RIGHT_OF_PAST_BIND,
         (_, Some(b'U' | b'R')) => LEFT_OF_BIND,
-        (_, Some(b'S' | b'Q')) => LEFT_OF_PAST_BIND,
         (Some(b'&'), _) => RIGHT_OF_AND,
         (_, Some(b'&')) => LEFT_OF_AND,
         (Some(b'|'), _) => RIGHT_OF_OR,
@@ -117,10 +107,6 @@ mod tests {
         let nested = ["conjunction left of a bind", "bind under always or eventually"];
         assert_eq!(of("p0|G[0,*]((p1&T)U[2,3]T)"), nested);
         assert_eq!(of("(p0)"), ["unary where none is needed"]);
-        let back = ["bind left of a since or trigger", "bind that looks back under a not"];
-        assert_eq!(of("!((p0U[0,1]p1)S[0,1]p2)"), back);
-        assert_eq!(of("O[0,1](p0|p1)"), ["alternative under historically or once"]);
-        assert_eq!(of("p0Q[0,1](p1&p2)"), ["conjunction right of a since or trigger"]);
     }
 
     #[test]

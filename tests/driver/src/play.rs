@@ -2,12 +2,10 @@
 //! slices that the watch stands in.
 
 use crate::compare::{BEHIND, SIGNED_NOISE};
-use crate::flat::{flat_nodes, flat_predicates, padded};
-use crate::library::{Library, ENDS, SCALES};
+use crate::library::Library;
 use crate::names::{Making, WATCH_CELLS, WATCH_NUMBERS};
 use peer::generate::prng::Prng;
-use peer::generate::watches::{Offer, Watching};
-use peer::table::{Node, Table};
+use peer::generate::watches::Offer;
 
 /// What a watch stands in as it is lent: as much as it needs.
 pub const WHOLE_WATCH: [usize; 2] = [WATCH_NUMBERS, WATCH_CELLS];
@@ -33,22 +31,6 @@ impl State {
             cells: (0..longest[1].max(WATCH_CELLS)).map(|_| rng.word() as i64).collect(),
             lent,
         }
-    }
-
-    /// The same with the watch that a making leaves which nothing refused: each window with both its ends
-    /// counted, and no row seen. What stands behind stays.
-    pub fn made(&self, watching: &Watching) -> State {
-        let closed = |node: &Node| node.with(node.window().as_read());
-        let table = Table { nodes: watching.table.nodes.iter().map(closed).collect() };
-        let (ranges, ends) = flat_predicates(&watching.predicates);
-        let scales: [u64; SCALES] = padded(&watching.scales);
-        let front = [0, table.count() as u64, 0, 0, watching.scales.len() as u64];
-        let numbers = [&front[..], &scales, &ranges, &flat_nodes(&table)].concat();
-        let mut made = self.clone();
-        made.numbers[..WATCH_NUMBERS].copy_from_slice(&numbers);
-        made.cells[..ENDS].copy_from_slice(&ends);
-        made.cells[ENDS..WATCH_CELLS].fill(0);
-        made
     }
 
     /// As much room, with 0 everywhere.

@@ -61,7 +61,11 @@ fn reads_scaled(tree: &Tree, accepted: &Answer) -> bool {
             let predicate = accepted.predicates[*number];
             predicate.range != Range::Free && accepted.recording.scale(predicate.channel) > 1
         }
-        operator => operator.operands().into_iter().any(|operand| reads(operand)),
+        Tree::Not(left) | Tree::Eventually(_, left) | Tree::Always(_, left) => reads(left),
+        Tree::And(left, right)
+        | Tree::Or(left, right)
+        | Tree::Until(left, _, right)
+        | Tree::Release(left, _, right) => reads(left) || reads(right),
     }
 }
 

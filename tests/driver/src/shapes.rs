@@ -7,8 +7,7 @@ use peer::generate::windows::{Shaped, SPACINGS, VALUES};
 use peer::table::{kind, Node};
 use peer::window::Window;
 
-/// The temporal operators by their kinds' numbers: those that look ahead, then those that look back.
-pub const LETTERS: [char; 8] = ['U', 'R', 'F', 'G', 'S', 'Q', 'O', 'H'];
+pub const LETTERS: [char; 4] = ['U', 'R', 'F', 'G'];
 const STARTS: [&str; 4] = ["now", "within a step", "late", "past the recording"];
 const ENDS: [&str; 4] = ["no end", "one instant", "an end inside", "an end past the recording"];
 const EMPTY: &str = "emptied";
@@ -65,23 +64,18 @@ pub fn letter(node: &Node) -> Option<char> {
     LETTERS.get(place as usize).copied()
 }
 
-/// What negation pairs it with.
 fn dual(letter: char) -> char {
     match letter {
         'U' => 'R',
         'R' => 'U',
         'F' => 'G',
-        'G' => 'F',
-        'S' => 'Q',
-        'Q' => 'S',
-        'O' => 'H',
-        _ => 'O',
+        _ => 'F',
     }
 }
 
-/// Until and eventually, since and once contract; release and always, trigger and historically expand.
+/// Until and eventually contract, release and always expand.
 fn contracts(letter: char) -> bool {
-    matches!(letter, 'U' | 'F' | 'S' | 'O')
+    matches!(letter, 'U' | 'F')
 }
 
 /// What strengthening makes of an operator's window.

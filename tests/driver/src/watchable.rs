@@ -3,11 +3,9 @@
 
 use crate::marked;
 use crate::play::State;
-use crate::shapes::{letter, LETTERS};
-use peer::generate::kinds::{is_temporal, looks_back, AHEAD};
 use peer::generate::prng::Prng;
 use peer::generate::tables::{children, uses};
-use peer::generate::watches::{below, nested, Offer, Watching};
+use peer::generate::watches::{below, is_temporal, Offer, Watching};
 use peer::limits::{LARGEST_VALUE, LAST_TIME};
 use peer::table::{kind, Table};
 
@@ -22,9 +20,6 @@ const NESTED_AT_ONCE: &str = "16 at once";
 const NESTED_DEEP: &str = "16 under not, and, or alone";
 const NESTED_LEFT: &str = "16 by left alone";
 const NESTED_RIGHT: &str = "16 by right alone";
-
-const BACK_REACHED: &str = "alone, where the root reaches";
-const BACK_UNREACHED: &str = "alone, where the root does not reach";
 
 const NO_VALUE: &str = "a row without values";
 const ONE_LESS: &str = "a row with one value less";
@@ -47,28 +42,18 @@ pub fn all() -> Vec<String> {
         NESTED_DEEP, NESTED_LEFT, NESTED_RIGHT, NO_VALUE, ONE_LESS, ONE_MORE, EQUAL_TIME, EARLIER,
         PAST_TIME, BAD_VALUE, FIVE_SIX, FIVE_SEVEN, SIX_SEVEN, AT_ZERO, AT_LAST, OVERTAKEN,
     ];
-    let taken = [OPEN_NOISE, SMALL_WORDS, FEW_WORDS].map(|kind| format!("{kind} refused=0"));
-    let others = others.into_iter().chain(NO_WATCHES).map(str::to_string).chain(taken);
-    let (ahead, back) = LETTERS.split_at(AHEAD.len());
-    let by = |letter: &char| [BACK_REACHED, BACK_UNREACHED].map(|place| by_back(*letter, place));
-    let refused = back.iter().flat_map(by);
-    marked::forms(ahead).into_iter().chain(refused).chain(others).collect()
-}
-
-/// What 16 is about where an operator looks back, and nothing else is wrong.
-fn by_back(letter: char, place: &str) -> String {
-    format!("16 by {letter} {place}")
+    let others = others.into_iter().chain(NO_WATCHES).map(str::to_string);
+    marked::all().into_iter().chain(others).collect()
 }
 
 /// What the watch and its rows are about.
 pub fn about(watching: &Watching) -> Vec<String> {
-    let table = &watching.table;
     let (letters, others) = match watching.number {
-        0 => (marked::reached(table), [about_table(table), about_rows(watching)].concat()),
-        16 if !nested(table) => (about_back(table).into_iter().collect(), Vec::new()),
-        16 if !table.nodes.iter().any(|node| looks_back(node.kind)) => {
-            (Vec::new(), about_nested(table))
+        0 => {
+            let others = [about_table(&watching.table), about_rows(watching)].concat();
+            (marked::reached(&watching.table), others)
         }
+        16 => (Vec::new(), about_nested(&watching.table)),
         _ => (Vec::new(), Vec::new()),
     };
     letters.into_iter().chain(others.into_iter().map(str::to_string)).collect()
@@ -87,7 +72,7 @@ fn is_boolean(kind: u64) -> bool {
 fn about_table(table: &Table) -> Vec<&'static str> {
     let uses = uses(table);
     let reached: Vec<usize> = (0..table.count()).filter(|&k| uses[k] > 0).collect();
-    let temporal = |k: usize| is_temporal(table.nodes[k].kind);
+    let temporal = |k: usize| is_temporal(&table.nodes[k]);
     let (mut inside, mut outside) = (Vec::new(), vec![table.count() - 1]);
     for &k in reached.iter().rev() {
         let own = children(&table.nodes[k]);
@@ -109,19 +94,10 @@ fn about_table(table: &Table) -> Vec<&'static str> {
     ])
 }
 
-/// Of a table in which no temporal operator stands inside another, and one alone looks back.
-fn about_back(table: &Table) -> Option<String> {
-    let mut back = (0..table.count()).filter(|&k| looks_back(table.nodes[k].kind));
-    let k = back.next().filter(|_| back.next().is_none())?;
-    let place = if uses(table)[k] > 0 { BACK_REACHED } else { BACK_UNREACHED };
-    Some(by_back(letter(&table.nodes[k])?, place))
-}
-
-/// Of a table in which a temporal operator stands inside another, none looks back, and that breaks no
-/// rule.
+/// Of a table in which a temporal operator stands inside another, and that breaks no rule.
 fn about_nested(table: &Table) -> Vec<&'static str> {
     let uses = uses(table);
-    let temporal = |k: usize| is_temporal(table.nodes[k].kind);
+    let temporal = |k: usize| is_temporal(&table.nodes[k]);
     let has = |child: u64| below(table, child).into_iter().any(temporal);
     let operands = |k: usize| children(&table.nodes[k]);
     let outer: Vec<usize> =
@@ -182,64 +158,36 @@ fn about_row(offer: &Offer, channels: usize, last: Option<u64>) -> Vec<&'static 
     ])
 }
 
-/// Words of any size, such with a refusal in front, such that take rows, and watches in which many small
-/// words, or a few of any size, stand for what was there.
-const NOISE: &str = "noise for a watch";
-const REFUSED_NOISE: &str = "noise behind a refusal";
-const OPEN_NOISE: &str = "noise that takes rows";
+/// Words of any size, and watches in which many small words, or a few of any size, stand for what was
+/// there.
+pub const NOISE: &str = "noise for a watch";
 const SMALL_WORDS: &str = "small words in a watch";
 const FEW_WORDS: &str = "few words in a watch";
 
-const NO_WATCHES: [&str; 5] = [NOISE, REFUSED_NOISE, OPEN_NOISE, SMALL_WORDS, FEW_WORDS];
-
-/// Those that there are: only of a watch that was made are there torn ones.
-pub fn no_watches(watching: &Watching) -> &'static [&'static str] {
-    if watching.number == 0 {
-        &NO_WATCHES
-    } else {
-        &NO_WATCHES[..3]
-    }
-}
-
-/// Whether it was a watch before.
-pub fn is_torn(kind: &str) -> bool {
-    [SMALL_WORDS, FEW_WORDS].contains(&kind)
-}
+pub const NO_WATCHES: [&str; 3] = [NOISE, SMALL_WORDS, FEW_WORDS];
 
 /// Puts such words into the slices.
-pub fn spoil(state: &mut State, kind: &str, channels: usize, rng: &mut Prng) {
+pub fn spoil(state: &mut State, kind: &str, rng: &mut Prng) {
+    let lent = state.lent;
     match kind {
-        REFUSED_NOISE => state.numbers[0] = rng.pick(&[1, 3, 4, 5, 13, 16, 42, u64::MAX]),
-        OPEN_NOISE => {
-            small_words(state, rng, 20);
-            let next = rng.pick(&[0, 1, 9]);
-            state.numbers[0] = 0;
-            state.numbers[3..5].copy_from_slice(&[next, channels as u64]);
+        SMALL_WORDS => {
+            for place in 0..lent[0] {
+                if rng.once_in(3) {
+                    state.numbers[place] = rng.below(70) as u64;
+                }
+            }
+            for place in 0..lent[1] {
+                state.cells[place] = rng.between(-9, 9);
+            }
         }
-        SMALL_WORDS => small_words(state, rng, 70),
         FEW_WORDS => {
             for _ in 0..1 + rng.below(4) {
                 let word = rng.pick(&[0, 1, 7, 64, 65, 1 << 32, u64::MAX]);
-                let places = state.lent.map(|length| rng.below(length));
-                state.numbers[places[0]] = word;
-                state.cells[places[1]] = word as i64;
+                state.numbers[rng.below(lent[0])] = word;
+                state.cells[rng.below(lent[1])] = word as i64;
             }
         }
         _ => {}
-    }
-}
-
-/// In a third of the numbers and half of the cells.
-fn small_words(state: &mut State, rng: &mut Prng, most: usize) {
-    for place in 0..state.lent[0] {
-        if rng.once_in(3) {
-            state.numbers[place] = rng.below(most) as u64;
-        }
-    }
-    for place in 0..state.lent[1] {
-        if rng.once_in(2) {
-            state.cells[place] = rng.between(-9, 9);
-        }
     }
 }
 
@@ -287,14 +235,6 @@ mod tests {
         assert_eq!(reached("(F[0,1]p0)R[0,1]F[0,1]p0"), both);
         let alone = about_nested(&unreached("F[0,1]G[0,1]p0"));
         assert_eq!(alone, [NESTED_UNREACHED, NESTED_AT_ONCE]);
-    }
-
-    #[test]
-    fn lookings_back_are_told_apart() {
-        assert_eq!(about_back(&of("p0&O[0,1]p0")), Some(by_back('O', BACK_REACHED)));
-        assert_eq!(about_back(&unreached("p0S[0,1]p0")), Some(by_back('S', BACK_UNREACHED)));
-        assert_eq!(about_back(&of("H[0,1]p0&H[0,1]p0")), None);
-        assert_eq!(about_back(&of("G[0,1]p0")), None);
     }
 
     #[test]

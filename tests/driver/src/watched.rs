@@ -3,7 +3,6 @@
 
 use crate::compare::{self, making, same, Flat, BEHIND, SIGNED_NOISE, WHOLE_CALL, WHOLE_MAKING};
 use crate::families::{at, tally_refused, Bench, Failure};
-use crate::flat::Peer;
 use crate::library::{Library, ENDS, NODES, RANGES};
 use crate::names::{Making, WATCH_CELLS, WATCH_NUMBERS};
 use crate::play::{unlike, Margin, Plan, State, Step, WHOLE_WATCH};
@@ -30,14 +29,13 @@ pub fn watched_rows(bench: &mut Bench, rng: &mut Prng) -> Result<(), Failure> {
     let margin = at(&shown, held(&watching, &plan, &steps))?;
     if watching.number == 0 {
         at(&shown, as_a_recording(bench, &watching, margin))?;
-        at(&shown, in_slices(bench, &whole, &watching, &plan, &steps))?;
     }
     tally(bench, &watching, &steps);
     if rng.once_in(4) {
         at(&shown, short_slices(bench, rng, &whole, &watching))?;
     }
     if rng.once_in(4) {
-        at(&shown, no_watch(bench, rng, &watching))?;
+        at(&shown, no_watch(bench, rng, &whole, &watching))?;
     }
     if rng.once_in(8) {
         // What a slice does not have reads as 0: the table or a predicate may be another.
@@ -114,38 +112,6 @@ fn as_a_recording(bench: &Bench, watching: &Watching, margin: i64) -> Result<(),
     Ok(())
 }
 
-/// A made watch as it lies in slices, where a row is what the definition for any numbers and cells says:
-/// the same numbers and margins, and the same as the library's at every place.
-fn in_slices(
-    bench: &Bench,
-    making: &Making,
-    watching: &Watching,
-    plan: &Plan,
-    steps: &[Step],
-) -> Result<(), String> {
-    // The peer in the library's place keeps its watches elsewhere.
-    let proved = bench.others.library.as_ref().filter(|_| cfg!(feature = "proved"));
-    let (mut ours, mut theirs) = (plan.blank.made(watching), plan.blank.clone());
-    if let Some(library) = proved {
-        theirs.fresh(library.as_ref(), making)?;
-    }
-    for (k, offer) in watching.offers.iter().enumerate() {
-        if proved.is_some() && theirs != ours {
-            let at = theirs.unlike_at(&ours);
-            return Err(format!("before row {k} the library's watch has something else at {at:?}"));
-        }
-        let number = ours.row(&Peer, offer)?;
-        let found = (number, plan.asks(k).then(|| ours.margin(&Peer, plan.room)));
-        if found != steps[k + 1] {
-            return Err(format!("row {k} in slices: {found:?}, not {:?}", steps[k + 1]));
-        }
-        if let Some(library) = proved {
-            theirs.row(library.as_ref(), offer)?;
-        }
-    }
-    Ok(())
-}
-
 /// Slices that hold no watch: the making is refused by 8 if by nothing else, a row and a margin by 8
 /// whatever they are, and nothing is written.
 fn short_slices(
@@ -183,36 +149,37 @@ fn short_slices(
     Ok(())
 }
 
-/// What no making has written: each answer and every place is what the definition gives for any numbers
-/// and cells.
-fn no_watch(bench: &mut Bench, rng: &mut Prng, watching: &Watching) -> Result<(), String> {
+/// What no making has written: any answer will do, but it must come, and nothing behind the slices may
+/// be written.
+fn no_watch(
+    bench: &mut Bench,
+    rng: &mut Prng,
+    making: &Making,
+    watching: &Watching,
+) -> Result<(), String> {
     let lent = [WATCH_NUMBERS + rng.below(3), WATCH_CELLS + rng.below(3)];
+    let blank = State::noisy(rng, lent);
     let (seed, offers) = (rng.word(), &watching.offers[..watching.offers.len().min(12)]);
-    let kind = rng.pick(watchable::no_watches(watching));
-    let mut blank = State::noisy(rng, lent);
-    if watchable::is_torn(kind) {
-        blank = blank.made(watching);
-    }
-    let torn_at = if watchable::is_torn(kind) { offers.len() / 2 } else { 0 };
+    let kind = rng.pick(&watchable::NO_WATCHES);
     let asked = |library: &dyn Library| {
         let mut state = blank.clone();
-        let mut given = Vec::new();
+        if kind != watchable::NOISE {
+            state.fresh(library, making)?;
+        }
         for (k, offer) in offers.iter().enumerate() {
-            if k == torn_at {
-                watchable::spoil(&mut state, kind, watching.scales.len(), &mut Prng::new(seed));
+            if k == offers.len() / 2 {
+                watchable::spoil(&mut state, kind, &mut Prng::new(seed));
             }
-            let number = state.any_row(library, offer);
-            given.push((number, state.margin(library, 1), state.clone()));
+            state.any_row(library, offer);
+            let (_, result) = state.margin(library, 1);
+            if !state.same_from(&blank, lent) || result[1..] != [SIGNED_NOISE; BEHIND] {
+                return Err(format!("{kind}: something behind what was lent was written"));
+            }
         }
-        given
+        Ok(())
     };
-    for (number, (_, result), state) in same(bench.others, kind, asked)? {
-        if !state.same_from(&blank, lent) || result[1..] != [SIGNED_NOISE; BEHIND] {
-            return Err(format!("{kind}: something behind what was lent was written"));
-        }
-        bench.tally.add(format!("{WATCH}: {kind} refused={number}"));
-        bench.tally.add(format!("{WATCH}: {kind}"));
-    }
+    same(bench.others, "no watch", asked)??;
+    bench.tally.add(format!("{WATCH}: {kind}"));
     Ok(())
 }
 

@@ -11,18 +11,6 @@ use std::rc::Rc;
 struct Outside;
 type Read<T> = Result<T, Outside>;
 
-/// "`U` or `R`"; since (`S`) and trigger (`Q`) have "grammar places as for until, release".
-const BINDS: [(u8, fn(Shared, Window, Shared) -> Tree); 4] =
-    [(b'U', Tree::Until), (b'R', Tree::Release), (b'S', Tree::Since), (b'Q', Tree::Trigger)];
-
-/// "`G` or `F`"; once (`O`) and historically (`H`) have "grammar places as for eventually, always".
-const PREFIXES: [(u8, fn(Window, Shared) -> Tree); 4] = [
-    (b'G', Tree::Always),
-    (b'F', Tree::Eventually),
-    (b'O', Tree::Once),
-    (b'H', Tree::Historically),
-];
-
 struct Reader<'a> {
     rest: &'a [u8],
     nodes: usize,
@@ -88,20 +76,22 @@ impl Reader<'_> {
         Ok(left)
     }
 
-    /// bind = unary, optionally followed by `U`, `R`, `S` or `Q`, a window and a unary.
+    /// bind = unary, optionally followed by `U` or `R`, a window and a unary.
     fn bind(&mut self, enclosings: usize) -> Read<Shared> {
         let left = self.unary(enclosings)?;
-        for (letter, operator) in BINDS {
-            if self.take(letter) {
-                let (window, right) = self.timed(enclosings)?;
-                return self.node(operator(left, window, right));
-            }
+        if self.take(b'U') {
+            let (window, right) = self.timed(enclosings)?;
+            self.node(Tree::Until(left, window, right))
+        } else if self.take(b'R') {
+            let (window, right) = self.timed(enclosings)?;
+            self.node(Tree::Release(left, window, right))
+        } else {
+            Ok(left)
         }
-        Ok(left)
     }
 
-    /// unary = `!` unary, `G`, `F`, `O` or `H` window unary, `T`, `p` with 0 to 15, or a
-    /// parenthesised alternative.
+    /// unary = `!` unary, `G` or `F` window unary, `T`, `p` with 0 to 15, or a parenthesised
+    /// alternative.
     fn unary(&mut self, enclosings: usize) -> Read<Shared> {
         if self.take(b'T') {
             self.node(atom(Atom::True).as_ref().clone())
@@ -113,26 +103,26 @@ impl Reader<'_> {
         }
     }
 
-    /// One of `!`, `G`, `F` and `(`: "at most 32 enclose one another". "`O` and `H` count as
-    /// enclosings."
+    /// One of `!`, `G`, `F` and `(`: "at most 32 enclose one another".
     fn enclosing(&mut self, enclosings: usize) -> Read<Shared> {
         if enclosings > MOST_ENCLOSINGS {
             return Err(Outside);
         }
         if self.take(b'!') {
             let left = self.unary(enclosings)?;
-            return self.node(Tree::Not(left));
+            self.node(Tree::Not(left))
+        } else if self.take(b'G') {
+            let (window, left) = self.timed(enclosings)?;
+            self.node(Tree::Always(window, left))
+        } else if self.take(b'F') {
+            let (window, left) = self.timed(enclosings)?;
+            self.node(Tree::Eventually(window, left))
+        } else {
+            self.due(b'(')?;
+            let inner = self.alternative(enclosings)?;
+            self.due(b')')?;
+            Ok(inner)
         }
-        for (letter, operator) in PREFIXES {
-            if self.take(letter) {
-                let (window, left) = self.timed(enclosings)?;
-                return self.node(operator(window, left));
-            }
-        }
-        self.due(b'(')?;
-        let inner = self.alternative(enclosings)?;
-        self.due(b')')?;
-        Ok(inner)
     }
 
     /// A window and a unary. A window's "`(` is no enclosing".

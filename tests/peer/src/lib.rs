@@ -1,4 +1,4 @@
-//! Document 01 with Changes 1 and 3 to 9 of document 02 as literal definitions.
+//! Document 01 with Changes 1 and 3 to 8 of document 02 as literal definitions.
 //!
 //! Nothing here is fast and nothing is shared with the proved library: each definition is read
 //! from the papers anew, each largest and smallest is taken afresh, so that an agreement of the
@@ -33,7 +33,6 @@ pub mod sheet;
 pub mod writer;
 
 // A margin while the card runs.
-pub mod step;
 pub mod watch;
 
 // Second ways to the same answers, which the driver compares with the first.
@@ -45,8 +44,6 @@ pub mod generate;
 
 #[cfg(test)]
 mod half_open;
-#[cfg(test)]
-mod looking_back;
 #[cfg(test)]
 mod scales;
 #[cfg(test)]

@@ -71,30 +71,25 @@ impl<'a> Margins<'a> {
                 let (left, right) = (self.of(left), self.of(right));
                 self.at_each(|i| left[i].max(right[i]))
             }
-            _ => self.temporal(tree),
+            Tree::Until(left, window, right) => {
+                let (left, right) = (self.of(left), self.of(right));
+                self.until(|k| left[k], *window, |j| right[j])
+            }
+            Tree::Release(left, window, right) => {
+                let (left, right) = (self.of(left), self.of(right));
+                self.release(|k| left[k], *window, |j| right[j])
+            }
+            // "Until from true; release from false."
+            Tree::Eventually(window, left) => {
+                let left = self.of(left);
+                self.until(|_| TOP, *window, |j| left[j])
+            }
+            Tree::Always(window, left) => {
+                let left = self.of(left);
+                self.release(|_| -TOP, *window, |j| left[j])
+            }
         };
         self.known.keep(tree, Rc::new(row))
-    }
-
-    fn temporal(&mut self, tree: &Tree) -> Vec<i64> {
-        let rows: Vec<Row> = tree.operands().into_iter().map(|operand| self.of(operand)).collect();
-        // Of one operand, that is right; what left is then stands below.
-        let (left, right) = (|k: usize| rows[0][k], |j: usize| rows[rows.len() - 1][j]);
-        match tree {
-            Tree::Until(_, window, _) => self.until(left, *window, right),
-            Tree::Release(_, window, _) => self.release(left, *window, right),
-            // "Until from true; release from false."
-            Tree::Eventually(window, _) => self.until(|_| TOP, *window, right),
-            Tree::Always(window, _) => self.release(|_| -TOP, *window, right),
-            Tree::Since(_, window, _) => self.since(left, *window, right),
-            Tree::Trigger(_, window, _) => self.trigger(left, *window, right),
-            // Once is since from true, historically trigger from false.
-            Tree::Once(window, _) => self.since(|_| TOP, *window, right),
-            Tree::Historically(window, _) => self.trigger(|_| -TOP, *window, right),
-            Tree::Atom(_) | Tree::Not(_) | Tree::And(..) | Tree::Or(..) => {
-                unreachable!("no temporal operator")
-            }
-        }
     }
 
     fn at_each(&self, margin: impl Fn(usize) -> i64) -> Vec<i64> {
@@ -104,12 +99,6 @@ impl<'a> Margins<'a> {
     fn in_window(&self, i: usize, window: Window) -> impl Iterator<Item = usize> + '_ {
         (0..self.recording.rows())
             .filter(move |&j| window.contains(self.recording.time(j) - self.recording.time(i)))
-    }
-
-    /// "The window counts back: j fits when time i − time j lies in it."
-    fn in_past_window(&self, i: usize, window: Window) -> impl Iterator<Item = usize> + '_ {
-        (0..self.recording.rows())
-            .filter(move |&j| window.contains(self.recording.time(i) - self.recording.time(j)))
     }
 
     /// "Largest, over j in the window, of the smaller of right at j and left at every k, i ≤ k < j."
@@ -133,30 +122,6 @@ impl<'a> Margins<'a> {
     ) -> Vec<i64> {
         self.at_each(|i| {
             smallest(self.in_window(i, window).map(|j| right(j).max(largest((i..j).map(&left)))))
-        })
-    }
-
-    /// "The largest, over such j, of the smaller of right at j and left at every k with j < k ≤ i."
-    fn since(
-        &self,
-        left: impl Fn(usize) -> i64,
-        window: Window,
-        right: impl Fn(usize) -> i64,
-    ) -> Vec<i64> {
-        let kept = |i: usize, j: usize| smallest((j + 1..=i).map(&left));
-        self.at_each(|i| largest(self.in_past_window(i, window).map(|j| right(j).min(kept(i, j)))))
-    }
-
-    /// Since's dual: the smallest, over such j, of the larger of right at j and left at any such k.
-    fn trigger(
-        &self,
-        left: impl Fn(usize) -> i64,
-        window: Window,
-        right: impl Fn(usize) -> i64,
-    ) -> Vec<i64> {
-        let freed = |i: usize, j: usize| largest((j + 1..=i).map(&left));
-        self.at_each(|i| {
-            smallest(self.in_past_window(i, window).map(|j| right(j).max(freed(i, j))))
         })
     }
 }

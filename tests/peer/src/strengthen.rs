@@ -57,34 +57,13 @@ impl Strengthening {
             (Tree::Always(window, left), false) | (Tree::Eventually(window, left), true) => {
                 Tree::Always(*window, push(left))
             }
-            _ => self.push_past(tree, negated),
+            (Tree::Atom(_) | Tree::Not(_), _) => {
+                unreachable!("atoms and not are no operators here")
+            }
         }
     }
 
-    /// "Negation pairs 9 with 10 and 11 with 12."
-    fn push_past(&mut self, tree: &Tree, negated: bool) -> Tree {
-        let mut push = |child: &Shared| self.push(child, negated);
-        match (tree, negated) {
-            (Tree::Since(left, window, right), false)
-            | (Tree::Trigger(left, window, right), true) => {
-                Tree::Since(push(left), *window, push(right))
-            }
-            (Tree::Trigger(left, window, right), false)
-            | (Tree::Since(left, window, right), true) => {
-                Tree::Trigger(push(left), *window, push(right))
-            }
-            (Tree::Once(window, left), false) | (Tree::Historically(window, left), true) => {
-                Tree::Once(*window, push(left))
-            }
-            (Tree::Historically(window, left), false) | (Tree::Once(window, left), true) => {
-                Tree::Historically(*window, push(left))
-            }
-            _ => unreachable!("atoms and not are no operators here"),
-        }
-    }
-
-    /// Until and eventually windows contracted, release and always windows expanded. "Strengthening
-    /// treats 9 and 11 like until, 10 and 12 like release."
+    /// Until and eventually windows contracted, release and always windows expanded.
     pub fn windows(&mut self, tree: &Shared) -> Shared {
         if let Some((_, changed)) = self.widened.get(&Rc::as_ptr(tree)) {
             return changed.clone();
@@ -106,16 +85,6 @@ impl Strengthening {
                 Tree::Eventually(window.contracted(step), inner(left))
             }
             Tree::Always(window, left) => Tree::Always(window.expanded(step), inner(left)),
-            Tree::Since(left, window, right) => {
-                Tree::Since(inner(left), window.contracted(step), inner(right))
-            }
-            Tree::Trigger(left, window, right) => {
-                Tree::Trigger(inner(left), window.expanded(step), inner(right))
-            }
-            Tree::Once(window, left) => Tree::Once(window.contracted(step), inner(left)),
-            Tree::Historically(window, left) => {
-                Tree::Historically(window.expanded(step), inner(left))
-            }
         });
         self.widened.insert(Rc::as_ptr(tree), (tree.clone(), changed.clone()));
         changed

@@ -57,10 +57,6 @@ pub mod kind {
     pub const RELEASE: u64 = 6;
     pub const EVENTUALLY: u64 = 7;
     pub const ALWAYS: u64 = 8;
-    pub const SINCE: u64 = 9;
-    pub const TRIGGER: u64 = 10;
-    pub const ONCE: u64 = 11;
-    pub const HISTORICALLY: u64 = 12;
 }
 
 /// Which of a node's numbers its kind uses; the others must be 0.
@@ -82,8 +78,6 @@ fn uses(kind: u64) -> Option<Uses> {
         kind::AND | kind::OR => row(true, true, false, false),
         kind::UNTIL | kind::RELEASE => row(true, true, false, true),
         kind::EVENTUALLY | kind::ALWAYS => row(true, false, false, true),
-        kind::SINCE | kind::TRIGGER => row(true, true, false, true),
-        kind::ONCE | kind::HISTORICALLY => row(true, false, false, true),
         _ => None,
     }
 }
@@ -170,10 +164,6 @@ fn node_tree(node: &Node, earlier: &[Shared]) -> Tree {
         kind::RELEASE => Tree::Release(left(), window, right()),
         kind::EVENTUALLY => Tree::Eventually(window, left()),
         kind::ALWAYS => Tree::Always(window, left()),
-        kind::SINCE => Tree::Since(left(), window, right()),
-        kind::TRIGGER => Tree::Trigger(left(), window, right()),
-        kind::ONCE => Tree::Once(window, left()),
-        kind::HISTORICALLY => Tree::Historically(window, left()),
         _ => unreachable!("the table's rules allow no other kind"),
     }
 }
@@ -186,25 +176,20 @@ fn append(nodes: &mut Vec<Node>, tree: &Tree) -> u64 {
         Tree::Atom(Atom::Predicate(number)) => {
             Node { kind: kind::PREDICATE, left: *number as u64, ..none }
         }
-        Tree::Not(left) => one(nodes, kind::NOT, left),
+        Tree::Not(left) => Node { kind: kind::NOT, left: append(nodes, left), ..none },
         Tree::And(left, right) => both(nodes, kind::AND, left, right),
         Tree::Or(left, right) => both(nodes, kind::OR, left, right),
         Tree::Until(left, window, right) => both(nodes, kind::UNTIL, left, right).with(*window),
         Tree::Release(left, window, right) => both(nodes, kind::RELEASE, left, right).with(*window),
-        Tree::Eventually(window, left) => one(nodes, kind::EVENTUALLY, left).with(*window),
-        Tree::Always(window, left) => one(nodes, kind::ALWAYS, left).with(*window),
-        Tree::Since(left, window, right) => both(nodes, kind::SINCE, left, right).with(*window),
-        Tree::Trigger(left, window, right) => both(nodes, kind::TRIGGER, left, right).with(*window),
-        Tree::Once(window, left) => one(nodes, kind::ONCE, left).with(*window),
-        Tree::Historically(window, left) => one(nodes, kind::HISTORICALLY, left).with(*window),
+        Tree::Eventually(window, left) => {
+            Node { kind: kind::EVENTUALLY, left: append(nodes, left), ..none }.with(*window)
+        }
+        Tree::Always(window, left) => {
+            Node { kind: kind::ALWAYS, left: append(nodes, left), ..none }.with(*window)
+        }
     };
     nodes.push(node);
     nodes.len() as u64 - 1
-}
-
-fn one(nodes: &mut Vec<Node>, kind: u64, left: &Tree) -> Node {
-    let left = append(nodes, left);
-    Node { kind, left, ..Node::default() }
 }
 
 fn both(nodes: &mut Vec<Node>, kind: u64, left: &Tree, right: &Tree) -> Node {

@@ -22,10 +22,6 @@ pub enum Tree {
     Release(Shared, Window, Shared),
     Eventually(Window, Shared),
     Always(Window, Shared),
-    Since(Shared, Window, Shared),
-    Trigger(Shared, Window, Shared),
-    Once(Window, Shared),
-    Historically(Window, Shared),
 }
 
 pub fn atom(atom: Atom) -> Shared {
@@ -39,24 +35,25 @@ pub fn predicate(number: usize) -> Shared {
 impl Tree {
     /// The count of nodes, a shared one counted at each use.
     pub fn size(&self) -> usize {
-        1 + self.operands().iter().map(|operand| operand.size()).sum::<usize>()
+        match self {
+            Tree::Atom(_) => 1,
+            Tree::Not(left) | Tree::Eventually(_, left) | Tree::Always(_, left) => 1 + left.size(),
+            Tree::And(left, right)
+            | Tree::Or(left, right)
+            | Tree::Until(left, _, right)
+            | Tree::Release(left, _, right) => 1 + left.size() + right.size(),
+        }
     }
 
     /// What stands right inside: left, or left and right.
     pub fn operands(&self) -> Vec<&Shared> {
         match self {
             Tree::Atom(_) => Vec::new(),
-            Tree::Not(left)
-            | Tree::Eventually(_, left)
-            | Tree::Always(_, left)
-            | Tree::Once(_, left)
-            | Tree::Historically(_, left) => vec![left],
+            Tree::Not(left) | Tree::Eventually(_, left) | Tree::Always(_, left) => vec![left],
             Tree::And(left, right)
             | Tree::Or(left, right)
             | Tree::Until(left, _, right)
-            | Tree::Release(left, _, right)
-            | Tree::Since(left, _, right)
-            | Tree::Trigger(left, _, right) => vec![left, right],
+            | Tree::Release(left, _, right) => vec![left, right],
         }
     }
 
@@ -65,15 +62,6 @@ impl Tree {
         match self {
             Tree::Atom(_) | Tree::Not(_) | Tree::And(..) | Tree::Or(..) => false,
             Tree::Until(..) | Tree::Release(..) | Tree::Eventually(..) | Tree::Always(..) => true,
-            Tree::Since(..) | Tree::Trigger(..) | Tree::Once(..) | Tree::Historically(..) => true,
         }
-    }
-
-    /// Whether it is itself a temporal operator whose "window counts back".
-    pub fn looks_back(&self) -> bool {
-        matches!(
-            self,
-            Tree::Since(..) | Tree::Trigger(..) | Tree::Once(..) | Tree::Historically(..)
-        )
     }
 }

@@ -45,28 +45,24 @@ impl<'a, P: Places> Truth<'a, P> {
                 let (left, right) = (self.of(left), self.of(right));
                 self.at_each(|i| left[i] || right[i])
             }
-            _ => self.temporal(tree),
+            Tree::Until(left, window, right) => {
+                let (left, right) = (self.of(left), self.of(right));
+                self.until(|k| left[k], *window, |j| right[j])
+            }
+            Tree::Release(left, window, right) => {
+                let (left, right) = (self.of(left), self.of(right));
+                self.release(|k| left[k], *window, |j| right[j])
+            }
+            Tree::Eventually(window, left) => {
+                let left = self.of(left);
+                self.until(|_| true, *window, |j| left[j])
+            }
+            Tree::Always(window, left) => {
+                let left = self.of(left);
+                self.release(|_| false, *window, |j| left[j])
+            }
         };
         self.known.keep(tree, Rc::new(truths))
-    }
-
-    fn temporal(&mut self, tree: &Tree) -> Vec<bool> {
-        let known: Vec<Truths> = tree.operands().into_iter().map(|child| self.of(child)).collect();
-        // Of one operand, that is right; what left is then stands below.
-        let (left, right) = (|k: usize| known[0][k], |j: usize| known[known.len() - 1][j]);
-        match tree {
-            Tree::Until(_, window, _) => self.until(left, *window, right),
-            Tree::Release(_, window, _) => self.release(left, *window, right),
-            Tree::Eventually(window, _) => self.until(|_| true, *window, right),
-            Tree::Always(window, _) => self.release(|_| false, *window, right),
-            Tree::Since(_, window, _) => self.since(left, *window, right),
-            Tree::Trigger(_, window, _) => self.trigger(left, *window, right),
-            Tree::Once(window, _) => self.since(|_| true, *window, right),
-            Tree::Historically(window, _) => self.trigger(|_| false, *window, right),
-            Tree::Atom(_) | Tree::Not(_) | Tree::And(..) | Tree::Or(..) => {
-                unreachable!("no temporal operator")
-            }
-        }
     }
 
     fn not(&mut self, left: &Shared) -> Vec<bool> {
@@ -86,12 +82,6 @@ impl<'a, P: Places> Truth<'a, P> {
             .filter(move |&j| window.contains(self.places.time(j) - self.places.time(i)))
     }
 
-    /// "The window counts back"; over a history no second comes before its first.
-    fn in_past_window(&self, i: usize, window: Window) -> impl Iterator<Item = usize> + '_ {
-        (0..self.places.count())
-            .filter(move |&j| window.contains(self.places.time(i) - self.places.time(j)))
-    }
-
     fn until(
         &self,
         left: impl Fn(usize) -> bool,
@@ -108,24 +98,6 @@ impl<'a, P: Places> Truth<'a, P> {
         right: impl Fn(usize) -> bool,
     ) -> Vec<bool> {
         self.at_each(|i| self.in_window(i, window).all(|j| right(j) || (i..j).any(&left)))
-    }
-
-    fn since(
-        &self,
-        left: impl Fn(usize) -> bool,
-        window: Window,
-        right: impl Fn(usize) -> bool,
-    ) -> Vec<bool> {
-        self.at_each(|i| self.in_past_window(i, window).any(|j| right(j) && (j + 1..=i).all(&left)))
-    }
-
-    fn trigger(
-        &self,
-        left: impl Fn(usize) -> bool,
-        window: Window,
-        right: impl Fn(usize) -> bool,
-    ) -> Vec<bool> {
-        self.at_each(|i| self.in_past_window(i, window).all(|j| right(j) || (j + 1..=i).any(&left)))
     }
 }
 

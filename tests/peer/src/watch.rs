@@ -72,7 +72,7 @@ fn judge(table: &Table, predicates: &Predicates, scales: &[u64]) -> Result<Share
         Refusal::Predicates,
     )?;
     when(scales.iter().any(|&scale| scale_broken(scale)), Refusal::Scales)?;
-    when(nested(table) || looks_back(table), Refusal::Nested)?;
+    when(nested(table), Refusal::Nested)?;
     Ok(table.trees().remove(table.count() - 1))
 }
 
@@ -83,11 +83,6 @@ fn nested(table: &Table) -> bool {
     let mut inside =
         |tree: &Shared| tree.operands().iter().any(|inner| has_temporal(inner, &mut known));
     table.trees().iter().any(|tree| tree.is_temporal() && inside(tree))
-}
-
-/// "A watch given such a kind is refused by 16": nested or not, and in any node.
-fn looks_back(table: &Table) -> bool {
-    table.trees().iter().any(|tree| tree.looks_back())
 }
 
 /// Whether the tree is a temporal operator or has one inside, however deep.
@@ -141,9 +136,6 @@ impl<'a> AtFirst<'a> {
             Tree::Always(window, left) => {
                 let left = self.rows.of(left);
                 self.release(|_| -TOP, *window, |j| left[j])
-            }
-            Tree::Since(..) | Tree::Trigger(..) | Tree::Once(..) | Tree::Historically(..) => {
-                unreachable!("no watch looks back")
             }
         };
         self.known.keep(tree, margin)

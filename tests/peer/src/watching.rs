@@ -138,12 +138,11 @@ fn refusals_of_a_making_count_in_their_order() {
 }
 
 #[test]
-fn a_temporal_operator_inside_another_or_looking_back() {
+fn a_temporal_operator_inside_another() {
     for text in [
         "F[0,1]G[0,1]p0", "G[0,1]!F[0,1]p0", "G[0,1](p0&(p1|!F[0,1]p0))", "p0U[0,1]G[0,1]p0",
         "(F[0,1]p0)U[0,1]p0", "p0R[0,1](p1&(p0R[0,1]p1))", "(p0U[0,1]p1)R[0,1]p0",
-        "!(p0&!G[0,*]F[0,0]T)", "O[0,1]p0", "p0&!H[0,1]p1", "p0S[0,1]p1|F[0,1]p0", "p0Q[0,*]T",
-        "G[0,1]O[0,1]p0", "H[0,1]F[0,1]p0", "O[0,1]O[0,1]p0",
+        "!(p0&!G[0,*]F[0,0]T)",
     ] {
         let table = read_requirement(text.as_bytes()).unwrap();
         refused(&table, &bench(), &[1], Refusal::Nested);

@@ -1,4 +1,4 @@
-//! Windows, as document 01 and Changes 3, 8 and 9 of document 02 write and read them.
+//! Windows, as document 01 and Changes 3 and 8 of document 02 write and read them.
 
 /// A window as it is written: two ends, and for each whether it is excluded. All that a window means
 /// is what it means as it is read.
@@ -32,14 +32,13 @@ impl Window {
         hi.map_or(self.open_hi, |hi| lo > hi)
     }
 
-    /// "Sample j is in the window of i when time j − time i is from lo to hi, both counted." Where "the
-    /// window counts back: j fits when time i − time j lies in it".
+    /// "Sample j is in the window of i when time j − time i is from lo to hi, both counted."
     pub fn contains(self, difference: i64) -> bool {
         let Window { lo, hi, .. } = self.as_read();
         lo <= difference && hi.is_none_or(|hi| difference <= hi)
     }
 
-    /// For until and eventually, since and once: "a window with lo 0 contracts to 0 up to hi − step"; "a lo above 0
+    /// For until and eventually: "a window with lo 0 contracts to 0 up to hi − step"; "a lo above 0
     /// contracts as before", to "lo + step to hi − step, perhaps empty". An end below 0 stays there.
     /// "Change 3 looks at the low end so read."
     pub fn contracted(self, step: i64) -> Window {
@@ -48,7 +47,7 @@ impl Window {
         Window::closed(lo, hi.map(|hi| hi - step))
     }
 
-    /// For release and always, trigger and historically: "lo − step (not below 0) to hi + step".
+    /// For release and always: "lo − step (not below 0) to hi + step".
     pub fn expanded(self, step: i64) -> Window {
         let Window { lo, hi, .. } = self.as_read();
         Window::closed((lo - step).max(0), hi.map(|hi| hi + step))

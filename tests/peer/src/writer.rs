@@ -46,7 +46,6 @@ fn unshared_count(table: &Table) -> u64 {
         let below = match node.kind {
             kind::TRUE | kind::PREDICATE => 0,
             kind::NOT | kind::EVENTUALLY | kind::ALWAYS => child(node.left),
-            kind::ONCE | kind::HISTORICALLY => child(node.left),
             _ => child(node.left) + child(node.right),
         };
         counts.push(below + 1);
@@ -64,11 +63,7 @@ pub fn text_of(tree: &Tree) -> String {
     let sign = sign(tree);
     match tree {
         Tree::Atom(_) => sign,
-        Tree::Not(left)
-        | Tree::Eventually(_, left)
-        | Tree::Always(_, left)
-        | Tree::Once(_, left)
-        | Tree::Historically(_, left) => {
+        Tree::Not(left) | Tree::Eventually(_, left) | Tree::Always(_, left) => {
             let text = text_of(left);
             let bare = reads_as(&format!("{sign}{text}"), tree);
             format!("{sign}{}", operand(text, bare))
@@ -76,9 +71,7 @@ pub fn text_of(tree: &Tree) -> String {
         Tree::And(left, right)
         | Tree::Or(left, right)
         | Tree::Until(left, _, right)
-        | Tree::Release(left, _, right)
-        | Tree::Since(left, _, right)
-        | Tree::Trigger(left, _, right) => {
+        | Tree::Release(left, _, right) => {
             let (one, other) = (text_of(left), text_of(right));
             let truth = atom(Atom::True);
             let left_bare = reads_as(&format!("{one}{sign}T"), &over(tree, left, &truth));
@@ -100,10 +93,6 @@ fn sign(tree: &Tree) -> String {
         Tree::Release(_, window, _) => format!("R{}", window_text(*window)),
         Tree::Eventually(window, _) => format!("F{}", window_text(*window)),
         Tree::Always(window, _) => format!("G{}", window_text(*window)),
-        Tree::Since(_, window, _) => format!("S{}", window_text(*window)),
-        Tree::Trigger(_, window, _) => format!("Q{}", window_text(*window)),
-        Tree::Once(window, _) => format!("O{}", window_text(*window)),
-        Tree::Historically(window, _) => format!("H{}", window_text(*window)),
     }
 }
 
@@ -125,8 +114,6 @@ fn over(tree: &Tree, left: &Shared, right: &Shared) -> Tree {
         Tree::Or(..) => Tree::Or(left, right),
         Tree::Until(_, window, _) => Tree::Until(left, *window, right),
         Tree::Release(_, window, _) => Tree::Release(left, *window, right),
-        Tree::Since(_, window, _) => Tree::Since(left, *window, right),
-        Tree::Trigger(_, window, _) => Tree::Trigger(left, *window, right),
         _ => unreachable!("it has two operands"),
     }
 }
@@ -143,20 +130,20 @@ fn operand(text: String, bare: bool) -> String {
     }
 }
 
-/// How many of `!`, `G`, `F`, `O`, `H` and `(` enclose one another, by the text's own letters: as many
-/// as are open at once. A window's "`(` is no enclosing".
+/// How many of `!`, `G`, `F` and `(` enclose one another, by the text's own letters: as many as are
+/// open at once. A window's "`(` is no enclosing".
 fn enclosings(text: &str) -> usize {
     let mut open: Vec<char> = Vec::new();
     let mut most = 0;
     for letter in without_windows(text).chars() {
         match letter {
-            '!' | 'G' | 'F' | 'O' | 'H' | '(' => open.push(letter),
+            '!' | 'G' | 'F' | '(' => open.push(letter),
             'T' | 'p' => end_unary(&mut open),
             ')' => {
                 open.pop();
                 end_unary(&mut open);
             }
-            // Numbers, `U`, `R`, `S`, `Q`, `&` and `|` open nothing.
+            // Numbers, `U`, `R`, `&` and `|` open nothing.
             _ => {}
         }
         most = most.max(open.len());
@@ -170,14 +157,14 @@ fn without_windows(text: &str) -> String {
     let mut outside = String::new();
     while let Some(letter) = letters.next() {
         outside.push(letter);
-        if matches!(letter, 'U' | 'R' | 'G' | 'F' | 'S' | 'Q' | 'O' | 'H') {
+        if matches!(letter, 'U' | 'R' | 'G' | 'F') {
             letters.find(|letter| matches!(letter, ']' | ')'));
         }
     }
     outside
 }
 
-/// A unary has ended; so have the letters that enclose it and stand before it, up to the next `(`.
+/// A unary has ended; so have the `!`, `G` and `F` that stand before it, up to the next `(`.
 fn end_unary(open: &mut Vec<char>) {
     while open.last().is_some_and(|letter| *letter != '(') {
         open.pop();

@@ -93,8 +93,8 @@ fn refusals_count_in_their_order() {
         refuses(&broken, 0, Refusal::Table);
         refuses(&broken, 500, Refusal::Table);
     }
-    refuses(&[node(13, 0, 0, 0, 0), leaf], 0, Refusal::Table);
-    refuses(&[node(13, 0, 0, 0, 0), leaf], 1, Refusal::Table);
+    refuses(&[node(9, 0, 0, 0, 0), leaf], 0, Refusal::Table);
+    refuses(&[node(9, 0, 0, 0, 0), leaf], 1, Refusal::Table);
     refuses(&[leaf], 0, Refusal::Room);
     refuses(&[], 9, Refusal::Table);
     refuses(&[leaf; 65], 9, Refusal::Table);
@@ -108,8 +108,6 @@ fn without_a_pair_another_tree_is_read_or_none() {
         ("p0|(p1|p2)", "p0|p1|p2"),
         ("!(p0U[0,1]p1)", "!p0U[0,1]p1"),
         ("(p0U[0,1]p1)R[0,1]p2", "p0U[0,1]p1R[0,1]p2"),
-        ("O[0,1](p0S[0,1]p1)", "O[0,1]p0S[0,1]p1"),
-        ("p0U[0,1](p1Q[0,1]p2)", "p0U[0,1]p1Q[0,1]p2"),
     ] {
         let tree = read_tree(text.as_bytes()).unwrap();
         assert_eq!(text_of(&tree), text);

@@ -27,14 +27,11 @@ element-copy-out-node c = search rules
 is-timed-requires : tie.Need-is-timed-requires invariant-loop decreases-loop
 is-timed-requires c κs = search rules
 
-looks-back-requires : tie.Need-looks-back-requires invariant-loop decreases-loop
-looks-back-requires c κs = search rules
-
 array-read-operands-timed : tie.Need-array-read-operands-timed invariant-loop decreases-loop
-array-read-operands-timed c = (places _ c.before.before.before.before.before.requires _ c.before.before.before.loop-test.true).0
+array-read-operands-timed c = (places _ c.before.before.before.before.requires _ c.before.before.loop-test.true).0
 
 array-read-operands-timed-2 : tie.Need-array-read-operands-timed-2 invariant-loop decreases-loop
-array-read-operands-timed-2 c = (places _ c.before.before.before.before.before.requires _ c.before.before.before.loop-test.true).1
+array-read-operands-timed-2 c = (places _ c.before.before.before.before.requires _ c.before.before.loop-test.true).1
 
 operands-timed-requires : tie.Need-operands-timed-requires invariant-loop decreases-loop
 operands-timed-requires c κs = search rules
@@ -50,8 +47,8 @@ loop-less c = omega arith
 
 loop-again : tie.Need-loop-preserved invariant-loop decreases-loop
 loop-again c =
-    let l = c.before.before.before.before.before in
-    noted_next _ l.before.requires _ c.before.before.before.before.loop-test.true l.loop.timed l.loop.invariant c.before.before.is-timed.ensures c.before.looks_back.ensures c.operands-timed.ensures
+    let l = c.before.before.before.before in
+    noted_next _ l.before.requires _ c.before.before.before.loop-test.true l.loop.timed l.loop.invariant c.before.is-timed.ensures c.operands-timed.ensures
 
 returns : tie.Need-returns invariant-loop decreases-loop
 unfolding nodes_unnested
@@ -67,7 +64,6 @@ unnested-spec =
     mul-node
     element-copy-out-node
     is-timed-requires
-    looks-back-requires
     array-read-operands-timed
     array-read-operands-timed-2
     operands-timed-requires

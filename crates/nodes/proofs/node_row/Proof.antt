@@ -9,8 +9,9 @@ use borrow.Author.Tests.{not-true, not-false}
 use lib.IntN.{ℤ}
 use lib.ListN.{length}
 use Rattle.rows.specs.Cells.{cell}
+use Rattle.logic.specs.Formula.{future}
 use Rattle.logic.specs.Negation.{turn}
-use Rattle.tables.specs.Kind.{Operator, joined, binary, unary, operator, operator_extremum, operator_direction}
+use Rattle.tables.specs.Kind.{Operator, joined, binary, unary, operator, operator_extremum}
 use Rattle.tables.specs.Rules.{timed}
 use Rattle.tables.proofs.EveryKind.{operating, joined_form, temporal_form}
 use Rattle.temporal.specs.declared.Left.TheVariants.{Row, Absent}
@@ -39,11 +40,11 @@ joins c =
 has-window : (c : tie.Else4) → timed (own c.before) ≡ true
 has-window c = sym c.before.is-timed.ensures ∙ not-false _ c.if4.left
 
-binds : (c : tie.Then5) → let o = own c.before.before.before.before in o ≡ binary (operator_direction o) (operator_extremum o)
-binds c = temporal_form _ (has-window c.before.before.before) ∙ (rw (sym c.before.Has-right.ensures ∙ c.if5.taken) refl)
+binds : (c : tie.Then5) → own c.before.before.before ≡ binary future (operator_extremum (own c.before.before.before))
+binds c = temporal_form _ (has-window c.before.before) ∙ (rw (sym c.before.Has-right.ensures ∙ c.if5.taken) refl)
 
-looks : (c : tie.Else5) → let o = own c.before.before.before.before in o ≡ unary (operator_direction o) (operator_extremum o)
-looks c = temporal_form _ (has-window c.before.before.before) ∙ (rw (sym c.before.Has-right.ensures ∙ c.if5.left) refl)
+looks : (c : tie.Else5) → own c.before.before.before ≡ unary future (operator_extremum (own c.before.before.before))
+looks c = temporal_form _ (has-window c.before.before) ∙ (rw (sym c.before.Has-right.ensures ∙ c.if5.left) refl)
 
 true-row-requires : tie.Need-true-row-requires
 true-row-requires c κs = search rules
@@ -110,22 +111,19 @@ returns-4 c =
     let s = start t.before in
     joined_arm _ s.args.node s.args.window (operand s s.args.left) (operand s s.args.right) _ _ s.args.work.now s.args.affirmed (joins t) (turned t.before) c.before.joined-row.ensures
 
-direction-of-requires : tie.Need-direction-of-requires
-direction-of-requires c κs = search rules
-
 has-right-requires : tie.Need-has-right-requires
 has-right-requires c κs = search rules
 
-timed-row-requires : tie.Need-timed-row-requires
-timed-row-requires c κs =
+temporal-row-requires : tie.Need-temporal-row-requires
+temporal-row-requires c κs =
     let t = c.before in
-    let a = (start t.before.before.before.before).pre in
+    let a = (start t.before.before.before).pre in
     row_asks a (Row _) _ (left_before a (binds t)) (right_before a (binds t))
 
-timed-row-requires-2 : tie.Need-timed-row-requires-2
-timed-row-requires-2 c κs =
+temporal-row-requires-2 : tie.Need-temporal-row-requires-2
+temporal-row-requires-2 c κs =
     let t = c.before in
-    let a = (start t.before.before.before.before).pre in
+    let a = (start t.before.before.before).pre in
     row_asks a Absent _ tt (left_before a (looks t))
 
 same-length-5 : tie.Need-same-length-5
@@ -134,9 +132,9 @@ same-length-5 c = search rules
 returns-5 : tie.Need-returns-5
 returns-5 c =
     let t = c.before.before.before in
-    let q = t.before.before.before.before in
+    let q = t.before.before.before in
     let s = start q in
-    binary_arm _ s.args.node s.args.window (operand s s.args.left) (operand s s.args.right) _ _ s.args.work.now s.args.affirmed (binds t) t.before.before.direction-of.ensures (turned q) c.before.timed-row.ensures
+    binary_arm _ s.args.node s.args.window (operand s s.args.left) (operand s s.args.right) _ _ s.args.work.now s.args.affirmed (binds t) (turned q) c.before.temporal-row.ensures
 
 same-length-6 : tie.Need-same-length-6
 same-length-6 c = search rules
@@ -144,9 +142,9 @@ same-length-6 c = search rules
 returns-6 : tie.Need-returns-6
 returns-6 c =
     let t = c.before.before.before in
-    let q = t.before.before.before.before in
+    let q = t.before.before.before in
     let s = start q in
-    unary_arm _ s.args.node s.args.window (operand s s.args.left) (operand s s.args.right) _ _ s.args.work.now s.args.affirmed (looks t) t.before.before.direction-of.ensures (turned q) c.before.timed-row2.ensures
+    unary_arm _ s.args.node s.args.window (operand s s.args.left) (operand s s.args.right) _ _ s.args.work.now s.args.affirmed (looks t) (turned q) c.before.temporal-row2.ensures
 
 pub node-row-spec : {M : Type 1} → statement M
 node-row-spec =
@@ -171,10 +169,9 @@ node-row-spec =
     joined-row-requires
     same-length-4
     returns-4
-    direction-of-requires
     has-right-requires
-    timed-row-requires
-    timed-row-requires-2
+    temporal-row-requires
+    temporal-row-requires-2
     same-length-5
     returns-5
     same-length-6

@@ -1,9 +1,15 @@
--- "Not", or the kind that was read, with its window.
+-- `operators::read_prefix` meets its contract: each branch of the code is a case of the definition.
 -- Assumes nothing.
 use mathlib.Core.Path.{sym, ◌∙◌}
+use Rattle.operators.proofs.Pieces.{two_kinds}
 use borrow.Author.Rules.{rules}
 use Rattle.operators.proofs.read_prefix.Statement.{statement}
 use Rattle.operators.proofs.read_prefix.Tie as tie
+use Rattle.operators.proofs.read_prefix.Reads as reads
+use Rattle.operators.proofs.read_prefix.Lts as lts
+use Rattle.operators.proofs.or_else.Reads as or-else-reads
+use Rattle.operators.proofs.read_letter.Reads as read-letter-reads
+use Rattle.operators.proofs.read_timed.Reads as read-timed-reads
 
 read-letter-requires : tie.Need-read-letter-requires
 read-letter-requires c κs = search rules
@@ -20,14 +26,17 @@ returns c = rw (sym c.before.before.before.before.read-letter.ensures ∙ c.befo
 enum_told : tie.Need-enum-told
 enum_told c = search rules
 
-read-kind-requires : tie.Need-read-kind-requires
-read-kind-requires c κs = search rules
-
 read-timed-requires : tie.Need-read-timed-requires
 read-timed-requires c κs = search rules
 
+read-timed-requires-2 : tie.Need-read-timed-requires-2
+read-timed-requires-2 c κs = search rules
+
+or-else-requires : tie.Need-or-else-requires
+or-else-requires c κs = search rules
+
 returns-2 : tie.Need-returns-2
-returns-2 c = rw (sym c.before.before.before.before.read-letter.ensures ∙ c.before.before.enum_told.given.1) (rw c.before.read-kind.ensures at c.read-timed.ensures)
+returns-2 c = rw (sym c.before.before.before.before.before.read-letter.ensures ∙ c.before.before.before.enum_told.given.1) ((rw (c.before.before.read-timed.ensures, c.before.read-timed2.ensures) at c.or_else.ensures) ∙ two_kinds _ _ _ _)
 
 pub read-prefix-spec : {M : Type 1} → statement M
 read-prefix-spec =
@@ -38,6 +47,7 @@ read-prefix-spec =
     no-span-requires
     returns
     enum_told
-    read-kind-requires
     read-timed-requires
+    read-timed-requires-2
+    or-else-requires
     returns-2)

@@ -1,43 +1,43 @@
--- No count but 1 to NODES passes the first tests, so the walk is safe; `ok` says of the nodes before k whether each obeys and names what is set.
+-- A table that obeys has at most NODES nodes, so its names are safe to look up; `ok` says of the nodes before k whether each names what is set.
 -- Assumes nothing.
-use Prim.Native.Nat.{◌-◌}
-use mathlib.Core.Path.{◌∙◌, ap₂}
-use mathlib.Core.Bool.{◌&&◌}
-use native.Mathlib.Omega.{arith}
+use Prim.Native.Nat.{◌-◌, ◌≤◌}
+use mathlib.Core.Path.{◌≡◌, sym, subst, ◌∙◌}
+use mathlib.Core.Bool.{true}
+use lib.Dec.{T}
 use borrow.Author.Rules.{rules}
-use borrow.Author.Tests.{le-leb, lt-leb}
-use Rattle.lists.proofs.Below.{all_both, Tested, tested_none, tested_next, tested_all}
+use borrow.Author.Tests.{not-true, not-false}
+use Rattle.lists.proofs.Below.{Tested, tested_none, tested_next, tested_all}
 use Rattle.tables.specs.Tree.{NODES, node_at}
-use Rattle.tables.specs.Rules.{node_obeys, nodes_obey, table_obeys}
+use Rattle.tables.specs.Rules.{table_obeys}
+use Rattle.tables.proofs.Rules.{table_rules}
 use Rattle.predicates.specs.Predicates.{names_set, all_named, requirement_obeys}
 use Rattle.predicates.proofs.requirement_obeys.Statement.{statement}
 use Rattle.predicates.proofs.requirement_obeys.Tie as tie
 
 abbrev invariant-loop : tie.invariant-loop
-invariant-loop predicates table count ok₀ k₀ ok k = Tested (λ j. node_obeys (node_at table.nodes j) j && names_set (node_at table.nodes j) predicates) count k ok
+invariant-loop predicates table obeys count ok₀ k₀ ok k = (count ≤ NODES) × Tested (λ j. names_set (node_at table.nodes j) predicates) count k ok
 
 abbrev decreases-loop : tie.decreases-loop
-decreases-loop predicates table count ok₀ k₀ ok k = count - k
+decreases-loop predicates table obeys count ok₀ k₀ ok k = count - k
+
+obeys : (c : tie.Else1 invariant-loop decreases-loop) → table_obeys c.before.before.args.t1 ≡ true
+obeys c = sym c.before.table_obeys.ensures ∙ not-false _ c.if1.false
+
+table-obeys-requires : tie.Need-table-obeys-requires invariant-loop decreases-loop
+table-obeys-requires c κs = search rules
 
 returns : tie.Need-returns invariant-loop decreases-loop
-unfolding requirement_obeys table_obeys
-returns c = let n = c.before.args.t1.count in rw (le-leb n NODES (omega arith), lt-leb 1 n (omega arith))
-
-returns-2 : tie.Need-returns-2 invariant-loop decreases-loop
-unfolding requirement_obeys table_obeys
-returns-2 c = rw (lt-leb _ NODES c.if2.true)
+unfolding requirement_obeys
+returns c = rw (sym c.before.table_obeys.ensures ∙ not-true c.before.table_obeys.result c.if1.true)
 
 loop-holds : tie.Need-loop-init invariant-loop decreases-loop
-loop-holds c = tested_none
+loop-holds c = ((table_rules _ (subst T (sym (obeys c)) tt)).few_nodes, tested_none)
 
 mul-node : tie.Need-overflow-mul-node invariant-loop decreases-loop
 mul-node c = search rules
 
 element-copy-out-node : tie.Need-element-copy-out-node invariant-loop decreases-loop
 element-copy-out-node c = search rules
-
-node-obeys-requires : tie.Need-node-obeys-requires invariant-loop decreases-loop
-node-obeys-requires c κs = search rules
 
 names-set-requires : tie.Need-names-set-requires invariant-loop decreases-loop
 names-set-requires c κs = search rules
@@ -50,15 +50,12 @@ loop-less c = search rules
 
 loop-again : tie.Need-loop-preserved invariant-loop decreases-loop
 loop-again c =
-    let l = c.before.before.before.before in
-    tested_next l.loop.invariant c.before.before.before.loop-test.true (ap₂ ◌&&◌ c.before.node_obeys.ensures c.names_set.ensures)
+    let l = c.before.before.before.loop.invariant in
+    (l.0, tested_next l.1 c.before.before.loop-test.true c.names_set.ensures)
 
-returns-3 : tie.Need-returns-3 invariant-loop decreases-loop
-unfolding requirement_obeys table_obeys nodes_obey all_named
-returns-3 c =
-    let e = c.before.before in
-    let n = e.before.before.args.t1.count in
-    rw (le-leb n NODES e.if2.false, le-leb 1 n (omega arith)) (tested_all c.before.loop.invariant c.loop-test.false ∙ all_both _ _ n)
+returns-2 : tie.Need-returns-2 invariant-loop decreases-loop
+unfolding requirement_obeys all_named
+returns-2 c = rw (obeys c.before.before) (tested_all c.before.loop.invariant.1 c.loop-test.false)
 
 pub requirement-obeys-spec : {M : Type 1} → statement M
 requirement-obeys-spec =
@@ -66,14 +63,13 @@ requirement-obeys-spec =
     (tie.spec
     invariant-loop
     decreases-loop
+    table-obeys-requires
     returns
-    returns-2
     loop-holds
     mul-node
     element-copy-out-node
-    node-obeys-requires
     names-set-requires
     add-k
     loop-less
     loop-again
-    returns-3)
+    returns-2)

@@ -1,4 +1,4 @@
--- Or, until, eventually, since and once alone take the largest: `largest_test`.
+-- Or, until and eventually alone take the largest: `largest_test`.
 -- Assumes nothing.
 use mathlib.Core.Path.{◌≡◌, refl, sym, ◌∙◌}
 use mathlib.Core.Bool.{Bool, cond}

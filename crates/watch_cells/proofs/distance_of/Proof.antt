@@ -1,35 +1,52 @@
--- Each test that fails leaves TOP.
+-- Of a predicate that was accepted the numbers pass every test; of others nothing is asked for.
 -- Assumes nothing.
-use mathlib.Core.Path.{◌≡◌, sym, ap, ap₂, ◌∙◌}
+use mathlib.Core.Path.{◌≡◌, sym, ap, ap₂, ◌∙◌, subst}
+use native.Mathlib.Omega.{arith}
 use borrow.Author.Tests.{not-true, not-false}
 use Prim.Native.Nat.{ℕ, ◌+◌, ◌*◌, ◌%◌}
+use lib.Dec.{T}
 use lib.ListN.{get_or}
-use Rattle.numbers.proofs.Bits.{back_ok, back_is}
+use lib.IntN.{pos}
+use Rattle.numbers.proofs.Bits.{back, back_ok, back_is}
 use Rattle.numbers.proofs.Parts.{holds}
 use Rattle.points.proofs.Fits.{fit, in_back}
 use Rattle.recordings.specs.declared.Predicate.{Predicate}
+use Rattle.recordings.specs.declared.Range.{Range}
 use Rattle.predicates.specs.Predicates.{range_obeys}
-use Rattle.predicates.proofs.Predicates.{range_ends}
+use Rattle.predicates.proofs.Predicates.{range_ends, ends_pass}
+use Rattle.refusals.proofs.First.{answers}
 use Rattle.flat.specs.Predicates.{range_from}
-use Rattle.watch_cells.specs.State.{RANGES_AT, predicate_in}
-use Rattle.watch_cells.specs.Step.{scale_in}
-use Rattle.watch_cells.proofs.Points.{no_channel, no_scale, no_range, distance_had}
+use Rattle.watch_cells.specs.State.{predicate_in}
+use Rattle.watch_cells.specs.Taking.{LeafAsks}
+use Rattle.watch_cells.proofs.Points.{clash, distance_same}
 use borrow.Author.Rules.{rules}
 use Rattle.watch_cells.proofs.distance_of.Statement.{statement}
 use Rattle.watch_cells.proofs.distance_of.Tie as tie
 
--- the predicate that the node names, and the number at its channel's scale
-abbrev predicate : tie.Start → Predicate
-predicate s = predicate_in s.args.numbers.now s.args.cells.now (s.args.node.left % 16)
+-- what a predicate's node reads
+abbrev Asks : tie.Start → Predicate → ℕ → Type 0
+Asks s p k = LeafAsks s.args.numbers.now s.args.cells.now s.args.values.now s.args.node p k
 
-abbrev scale : tie.Start → ℕ
-scale s = scale_in s.args.numbers.now (predicate s).channel
+named : (s : tie.Start) {p : Predicate} {k : ℕ} → Asks s p k → s.args.node.left % 16 ≡ s.args.node.left
+named s a = omega (arith, a.numbered)
 
-range : (c : tie.After-range-from) → c.range_from.result ≡ (predicate c.before.before.before.before.before.before.before.before.before.before).range
-range c =
+predicate : (s : tie.Start) {p : Predicate} {k : ℕ} → Asks s p k → predicate_in s.args.numbers.now s.args.cells.now (s.args.node.left % 16) ≡ p
+predicate s a = ap (predicate_in s.args.numbers.now s.args.cells.now) (named s a) ∙ a.predicate_is
+
+channel : (s : tie.Start) {p : Predicate} {k : ℕ} → Asks s p k → get_or s.args.numbers.now (13 + 2 * (s.args.node.left % 16) + 1) 0 ≡ p.channel
+channel s a = ap (λ (q : Predicate). q.channel) (predicate s a)
+
+scale : (s : tie.Start) {p : Predicate} {k : ℕ} → Asks s p k → get_or s.args.numbers.now (5 + get_or s.args.numbers.now (13 + 2 * (s.args.node.left % 16) + 1) 0 % 8) 0 ≡ k
+scale s {p} a =
+    let e : p.channel % 8 ≡ p.channel = omega (arith, a.known) in
+    ap (λ (n : ℕ). get_or s.args.numbers.now (5 + n % 8) 0) (channel s a) ∙ ap (λ (n : ℕ). get_or s.args.numbers.now (5 + n) 0) e ∙ a.scale_is
+
+range : (c : tie.After-range-from) {p : Predicate} {k : ℕ} → Asks c.before.before.before.before.before.before.before.before.before.before p k → c.range_from.result ≡ p.range
+range c a =
     let s = c.before.before.before.before.before.before.before.before.before.before in
-    let kind = get_or s.args.numbers.now (RANGES_AT + 2 * (s.args.node.left % 16)) 0 in
-    c.range_from.ensures ∙ ap₂ (range_from kind) (back_ok _ c.before.before.range-from-arg.given) (back_ok _ c.before.range-from-arg2.given)
+    c.range_from.ensures
+    ∙ ap₂ (range_from (get_or s.args.numbers.now (13 + 2 * (s.args.node.left % 16)) 0)) (back_ok _ c.before.before.range-from-arg.given) (back_ok _ c.before.range-from-arg2.given)
+    ∙ ap (λ (q : Predicate). q.range) (predicate s a)
 
 mul_at : tie.Need-overflow-mul-at
 mul_at c = search rules
@@ -47,7 +64,7 @@ shared-slice-read-channel : tie.Need-shared-slice-read-channel
 shared-slice-read-channel c = search rules
 
 returns : tie.Need-returns
-returns c = let s = c.before.before.before.before in sym (no_channel (predicate s) (scale s) s.args.values.now c.if1.true)
+returns c = λ p k a. absurd (omega (arith, a.here, channel c.before.before.before.before a, c.if1.true))
 
 add-scale : tie.Need-overflow-add-scale
 add-scale c = search rules
@@ -59,7 +76,7 @@ shared-slice-read-scale : tie.Need-shared-slice-read-scale
 shared-slice-read-scale c = search rules
 
 returns-2 : tie.Need-returns-2
-returns-2 c = let s = c.before.before.before.before.before.before in sym (no_scale (predicate s) (scale s) s.args.values.now c.if2.true)
+returns-2 c = λ p k a. absurd (omega (arith, a.scaled.most, scale c.before.before.before.before.before.before a, c.if2.true))
 
 mul-range-from : tie.Need-overflow-mul-range-from
 mul-range-from c = search rules
@@ -95,10 +112,7 @@ range-obeys-requires : tie.Need-range-obeys-requires
 range-obeys-requires c κs = search rules
 
 returns-3 : tie.Need-returns-3
-returns-3 c =
-    let s = c.before.before.before.before.before.before.before.before.before.before.before.before in
-    let o = ap range_obeys (sym (range c.before.before)) ∙ sym c.before.range_obeys.ensures ∙ not-true c.before.range_obeys.result c.if3.true in
-    sym (no_range (predicate s) (scale s) s.args.values.now o)
+returns-3 c = λ p k a. absurd (clash (answers (subst (λ (r : Range). T (range_obeys r)) (sym (range c.before.before a)) (ends_pass p.range a.proper.ends))) (sym c.before.range_obeys.ensures ∙ not-true c.before.range_obeys.result c.if3.true))
 
 mul-scaled-distance : tie.Need-overflow-mul-scaled-distance
 mul-scaled-distance c = search rules
@@ -113,13 +127,10 @@ scaled-distance-requires c κs =
 
 returns-4 : tie.Need-returns-4
 returns-4 c =
+    λ p k a.
     let s = c.before.before.before.before.before.before.before.before.before.before.before.before.before.before in
     let z = c.scaled_distance in
-    let r = range c.before.before.before.before in
-    let h = c.before.before.before.before.before.before.before.before.before.before.if1.false in
-    let o = ap range_obeys (sym r) ∙ sym c.before.before.before.range_obeys.ensures ∙ not-false _ c.before.before.if3.false in
-    let had = distance_had (predicate s) (scale s) s.args.values.now h c.before.before.before.before.before.before.before.before.if2.false o in
-    back_ok z.result z.type-inv ∙ z.ensures ∙ rw (r, back_is (fit (s.requires.2.each _ h))) (sym had)
+    back_ok z.result z.type-inv ∙ z.ensures ∙ distance_same (scale s a) (range c.before.before.before.before a) (ap back (ap (λ (n : ℕ). get_or s.args.values.now n (pos 0)) (channel s a)) ∙ back_is (fit a.in_range))
 
 pub distance-of-spec : {M : Type 1} → statement M
 distance-of-spec =

@@ -1,8 +1,8 @@
--- From the two operands.
+-- Its operands are earlier nodes.
 -- Assumes nothing.
-use mathlib.Core.Path.{ap₂, ◌∙◌}
+use mathlib.Core.Path.{refl, ◌∙◌}
+use native.Mathlib.Omega.{arith}
 use Rattle.numbers.proofs.Bits.{back_ok}
-use Rattle.logic.specs.Reading.{margin_extreme}
 use borrow.Author.Rules.{rules}
 use Rattle.watch_cells.proofs.junction_at.Statement.{statement}
 use Rattle.watch_cells.proofs.junction_at.Tie as tie
@@ -18,11 +18,17 @@ extreme-requires c κs = search rules
 
 returns : tie.Need-returns
 returns c =
-    let a = c.before.before.operand in
-    let b = c.before.operand2 in
-    back_ok c.extreme.result c.extreme.type-inv
-    ∙ c.extreme.ensures
-    ∙ ap₂ (margin_extreme c.before.before.before.args.e) (back_ok a.result a.type-inv ∙ a.ensures) (back_ok b.result b.type-inv ∙ b.ensures)
+    λ k few e. record {
+      untimed = rw e refl;
+      value = λ leaf l r a.
+          let o = c.before.before.operand in
+          let q = c.before.operand2 in
+          let x = a.left (rw e refl) in
+          let y = a.right (rw e refl) in
+          let v = back_ok o.result o.type-inv ∙ o.ensures (omega (arith, x.earlier, few)) ∙ x.value in
+          let w = back_ok q.result q.type-inv ∙ q.ensures (omega (arith, y.earlier, few)) ∙ y.value in
+          rw e (back_ok c.extreme.result c.extreme.type-inv ∙ c.extreme.ensures ∙ rw (v, w));
+    }
 
 pub junction-at-spec : {M : Type 1} → statement M
 junction-at-spec =

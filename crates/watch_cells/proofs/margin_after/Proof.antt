@@ -6,6 +6,12 @@ use borrow.Author.Rules.{rules}
 use Rattle.watch_cells.proofs.margin_after.Statement.{statement}
 use Rattle.watch_cells.proofs.margin_after.Tie as tie
 
+-- A sample outside the window changes nothing.
+-- Assumes nothing.
+
+-- A sample outside the window changes nothing.
+-- Assumes nothing.
+
 dual-requires : tie.Need-dual-requires
 dual-requires c κs = search rules
 

@@ -1,9 +1,9 @@
--- What is below all margins counts as the least.
+-- What is below all margins isn't negated.
 -- Assumes nothing.
 use mathlib.Core.Path.{sym, ◌∙◌}
 use mir.Facts.{to_z-of_z}
 use Rattle.numbers.proofs.Bits.{back_ok}
-use Rattle.watch_cells.proofs.Points.{negative_fits, opposite_above, opposite_below}
+use Rattle.watch_cells.proofs.Points.{negative_fits, no_margin_below}
 use borrow.Author.Rules.{rules}
 use Rattle.watch_cells.proofs.opposite.Statement.{statement}
 use Rattle.watch_cells.proofs.opposite.Tie as tie
@@ -18,16 +18,14 @@ negated-requires c κs =
     simp to_z-of_z (negative_fits c.before.before.args.a f (sym t ∙ c.if1.true))
 
 returns : tie.Need-returns
-returns c =
-    let f = c.before.before.before.ranges.a in
-    let t = simp to_z-of_z at c.before.before.at_most.ensures in
-    back_ok c.negated.result c.negated.type-inv ∙ (simp to_z-of_z at c.negated.ensures) ∙ sym (opposite_above c.before.before.before.args.a (sym t ∙ c.before.if1.true))
+returns c = λ w. let f = c.before.before.before.ranges.a in back_ok c.negated.result c.negated.type-inv ∙ (simp to_z-of_z at c.negated.ensures)
 
 returns-2 : tie.Need-returns-2
 returns-2 c =
+    λ w.
     let f = c.before.before.ranges.a in
     let t = simp to_z-of_z at c.before.at_most.ensures in
-    sym (opposite_below c.before.before.args.a (sym t ∙ c.if1.false))
+    absurd (no_margin_below c.before.before.args.a w (sym t ∙ c.if1.false))
 
 pub opposite-spec : {M : Type 1} → statement M
 opposite-spec = tie.close (tie.spec at-most-requires negated-requires returns returns-2)

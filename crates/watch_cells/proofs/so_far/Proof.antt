@@ -5,6 +5,9 @@ use borrow.Author.Rules.{rules}
 use Rattle.watch_cells.proofs.so_far.Statement.{statement}
 use Rattle.watch_cells.proofs.so_far.Tie as tie
 
+-- Before the first row an extremum over nothing, else the cell.
+-- Assumes nothing.
+
 mul-result : tie.Need-overflow-mul-result
 mul-result c = search rules
 

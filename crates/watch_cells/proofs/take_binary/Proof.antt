@@ -1,8 +1,8 @@
 -- Both operands are nodes.
 -- Assumes nothing.
-use mathlib.Core.Path.{◌≡◌, ◌∙◌}
-use Rattle.numbers.proofs.Bits.{back, back_ok}
-use Rattle.watch_cells.specs.Step.{operand_in}
+use mathlib.Core.Path.{◌∙◌}
+use Rattle.numbers.proofs.Bits.{back_ok}
+use Rattle.watch_cells.proofs.Points.{binary_asks}
 use borrow.Author.Rules.{rules}
 use Rattle.watch_cells.proofs.take_binary.Statement.{statement}
 use Rattle.watch_cells.proofs.take_binary.Tie as tie
@@ -26,11 +26,13 @@ returns : tie.Need-returns
 returns c =
     let s = c.before.before.before.before.before.before.before.before.before in
     let n = c.before.before.before.before.before.before.before.node_of in
-    let x = c.before.before.before.before.before.operand in
-    let y = c.before.before.before.operand2 in
-    let hx : back x.result ≡ operand_in s.args.cells.now n.result.left 0 = back_ok x.result x.type-inv ∙ x.ensures in
-    let hy : back y.result ≡ operand_in s.args.cells.now n.result.right 0 = back_ok y.result y.type-inv ∙ y.ensures in
-    λ values. c.before.take-timed.ensures ∙ rw (hx, hy, n.ensures)
+    let l = c.before.before.before.before.before.operand in
+    let r = c.before.before.before.operand2 in (
+      λ values e.
+          c.before.take-timed.ensures.0 s.args.numbers.now values n.ensures
+          (binary_asks (rw n.ensures e) (λ h. back_ok l.result l.type-inv ∙ l.ensures h) (λ h. back_ok r.result r.type-inv ∙ r.ensures h)),
+      c.before.take-timed.ensures.1,
+    )
 
 pub take-binary-spec : {M : Type 1} → statement M
 take-binary-spec =

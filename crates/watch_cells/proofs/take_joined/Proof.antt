@@ -1,12 +1,9 @@
 -- "And" or "or" at the row and at sample 0, each from its operands.
 -- Assumes nothing.
-use mathlib.Core.Path.{ap, ap₂, ◌∙◌}
-use lib.IntN.{ℤ}
+use native.Mathlib.Omega.{arith}
+use Prim.Native.Nat.{◌≤◌}
 use Rattle.numbers.proofs.Bits.{back_ok}
-use Rattle.logic.specs.Reading.{margin_extreme}
-use Rattle.tables.specs.declared.Node.{Node}
-use Rattle.watch_cells.specs.State.{held_in}
-use Rattle.watch_cells.specs.Step.{stored, operand_in}
+use Rattle.tables.specs.Tree.{NODES}
 use borrow.Author.Rules.{rules}
 use Rattle.watch_cells.proofs.take_joined.Statement.{statement}
 use Rattle.watch_cells.proofs.take_joined.Tie as tie
@@ -29,15 +26,14 @@ same_length c = search rules
 returns : tie.Need-returns
 returns c =
     let s = c.before.before.before.before.before.before.before.before.before in
-    let l = s.args.cells.now in
-    let n = c.before.before.before.before.before.before.before.node_of.ensures in
+    let n = c.before.before.before.before.before.before.before.node_of in
     let x = c.before.before.before.before.before.junction-at in
     let y = c.before.before.before.junction-at2 in
-    λ z.
-    c.before.take-point.ensures
-    ∙ ap₂ (λ (a b : ℤ). stored l s.args.k (record { newest = a; margin = b; carried = held_in l s.args.k 2 }))
-    (back_ok x.result x.type-inv ∙ x.ensures ∙ ap (λ (m : Node). margin_extreme s.args.e (operand_in l m.left 0) (operand_in l m.right 0)) n)
-    (back_ok y.result y.type-inv ∙ y.ensures ∙ ap (λ (m : Node). margin_extreme s.args.e (operand_in l m.left 1) (operand_in l m.right 1)) n)
+    let few : s.args.k ≤ NODES = omega (arith, s.requires.2) in (
+      λ values opening since e.
+          c.before.take-point.ensures.0 s.args.numbers.now values opening since _ n.ensures (rw (back_ok x.result x.type-inv) (x.ensures s.args.k few (rw n.ensures e))) (rw (back_ok y.result y.type-inv) (y.ensures s.args.k few (rw n.ensures e))),
+      c.before.take-point.ensures.1,
+    )
 
 pub take-joined-spec : {M : Type 1} → statement M
 take-joined-spec =

@@ -1,15 +1,14 @@
 -- Right at the new sample is joined with what left was before it; then left is taken in.
 -- Assumes nothing.
 use mathlib.Core.Path.{◌≡◌, ◌∙◌}
-use mathlib.Core.Bool.{cond}
 use native.Mathlib.Omega.{arith}
 use lib.ListN.{length-set}
 use Rattle.numbers.proofs.Bits.{back, back_ok, back_is}
 use Rattle.logic.specs.Formula.{dual}
-use Rattle.logic.specs.Reading.{margin_nothing}
-use Rattle.recordings.specs.Distance.{TOP}
-use Rattle.watch_cells.specs.State.{kept_window, held_in}
-use Rattle.watch_cells.specs.Step.{Three, three_in, timed_takes}
+use Rattle.logic.specs.Reading.{margin_extreme}
+use Rattle.watch_cells.specs.Taking.{margin_after, newest_of}
+use Rattle.watch_cells.proofs.Own.{three_only, three_first, three_second, three_third, beyond_kept}
+use Rattle.watch_cells.proofs.Taken.{room, timed_taken}
 use borrow.Author.Rules.{rules}
 use Rattle.watch_cells.proofs.take_timed.Statement.{statement}
 use Rattle.watch_cells.proofs.take_timed.Tie as tie
@@ -99,19 +98,24 @@ returns c =
     let x = c.before.before.before.before.so-far2 in
     let w = c.before.before.before.in_window in
     let z = c.before.before.extreme in
-    let y = c.before.margin-after in
-    let v = c.newest-of in
+    let y = c.before.margin_after in
+    let v = c.newest_of in
     let e = s.args.e in
     let k = s.args.k in
     let l = s.args.cells.now in
-    let was = back_ok x.result x.type-inv ∙ x.ensures in
-    let after : Three = timed_takes e (kept_window s.args.node) s.args.opening s.args.since s.args.left s.args.right (three_in l k) in
-    let hm : back m.result ≡ cond s.args.opening (margin_nothing TOP e) (held_in l k 1) = back_ok m.result m.type-inv ∙ m.ensures ∙ rw (back_ok o.result o.type-inv, o.ensures) in
-    let hx : back x.result ≡ cond s.args.opening (margin_nothing TOP (dual e)) (held_in l k 2) = was ∙ rw (back_ok p.result p.type-inv, p.ensures, du.ensures) in
-    let hv : back v.result ≡ after.newest = back_ok v.result v.type-inv ∙ v.ensures ∙ rw (back_is s.ranges.right) in
-    let hy : back y.result ≡ after.margin = back_ok y.result y.type-inv ∙ y.ensures ∙ rw (hm, hx, back_is s.ranges.right, w.ensures) in
-    let hz : back z.result ≡ after.carried = back_ok z.result z.type-inv ∙ z.ensures ∙ rw (hx, back_is s.ranges.left, du.ensures) in
-    rw (hv, hy, hz)
+    let other : du.result ≡ dual e = du.ensures in
+    let bx = back_ok x.result x.type-inv in
+    let hv : back v.result ≡ newest_of s.args.node e s.args.right = back_ok v.result v.type-inv ∙ v.ensures ∙ rw (back_is s.ranges.right) in
+    let hy : back y.result ≡ margin_after e m.result x.result s.args.right w.result = back_ok y.result y.type-inv ∙ y.ensures ∙ rw (back_ok m.result m.type-inv, bx, back_is s.ranges.right) in
+    let hz : back z.result ≡ margin_extreme (dual e) x.result s.args.left = back_ok z.result z.type-inv ∙ z.ensures ∙ rw (bx, back_is s.ranges.left, other) in
+    let O = three_only l k _ _ _ in (
+      λ numbers values n-is a t d r A small K.
+          let at = n-is ∙ K.planned.nodes k s.requires.1 in
+          let i = room A small at K in
+          timed_taken A small at K a m.result x.result w.result (m.ensures ∙ rw (back_ok o.result o.type-inv, o.ensures)) (x.ensures ∙ rw (back_ok p.result p.type-inv, p.ensures, other)) w.ensures
+          O (three_first l k _ _ _ (i 0 (omega arith)) ∙ hv) (three_second l k _ _ _ (i 1 (omega arith)) ∙ hy) (three_third l k _ _ _ (i 2 (omega arith)) ∙ hz),
+      beyond_kept O s.requires.1,
+    )
 
 pub take-timed-spec : {M : Type 1} → statement M
 take-timed-spec =

@@ -1,11 +1,10 @@
 -- The only operand is a node; on the left stands what an extremum over nothing is.
 -- Assumes nothing.
-use mathlib.Core.Path.{◌≡◌, ap, ◌∙◌}
-use Rattle.numbers.proofs.Bits.{back, back_ok}
-use Rattle.logic.specs.Formula.{dual}
+use mathlib.Core.Path.{ap, ◌∙◌}
+use Rattle.numbers.proofs.Bits.{back_ok}
 use Rattle.logic.specs.Reading.{margin_nothing}
 use Rattle.recordings.specs.Distance.{TOP}
-use Rattle.watch_cells.specs.Step.{operand_in}
+use Rattle.watch_cells.proofs.Points.{unary_asks}
 use borrow.Author.Rules.{rules}
 use Rattle.watch_cells.proofs.take_unary.Statement.{statement}
 use Rattle.watch_cells.proofs.take_unary.Tie as tie
@@ -33,11 +32,13 @@ returns c =
     let s = c.before.before.before.before.before.before.before.before.before in
     let n = c.before.before.before.before.before.before.before.node_of in
     let u = c.before.before.before.before.before.before.dual in
-    let x = c.before.before.before.before.before.over_nothing in
-    let y = c.before.before.before.operand in
-    let hx : back x.result ≡ margin_nothing TOP (dual s.args.e) = back_ok x.result x.type-inv ∙ x.ensures ∙ ap (margin_nothing TOP) u.ensures in
-    let hy : back y.result ≡ operand_in s.args.cells.now n.result.left 0 = back_ok y.result y.type-inv ∙ y.ensures in
-    λ values. c.before.take-timed.ensures ∙ rw (hx, hy, n.ensures)
+    let l = c.before.before.before.before.before.over_nothing in
+    let r = c.before.before.before.operand in (
+      λ values e.
+          c.before.take-timed.ensures.0 s.args.numbers.now values n.ensures
+          (unary_asks (rw n.ensures e) (back_ok l.result l.type-inv ∙ l.ensures ∙ ap (margin_nothing TOP) u.ensures) (λ h. back_ok r.result r.type-inv ∙ r.ensures h)),
+      c.before.take-timed.ensures.1,
+    )
 
 pub take-unary-spec : {M : Type 1} → statement M
 take-unary-spec =

@@ -1,7 +1,6 @@
 -- The row is the first where the next row may have any time.
 -- Assumes nothing.
-use mathlib.Core.Path.{refl, sym}
-use lib.Seq.{set-get_or}
+use mathlib.Core.Path.{refl}
 use borrow.Author.Rules.{rules}
 use Rattle.watches.proofs.begin.Statement.{statement}
 use Rattle.watches.proofs.begin.Tie as tie
@@ -19,7 +18,7 @@ returns : tie.Need-returns
 returns c = (refl, rw c.if1.true refl)
 
 returns-2 : tie.Need-returns-2
-returns-2 c = (refl, rw c.if1.false (sym (set-get_or _ 2 0)))
+returns-2 c = (refl, rw c.if1.false refl)
 
 pub begin-spec : {M : Type 1} → statement M
 begin-spec =

@@ -1,10 +1,12 @@
 -- The root is the last node.
 -- Assumes nothing.
 use mathlib.Core.Path.{ap, ◌∙◌}
+use native.Mathlib.Omega.{arith}
 use Prim.Native.Nat.{ℕ}
 use lib.ListN.{get_or}
 use lib.IntN.{pos}
 use Rattle.numbers.proofs.Bits.{back_ok}
+use Rattle.watches.proofs.Answers.{root_held}
 use borrow.Author.Rules.{rules}
 use Rattle.watches.proofs.root_margin.Statement.{statement}
 use Rattle.watches.proofs.root_margin.Tie as tie
@@ -22,7 +24,14 @@ shared-slice-copy-out-result : tie.Need-shared-slice-copy-out-result
 shared-slice-copy-out-result c = search rules
 
 returns : tie.Need-returns
-returns c = back_ok _ c.result.given ∙ ap (λ (i : ℕ). get_or c.before.before.before.before.args.cells.now i (pos 0)) c.before.root_cell.ensures
+returns c =
+    λ t k K R some.
+    let s = c.before.before.before.before in
+    let n = K.planned.count in
+    let f = R.few_nodes in
+    let o = R.some_node in
+    let at = c.before.root_cell.ensures.1 (omega arith) (omega arith) in
+    back_ok _ c.result.given ∙ ap (λ (i : ℕ). get_or s.args.cells.now i (pos 0)) at ∙ root_held K R some
 
 pub root-margin-spec : {M : Type 1} → statement M
 root-margin-spec =

@@ -1,15 +1,14 @@
 -- Slices too short are refused, then what the watch or the row is refused by; an accepted row is taken.
 -- Assumes nothing.
-use mathlib.Core.Path.{◌≡◌, sym, ◌∙◌}
-use native.Mathlib.Omega.{arith}
+use mathlib.Core.Path.{◌≡◌, refl, sym, ◌∙◌, subst}
 use borrow.Author.Tests.{not-true, not-false}
 use lib.ListN.{length}
-use Rattle.refusals.proofs.First.{first_fails}
-use Rattle.arrivals.specs.Arrivals.{Row}
-use Rattle.watches.specs.declared.Watch.{Watch}
-use Rattle.watches.specs.Watches.{Roomy}
-use Rattle.watches.specs.Run.{room_of, row_number}
-use Rattle.watches.proofs.Answers.{roomy, has_room, offered_refused, offered_taken, passed_row}
+use Rattle.recordings.specs.Card.{Card}
+use Rattle.tables.specs.declared.Table.{Table}
+use Rattle.refusals.proofs.First.{unless_none}
+use Rattle.arrivals.specs.Arrivals.{Row, with_row, offer_refusal}
+use Rattle.watches.specs.Watches.{Watches, Roomy}
+use Rattle.watches.proofs.Answers.{roomy, cramped, watch_roomy, refused_watches}
 use borrow.Author.Rules.{rules}
 use Rattle.watches.proofs.take.Statement.{statement}
 use Rattle.watches.proofs.take.Tie as tie
@@ -17,29 +16,19 @@ use Rattle.watches.proofs.take.Tie as tie
 abbrev row_of : tie.Start → Row
 row_of s = record { time = s.args.time; values = s.args.values.now }
 
-abbrev watch-of : tie.Start → Watch
-watch-of s = record { numbers = s.args.numbers.now; cells = s.args.cells.now }
-
 room : (c : tie.Else1) → Roomy (length c.before.before.before.args.numbers.now) (length c.before.before.before.args.cells.now)
 room c = roomy _ _ (sym c.before.is-roomy.ensures ∙ not-false _ c.if1.false)
 
--- with room, what was found is the row's number
-found : (c : tie.After-offer-refusal) → c.offer_refusal.result ≡ row_number (watch-of c.before.before.before.before.before) (row_of c.before.before.before.before.before)
-unfolding row_number
-found c = c.offer_refusal.ensures ∙ sym (has_room (watch-of c.before.before.before.before.before) _ (room c.before.before))
-
-none : (c : tie.Else2) → row_number (watch-of c.before.before.before.before.before.before) (row_of c.before.before.before.before.before.before) ≡ 0
-none c = sym (found c.before) ∙ c.if2.false
+none : (c : tie.Else2) (t : Table) (k : Card) → Watches c.before.before.before.before.before.before.args.numbers.now c.before.before.before.before.before.before.args.cells.now t k → offer_refusal k t (row_of c.before.before.before.before.before.before) ≡ 0
+none c t k W = sym (c.before.offer_refusal.ensures.0 c.before.before.before.before.before.before.args.cells.now t k W) ∙ c.if2.false
 
 is-roomy-requires : tie.Need-is-roomy-requires
 is-roomy-requires c κs = search rules
 
 returns : tie.Need-returns
-unfolding row_number
 returns c =
-    let s = c.before.before.before in
-    let short = sym c.before.is-roomy.ensures ∙ not-true c.before.is-roomy.result c.if1.true in
-    offered_refused (watch-of s) (row_of s) (sym (first_fails (room_of (watch-of s)) _ short)) (λ (z : 8 ≡ 0). omega arith)
+    let h = cramped _ _ (sym c.before.is-roomy.ensures ∙ not-true c.before.is-roomy.result c.if1.true) in
+    (record { equal = λ z. refl; number = λ t k W. absurd (h (watch_roomy W)); watch = λ t k W. absurd (h (watch_roomy W)) }, (λ z. refl, (record { same = λ i h. refl }, record { same = λ i h. refl })))
 
 offer-refusal-requires : tie.Need-offer-refusal-requires
 offer-refusal-requires c κs = (room c.before).long
@@ -50,14 +39,11 @@ same_length c = search rules
 returns-2 : tie.Need-returns-2
 returns-2 c =
     let s = c.before.before.before.before.before.before in
-    offered_refused (watch-of s) (row_of s) (found c.before) c.if2.true
+    let o = c.before.offer_refusal.ensures.0 in
+    (record { equal = λ z. refl; number = o s.args.cells.now; watch = λ t k W. refused_watches W (row_of s) (λ z. c.if2.true (o s.args.cells.now t k W ∙ z)) }, (λ z. absurd (z (room c.before.before.before)), (record { same = λ i h. refl }, record { same = λ i h. refl })))
 
 take-row-requires : tie.Need-take-row-requires
-take-row-requires c κs =
-    let s = c.before.before.before.before.before.before.before.before in
-    let m = room c.before.before.before.before.before in
-    let p = passed_row (watch-of s) (row_of s) m (none c.before.before) in
-    (m.long, m.wide, (p.each 1 (omega arith)).early, p.each 2 (omega arith))
+take-row-requires c κs = let m = room c.before.before.before.before.before in let o = c.before.before.before.offer_refusal.ensures.1 in let n = c.before.before.if2.false in (m.long, m.wide, o.0 n, o.1 n)
 
 same-length-2 : tie.Need-same-length-2
 same-length-2 c = search rules
@@ -68,7 +54,8 @@ same-length-3 c = search rules
 returns-3 : tie.Need-returns-3
 returns-3 c =
     let s = c.before.before.before.before.before.before.before.before.before.before.before.before in
-    offered_taken (watch-of s) (row_of s) (none c.before.before.before.before.before.before) c.before.before.before.take_row.ensures
+    let t3 = c.before.before.before.take_row.ensures in
+    (record { equal = λ z. absurd (z refl); number = λ t k W. sym (none c.before.before.before.before.before.before t k W); watch = λ t k W. subst (Watches _ _ t) (sym (unless_none (with_row k (row_of s)) k (none c.before.before.before.before.before.before t k W))) (t3.0 t k W (none c.before.before.before.before.before.before t k W)) }, (λ z. absurd (z (room c.before.before.before.before.before.before.before.before.before)), t3.1))
 
 pub take_spec : {M : Type 1} → statement M
 take_spec =

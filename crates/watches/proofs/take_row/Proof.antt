@@ -1,16 +1,15 @@
 -- The nodes take the row, then the times move.
 -- Assumes nothing.
-use mathlib.Core.Path.{◌≡◌, ap, ap₂, ◌∙◌}
+use mathlib.Core.Path.{◌≡◌, refl, ap, ◌∙◌}
 use mathlib.Core.List.{List}
-use Prim.Native.Nat.{ℕ, ◌+◌, ◌-◌, min}
+use Prim.Native.Nat.{ℕ, ◌+◌, min}
 use native.Mathlib.Omega.{arith}
-use lib.ListN.{get_or, set}
-use lib.Seq.{get_or-set_same, get_or-set_other}
-use lib.IntN.{ℤ}
-use Rattle.arrivals.specs.Arrivals.{Row}
+use lib.ListN.{get_or}
+use lib.Seq.{get_or-set_other}
 use Rattle.tables.specs.Tree.{NODES}
-use Rattle.watch_cells.proofs.Asked.{nodes_same}
-use Rattle.watches.specs.Run.{count_in, start_in, first_at, sample_of}
+use Rattle.arrivals.specs.Arrivals.{Row}
+use Rattle.watches.specs.Watches.{begun}
+use Rattle.watches.proofs.Longer.{begun_other, counted, arriving, untaken, longer_watches}
 use borrow.Author.Rules.{rules}
 use Rattle.watches.proofs.take_row.Statement.{statement}
 use Rattle.watches.proofs.take_row.Tie as tie
@@ -51,16 +50,17 @@ same-length-2 c = search rules
 returns : tie.Need-returns
 returns c =
     let s = c.before.before.before.before.before.before.before.before.before.before.before.before.before in
-    let N = s.args.numbers.now in
-    let time = s.args.time in
-    let v = first_at N time in
     let bg = c.before.before.before.before.before.before.before.before.before.before.begin.ensures in
-    let start : start_in (set N 2 v) ≡ v = get_or-set_same N 2 v 0 (omega (arith, s.requires.0)) in
-    let se = c.before.before.before.before.before.before.seconds.ensures ∙ ap (λ (l : List ℕ). time - start_in l) bg.1 ∙ ap (λ (x : ℕ). time - x) start in
-    let count : get_or (set N 2 v) 1 0 ≡ get_or N 1 0 = get_or-set_other N 2 1 v 0 (λ (z : ◌≡◌ {A = ℕ} 1 2). omega arith) in
-    let nc = c.before.before.before.before.node-count.ensures ∙ ap count_in bg.1 ∙ ap (λ (x : ℕ). min x NODES) count in
-    let same = nodes_same (set N 2 v) N (λ i h. get_or-set_other N 2 i v 0 (λ (z : i ≡ 2). omega arith)) (sample_of N (row_of s)) (count_in N) s.args.cells.now in
-    ap₂ (λ (a : List ℕ) (b : List ℤ). record { numbers = a; cells = b }) (ap (λ (l : List ℕ). set l 3 (time + 1)) bg.1) (c.before.take-nodes.ensures ∙ rw (bg.0, bg.1, se, nc) same)
+    let se = c.before.before.before.before.before.before.seconds.ensures in
+    let nc = c.before.before.before.before.node-count.ensures in
+    let tn = c.before.take-nodes.ensures in (
+      λ t k W e.
+          let r = row_of s in
+          let count = nc ∙ ap (λ (l : List ℕ). min (get_or l 1 0) NODES) bg.1 ∙ counted r W e in
+          let D = tn.0 t k r (rw (bg.0, se, bg.1) (arriving r W e)) count (rw bg.1 (untaken r W e)) in
+          rw bg.1 (longer_watches r W e (s.args.time + 1) refl (rw (bg.1, count) at D) tn.1),
+      (rw bg.1 (record { same = λ i h. get_or-set_other (begun s.args.time s.args.numbers.now) 3 i (s.args.time + 1) 0 (λ (z : i ≡ 3). omega arith) ∙ begun_other s.args.numbers.now s.args.time i (λ (z : i ≡ 2). omega arith) }), record { same = λ i h. tn.1.same i (λ x y. omega arith) }),
+    )
 
 pub take-row-spec : {M : Type 1} → statement M
 take-row-spec =

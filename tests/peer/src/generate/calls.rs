@@ -1,7 +1,6 @@
 //! Calls of the library's entry points with tables that no text gives (shared nodes, nodes that
 //! the root doesn't reach) and with numbers that no sheet can hold.
 
-use super::kinds::{is_binary, is_temporal, BINARY, TEMPORAL, UNARY, UNKNOWN};
 use super::marks;
 use super::prng::Prng;
 use super::requirements::Taste;
@@ -165,16 +164,17 @@ fn operator(rng: &mut Prng, taste: &Taste, k: usize) -> Node {
         let back = 1 + rng.below(4);
         (k - 1 - rng.below(k.min(back))) as u64
     };
-    let kind = kind::NOT + rng.below((UNKNOWN - kind::NOT) as usize) as u64;
+    let kind = kind::NOT + rng.below(7) as u64;
     let (left, right) = (child(rng), child(rng));
     over(rng, taste, kind, left, right)
 }
 
 /// The node of that kind over these, of which one with one operand takes the first; a window is drawn.
 pub(super) fn over(rng: &mut Prng, taste: &Taste, kind: u64, left: u64, right: u64) -> Node {
-    let right = if is_binary(kind) { right } else { 0 };
+    let binary = matches!(kind, kind::AND | kind::OR | kind::UNTIL | kind::RELEASE);
+    let right = if binary { right } else { 0 };
     let node = Node { kind, left, right, ..Node::default() };
-    if is_temporal(kind) {
+    if kind >= kind::UNTIL {
         node.with(taste.window(rng))
     } else {
         node
@@ -253,26 +253,31 @@ pub(super) fn broken_node(rng: &mut Prng, k: u64) -> Node {
     let far = rng.pick(&[k, k + 1, u64::MAX]);
     let odd = rng.pick(&[1, 5, u64::MAX]);
     let node = |kind, left, right, lo, hi| Node { kind, left, right, lo, hi, ..Node::default() };
-    let timed = rng.pick(&TEMPORAL);
     match rng.below(12) {
-        0 => node(rng.pick(&[UNKNOWN, UNKNOWN, UNKNOWN + 1, 255, u64::MAX]), 0, 0, 0, 0),
+        0 => node(9 + odd % 9, 0, 0, 0, 0),
         1 => node(0, odd, 0, 0, 0),
         2 => node(rng.below(2) as u64, 0, odd, 0, 0),
         3 => node(rng.below(2) as u64, 0, 0, rng.pick(&[0, odd]), odd),
         4 => node(1, rng.pick(&[16, 17, u64::MAX]), 0, 0, 0),
-        5 => node(rng.pick(&[kind::NOT, kind::AND, kind::OR, timed, timed]), far, 0, 0, 0),
-        6 => node(rng.pick(&BINARY), 0, far, 0, 0),
+        5 => node(2 + rng.below(7) as u64, far, 0, 0, 0),
+        6 => node(3 + rng.below(4) as u64, 0, far, 0, 0),
         7 => node(2 + rng.below(3) as u64, 0, 0, odd, odd),
-        8 => node(timed, 0, 0, 6, 5),
-        9 => node(timed, 0, 0, 0, rng.pick(&[1_000_000_001, NO_END - 1, NO_END + 1, u64::MAX])),
-        10 => node(timed, 0, 0, rng.pick(&[1_000_000_001, NO_END]), NO_END),
-        _ => node(rng.pick(&UNARY), 0, odd, 0, 0),
+        8 => node(5 + rng.below(4) as u64, 0, 0, 6, 5),
+        9 => node(
+            5 + rng.below(4) as u64,
+            0,
+            0,
+            0,
+            rng.pick(&[1_000_000_001, NO_END - 1, NO_END + 1, u64::MAX]),
+        ),
+        10 => node(5 + rng.below(4) as u64, 0, 0, rng.pick(&[1_000_000_001, NO_END]), NO_END),
+        _ => node(7 + rng.below(2) as u64, 0, odd, 0, 0),
     }
 }
 
 /// A node that, behind one of number 0, breaks a rule by its marks alone.
 fn wrongly_marked(rng: &mut Prng) -> Node {
-    let timed = Node { kind: rng.pick(&TEMPORAL), ..Node::default() };
+    let timed = Node { kind: kind::UNTIL + rng.below(4) as u64, ..Node::default() };
     match rng.below(4) {
         0 => rng.pick(&marks::out_of_place()),
         1 => {

@@ -45,7 +45,7 @@ fn damage_brackets(rng: &mut Prng, text: &mut [u8]) {
 
 fn damage_bytes(rng: &mut Prng, text: &mut Vec<u8>) {
     let place = rng.below(text.len());
-    let telling = b"0123456789-*=,. \n\r\0tfmpvscrlhGFURSQOHT!&|()[]";
+    let telling = b"0123456789-*=,. \n\r\0tfmpvscrlhGFURT!&|()[]";
     match rng.below(6) {
         0 => text[place] ^= 1 << rng.below(8),
         1 => text[place] = rng.pick(telling),

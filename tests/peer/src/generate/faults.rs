@@ -100,26 +100,22 @@ pub fn bad_requirement(rng: &mut Prng) -> Vec<u8> {
         "", " ", "p0 ", " p0", "p0\r", "p0\0", "p", "p16", "p01", "p155", "q0", "T|", "&T", "T||T",
         "(T", "T)", "()", "G[5,2]p0", "G[0,1000000001]T", "F[1000000001,*]T", "F[0,4294967295]T",
         "G[0,01]T", "G[00,1]T", "G[0 ,1]T", "GT", "G[0,1]", "G[*,1]T", "TUT", "TU[0,1]",
-        "TU[0,1]TU[0,1]T", "TR[0,1]TU[0,1]T", "!", "T!T", "-T", "G[-0,1]T", "G[0,-1]T",
-        "G[0,99999999999999999999]T", "f[0,1]T", "TST", "TQT", "OT", "HT", "TS[0,1]", "O[0,1]",
-        "S[0,1]T", "Q[0,1]T", "TO[0,1]T", "TH[0,1]T", "TS[0,1]TU[0,1]T", "TU[0,1]TS[0,1]T",
-        "TQ[0,1]TS[0,1]T", "H[5,2]T", "O[0,1000000001]T", "TS(T)", "Ts[0,1]T", "h[0,1]T",
-        "P[0,1]T", "TB[0,1]T", "F (0,1]T", "F(T)", "F((0,1]T)", "F(0,1](T", "F(0,1]T)", "F(0,1T",
-        "F)0,1(T", "F(*,1]T", "F(1000000001,*]T", "G[0,1000000001)T", "TU(T)",
+        "TU[0,1]TU[0,1]T", "TR[0,1]TU[0,1]T", "!", "T!T", "-T", "G[-0,1]T", "G[0,-1]T", "TS[0,1]T",
+        "O[0,1]T", "G[0,99999999999999999999]T", "f[0,1]T", "F (0,1]T", "F(T)", "F((0,1]T)",
+        "F(0,1](T", "F(0,1]T)", "F(0,1T", "F)0,1(T", "F(*,1]T", "F(1000000001,*]T",
+        "G[0,1000000001)T", "TU(T)",
     ];
     match rng.below(7) {
         0 => repeated("(", "T", ")").into_bytes(),
         1 => {
-            let enclosing = rng
-                .pick(&["!", "G[0,1]", "F[0,*]", "F(0,1]", "G[0,1)", "O[0,1]", "H[0,*]", "O(0,1]"]);
+            let enclosing = rng.pick(&["!", "G[0,1]", "F[0,*]", "F(0,1]", "G[0,1)"]);
             repeated(enclosing, "T", "").into_bytes()
         }
         // 33 leaves and 32 operators are 65 nodes.
         2 => vec!["T"; 33].join(rng.pick(&["|", "&"])).into_bytes(),
         3 => {
             let window = window_text(marks::refused(rng));
-            let letters = ["F", "G", "O", "H", "TU", "TR", "TS", "TQ"];
-            format!("{}{window}T", rng.pick(&letters)).into_bytes()
+            format!("{}{window}T", rng.pick(&["F", "G", "TU", "TR"])).into_bytes()
         }
         _ => rng.pick(&fixed).as_bytes().to_vec(),
     }
@@ -146,7 +142,7 @@ pub fn naming(rng: &mut Prng, number: u64) -> Vec<u8> {
         0 => format!("p{number}"),
         // The margin of true or anything is TOP; the predicate is judged all the same.
         1 => format!("T|p{number}"),
-        _ => format!("G[0,*](T&F[3,9]H[0,*]p{number})"),
+        _ => format!("G[0,*](T&F[3,9]p{number})"),
     }
     .into_bytes()
 }

@@ -1,7 +1,6 @@
 //! Tables whose text, or whose refusal, is known beforehand: every place for parentheses, shared and
 //! unreached nodes, and each limit.
 
-use super::kinds::{BACK, UNKNOWN};
 use crate::grammar::read_requirement;
 use crate::limits::NO_END;
 use crate::table::{kind, Node, Table};
@@ -19,10 +18,8 @@ pub fn known() -> Vec<Known> {
     let mut known: Vec<Known> = LEAST.iter().map(|text| read(text, text)).collect();
     known.extend(SPARE.iter().map(|(text, least)| read(text, least)));
     known.extend(enclosings());
-    known.extend(enclosings_back());
     known.extend(shared());
     known.extend(broken());
-    known.extend(broken_back());
     known.push(longest());
     known
 }
@@ -49,13 +46,6 @@ const LEAST: &[&str] = &[
     "F(0,1]p0", "G[0,1)p0", "p0U(0,2)p1", "p0R(5,*]p1", "G(1000000000,*]T",
     "F[999999999,1000000000)p0", "F(0,1](p0&p1)", "(p0|p1)U[0,1)(p2|p3)", "(p0U(0,2)p1)R(3,9]p2",
     "G[0,1)!(p0U(2,*]F(0,2)(T|p2))",
-    // Looking back, alone and among those that look ahead.
-    "p0S[0,1]p1", "p0Q[1,*]p1", "O[0,600]p0", "H[1000000000,*]T", "p0S(0,2)p1", "H[0,600)p0",
-    "p0S[0,1]p1&p2", "p0|p1Q[0,1]p2", "(p0&p1)S[0,1]p2", "p0Q[0,1](p1|p2)", "(p0S[0,1]p1)S[2,3]p2",
-    "p0U[0,1](p1S[2,3]p2)", "(p0U[0,1]p1)Q[2,3]p2", "!p0S[0,1]!p1", "O[0,1]p0S[0,1]H[0,1]p1",
-    "G[0,1]p0Q[0,1]O[0,1]p1", "O[0,1](p0S[0,1]p1)", "H[0,1](p0U[0,1]p1)", "G[0,1](p0Q[0,1]p1)",
-    "O[0,1](p0|p1)", "H(0,1](p0&p1)", "!(p0S[0,1]p1)", "H[0,*]F[0,9]O[1,2]p0", "!O[0,1]!p0",
-    "F[0,*]H[0,9]!(p0Q[2,*]O(0,2)(T|p2))", "p0U[0,1](p1Q[2,3]p2)",
 ];
 
 /// Texts with pairs to spare, and what is left without these.
@@ -74,9 +64,6 @@ const SPARE: &[(&str, &str)] = &[
     ("((p0&p1)&(p2&p3))|T", "p0&p1&(p2&p3)|T"),
     ("F(0,1](p0)", "F(0,1]p0"),
     ("(p0)U[0,2)((p1)&p2)", "p0U[0,2)(p1&p2)"),
-    ("(p0S[0,1]p1)&(p2Q[0,1]p3)", "p0S[0,1]p1&p2Q[0,1]p3"),
-    ("(!p0)S[0,1](H[0,1]p1)", "!p0S[0,1]H[0,1]p1"),
-    ("O[0,1](H(0,1](p0))", "O[0,1]H(0,1]p0"),
 ];
 
 /// The table that the reader gives for a text.
@@ -150,18 +137,6 @@ fn enclosings() -> Vec<Known> {
     ]
 }
 
-/// 32 and 33 of once and historically in turn.
-fn enclosings_back() -> Vec<Known> {
-    let back = |count| {
-        grown(vec![LEAF], count, |last| Node { hi: 9, ..of(kind::ONCE + last as u64 % 2, last, 0) })
-    };
-    let text = format!("{}p0", "H[0,9]O[0,9]".repeat(16));
-    vec![
-        known_nodes("32 enclosings that look back", back(32), Ok(text)),
-        known_nodes("33 enclosings that look back", back(33), Err(14)),
-    ]
-}
-
 /// "Shared nodes are written once for each use", and nodes that the root doesn't reach are not.
 fn shared() -> Vec<Known> {
     let chain = |count| grown(vec![LEAF], count, |last| of(kind::AND, last, 0));
@@ -175,7 +150,6 @@ fn shared() -> Vec<Known> {
     let second = Node { left: 1, ..LEAF };
     let hidden = [doubled(62, kind::AND), vec![second]].concat();
     let until = Node { lo: 5, hi: NO_END, ..of(kind::UNTIL, 1, 1) };
-    let since = Node { hi: 3, ..of(kind::SINCE, 0, 0) };
     let other_order = vec![LEAF, second, of(kind::OR, 1, 0)];
     vec![
         known_nodes("63 nodes, a leaf shared", chain(31), Ok(joined(32))),
@@ -187,19 +161,12 @@ fn shared() -> Vec<Known> {
         known_nodes("doubled 6 times", doubled(6, kind::AND), Err(14)),
         known_nodes("doubled 63 times", doubled(63, kind::AND), Err(14)),
         known_nodes("until doubled 63 times", doubled(63, kind::UNTIL), Err(14)),
-        known_nodes("since doubled 63 times", doubled(63, kind::SINCE), Err(14)),
         known_nodes("doubled 62 times, unreached", hidden, Ok("p1".to_string())),
         known_nodes("right before left", other_order, Ok("p1|p0".to_string())),
         known_nodes(
             "a shared bind's operand",
             vec![LEAF, of(kind::NOT, 0, 0), until],
             Ok("!p0U[5,*]!p0".to_string()),
-        ),
-        known_nodes("a row as both operands", vec![LEAF, since], Ok("p0S[0,3]p0".to_string())),
-        known_nodes(
-            "a child of a since and an until",
-            vec![LEAF, since, Node { hi: 3, ..of(kind::UNTIL, 0, 1) }],
-            Ok("p0U[0,3](p0S[0,3]p0)".to_string()),
         ),
     ]
 }
@@ -223,31 +190,6 @@ fn broken() -> Vec<Known> {
         known_nodes("too large and broken", crowded, Err(3)),
         known_nodes("34 enclosings, broken where unreached", hidden, Err(3)),
     ]
-}
-
-/// Kinds that look back, with a number that they may not have, and kinds that there are not: each where
-/// the root reaches it, and where not.
-fn broken_back() -> Vec<Known> {
-    let mut nodes: Vec<Node> = BACK
-        .iter()
-        .flat_map(|&kind| {
-            let good = of(kind, 0, 0);
-            [
-                Node { left: 1, ..good },
-                Node { right: 1, ..good },
-                Node { lo: 1, ..good },
-                Node { hi: 1_000_000_001, ..good },
-            ]
-        })
-        .collect();
-    nodes.extend([UNKNOWN, UNKNOWN + 1, u64::MAX].map(|kind| of(kind, 0, 0)));
-    let tables = |node: Node| [vec![LEAF, node], vec![LEAF, node, LEAF]];
-    // An earlier node is no right child of an operator with one.
-    let once = Node { right: 1, ..of(kind::ONCE, 0, 0) };
-    let second = [once, Node { kind: kind::HISTORICALLY, ..once }];
-    let others = second.map(|node| vec![LEAF, LEAF, node]);
-    let known = |nodes: Vec<Node>| known_nodes("looking back, broken", nodes, Err(3));
-    nodes.into_iter().flat_map(tables).chain(others).map(known).collect()
 }
 
 /// 62 operators with the longest windows, and two leaves: no text is longer.

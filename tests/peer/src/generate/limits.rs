@@ -1,7 +1,6 @@
 //! Sheets at and one past each limit, each with the lines that the program must print.
 
 use super::draft::{Draft, PredicateLine};
-use super::past_limits;
 use super::scale_limits;
 use crate::limits::TOP;
 use crate::rows::Row;
@@ -63,7 +62,6 @@ pub fn limits() -> Vec<Limit> {
     limits.extend(predicates_before_others());
     limits.extend(requirement_sizes());
     limits.extend(excluded_ends());
-    limits.extend(past_limits::limits());
     limits.extend(requirement_counts());
     limits.extend(requirement_lines());
     limits.extend(text_sizes());
@@ -86,10 +84,6 @@ fn rows_and_cells() -> Vec<Limit> {
         limit("release over 1,365 rows", draft(1, 1_365, "p0R[0,99]p0"), holds(1_365, 0)),
         limit("endless until over 600 rows", draft(1, 600, "p0U[5,*]p0"), holds(600, 0)),
         limit("endless release over 600 rows", draft(1, 600, "p0R[0,*]p0"), holds(600, 0)),
-        limit("once over 2,048 rows", draft(1, 2_048, "O[0,*]p0"), holds(2_048, 0)),
-        limit("since over 1,365 rows", draft(1, 1_365, "p0S[0,99]p0"), holds(1_365, 0)),
-        limit("endless since over 600 rows", draft(1, 600, "p0S[0,*]p0"), holds(600, 0)),
-        limit("endless trigger over 600 rows", draft(1, 600, "p0Q[0,*]p0"), holds(600, 0)),
         limit("3 nodes, 2,049 rows: 5 before 8", draft(1, 2_049, "p0&p0"), refused(5)),
     ];
     let mut many_filled = draft(1, 2_048, "p0");

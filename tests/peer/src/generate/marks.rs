@@ -8,9 +8,9 @@ use crate::window::Window;
 
 pub(super) const LARGEST: i64 = LARGEST_END as i64;
 
-/// Any marks on a window without; mostly a low one, which no window from now can have.
+/// Any marks on a window without.
 pub fn marked(rng: &mut Prng, window: Window) -> Window {
-    opened(window, !rng.once_in(3), rng.once_in(2))
+    opened(window, rng.once_in(2), rng.once_in(2))
 }
 
 /// A window without marks, with these: an end that is excluded stands one second further out, so that

@@ -1,33 +1,10 @@
 //! Random requirements as trees, and their text, with parentheses to spare or without.
 
-use super::kinds::{is_unary, joined, under};
 use super::marks::{at_limits, marked};
 use super::prng::Prng;
-use crate::table::kind;
 use crate::tree::{atom, predicate, Atom, Shared, Tree};
 use crate::window::Window;
-
-/// What trees are made of. Of the temporal operators those over two operands come twice as often.
-const OPERATORS: [u64; 18] = [
-    kind::NOT,
-    kind::NOT,
-    kind::AND,
-    kind::AND,
-    kind::OR,
-    kind::OR,
-    kind::UNTIL,
-    kind::UNTIL,
-    kind::RELEASE,
-    kind::RELEASE,
-    kind::EVENTUALLY,
-    kind::ALWAYS,
-    kind::SINCE,
-    kind::SINCE,
-    kind::TRIGGER,
-    kind::TRIGGER,
-    kind::ONCE,
-    kind::HISTORICALLY,
-];
+use std::rc::Rc;
 
 /// What requirements are made of.
 pub struct Taste {
@@ -44,13 +21,25 @@ impl Taste {
         if operators == 0 {
             return self.leaf(rng);
         }
-        let (rest, kind, window) = (operators - 1, rng.pick(&OPERATORS), self.window(rng));
-        if is_unary(kind) {
-            return under(kind, window, self.tree(rng, rest));
-        }
+        let rest = operators - 1;
         let left_part = rng.below(rest + 1);
-        let (left, right) = (self.tree(rng, left_part), self.tree(rng, rest - left_part));
-        joined(kind, left, window, right)
+        let right_part = rest - left_part;
+        let operator = rng.below(9);
+        if (6..=8).contains(&operator) {
+            let inner = self.tree(rng, rest);
+            return Rc::new(match operator {
+                6 => Tree::Not(inner),
+                7 => Tree::Eventually(self.window(rng), inner),
+                _ => Tree::Always(self.window(rng), inner),
+            });
+        }
+        let (left, right) = (self.tree(rng, left_part), self.tree(rng, right_part));
+        Rc::new(match operator {
+            0 => Tree::And(left, right),
+            1 => Tree::Or(left, right),
+            2 | 3 => Tree::Until(left, self.window(rng), right),
+            _ => Tree::Release(left, self.window(rng), right),
+        })
     }
 
     fn leaf(&self, rng: &mut Prng) -> Shared {
@@ -71,7 +60,7 @@ impl Taste {
             1 => rng.between(1, self.unit),
             _ => self.end(rng) / 2,
         };
-        let hi = if rng.once_in(5) { None } else { Some((lo + self.end(rng)).min(1_000_000_000)) };
+        let hi = if rng.once_in(6) { None } else { Some((lo + self.end(rng)).min(1_000_000_000)) };
         marked(rng, Window::closed(lo, hi))
     }
 
@@ -108,8 +97,8 @@ pub fn least(tree: &Tree) -> String {
     text
 }
 
-/// How many of `!`, `G`, `F`, `O`, `H` and `(` enclose one another in that text, and how many without
-/// `(`.
+/// How many of `!`, `G`, `F` and `(` enclose one another in that text, and how many of `!`, `G` and
+/// `F` alone.
 pub fn enclosings(tree: &Tree) -> (usize, usize) {
     (enclosings_at(tree, Level::Alternative, 1), enclosings_at(tree, Level::Alternative, 0))
 }
@@ -119,19 +108,14 @@ fn enclosings_at(tree: &Tree, level: Level, pair: usize) -> usize {
     let below = |part: &Tree, level| enclosings_at(part, level, pair);
     let own = match tree {
         Tree::Atom(_) => 0,
-        Tree::Not(left)
-        | Tree::Eventually(_, left)
-        | Tree::Always(_, left)
-        | Tree::Once(_, left)
-        | Tree::Historically(_, left) => 1 + below(left, Level::Unary),
+        Tree::Not(left) | Tree::Eventually(_, left) | Tree::Always(_, left) => {
+            1 + below(left, Level::Unary)
+        }
         Tree::Or(left, right) => {
             below(left, Level::Alternative).max(below(right, Level::Conjunction))
         }
         Tree::And(left, right) => below(left, Level::Conjunction).max(below(right, Level::Bind)),
-        Tree::Until(left, _, right)
-        | Tree::Release(left, _, right)
-        | Tree::Since(left, _, right)
-        | Tree::Trigger(left, _, right) => {
+        Tree::Until(left, _, right) | Tree::Release(left, _, right) => {
             below(left, Level::Unary).max(below(right, Level::Unary))
         }
     };
@@ -146,7 +130,7 @@ fn level_of(tree: &Tree) -> Level {
     match tree {
         Tree::Or(..) => Level::Alternative,
         Tree::And(..) => Level::Conjunction,
-        Tree::Until(..) | Tree::Release(..) | Tree::Since(..) | Tree::Trigger(..) => Level::Bind,
+        Tree::Until(..) | Tree::Release(..) => Level::Bind,
         _ => Level::Unary,
     }
 }
@@ -181,38 +165,17 @@ fn write_bare(text: &mut String, tree: &Tree, spare: &mut dyn FnMut() -> bool) {
             text.push('&');
             part(text, right, Level::Bind);
         }
-        Tree::Until(left, window, right)
-        | Tree::Release(left, window, right)
-        | Tree::Since(left, window, right)
-        | Tree::Trigger(left, window, right) => {
+        Tree::Until(left, window, right) | Tree::Release(left, window, right) => {
             part(text, left, Level::Unary);
-            text.push_str(letter_of(tree));
+            text.push(if matches!(tree, Tree::Until(..)) { 'U' } else { 'R' });
             text.push_str(&window_text(*window));
             part(text, right, Level::Unary);
         }
-        Tree::Eventually(window, left)
-        | Tree::Always(window, left)
-        | Tree::Once(window, left)
-        | Tree::Historically(window, left) => {
-            text.push_str(letter_of(tree));
+        Tree::Eventually(window, left) | Tree::Always(window, left) => {
+            text.push(if matches!(tree, Tree::Eventually(..)) { 'F' } else { 'G' });
             text.push_str(&window_text(*window));
             part(text, left, Level::Unary);
         }
-    }
-}
-
-/// What stands before a window.
-fn letter_of(tree: &Tree) -> &'static str {
-    match tree {
-        Tree::Until(..) => "U",
-        Tree::Release(..) => "R",
-        Tree::Eventually(..) => "F",
-        Tree::Always(..) => "G",
-        Tree::Since(..) => "S",
-        Tree::Trigger(..) => "Q",
-        Tree::Once(..) => "O",
-        Tree::Historically(..) => "H",
-        Tree::Atom(_) | Tree::Not(_) | Tree::And(..) | Tree::Or(..) => "",
     }
 }
 

@@ -2,12 +2,12 @@
 //! tables, and tables whose text would be too large.
 
 use super::calls::{any_table, broken_node, over};
-use super::kinds::{is_binary, is_unary, joined, under, TEMPORAL, UNARY};
 use super::prng::Prng;
 use super::requirements::{enclosings, least, Taste};
 use crate::limits::{MOST_ENCLOSINGS, MOST_NODES};
 use crate::table::{kind, Node, Table};
 use crate::tree::{Shared, Tree};
+use std::rc::Rc;
 
 /// What the writer is given, and what it must make of it.
 pub struct Writing {
@@ -85,8 +85,8 @@ pub fn unshared(table: &Table) -> u64 {
 /// The nodes that it names.
 pub fn children(node: &Node) -> Vec<u64> {
     match node.kind {
-        kind if is_unary(kind) => vec![node.left],
-        kind if is_binary(kind) => vec![node.left, node.right],
+        kind::NOT | kind::EVENTUALLY | kind::ALWAYS => vec![node.left],
+        kind::AND | kind::OR | kind::UNTIL | kind::RELEASE => vec![node.left, node.right],
         _ => Vec::new(),
     }
 }
@@ -99,17 +99,11 @@ const ANY: &[u64] = &[
     kind::RELEASE,
     kind::EVENTUALLY,
     kind::ALWAYS,
-    kind::SINCE,
-    kind::TRIGGER,
-    kind::ONCE,
-    kind::HISTORICALLY,
-    kind::AND,
-    kind::OR,
     kind::AND,
     kind::OR,
 ];
 /// What a tree is made of.
-const KINDS: [&[u64]; 9] = [
+const KINDS: [&[u64]; 8] = [
     ANY,
     ANY,
     ANY,
@@ -117,8 +111,7 @@ const KINDS: [&[u64]; 9] = [
     &[kind::OR],
     &[kind::AND, kind::OR],
     &[kind::AND, kind::OR, kind::UNTIL, kind::RELEASE],
-    &[kind::AND, kind::OR, kind::SINCE, kind::TRIGGER, kind::ONCE, kind::HISTORICALLY],
-    &TEMPORAL,
+    &[kind::NOT, kind::UNTIL, kind::ALWAYS, kind::RELEASE, kind::EVENTUALLY],
 ];
 
 /// Where the larger operand stands.
@@ -150,7 +143,7 @@ fn leaning(rng: &mut Prng, taste: &Taste, kinds: &[u64], lean: Lean, nodes: usiz
     if rest == 1 || is_unary(kind) {
         let inner = leaning(rng, taste, kinds, lean, rest);
         let unary = if is_unary(kind) { kind } else { kind::NOT };
-        return under(unary, taste.window(rng), inner);
+        return under(rng, taste, unary, inner);
     }
     let left = match lean {
         Lean::Left => rest - 1,
@@ -159,7 +152,7 @@ fn leaning(rng: &mut Prng, taste: &Taste, kinds: &[u64], lean: Lean, nodes: usiz
     };
     let one = leaning(rng, taste, kinds, lean, left);
     let other = leaning(rng, taste, kinds, lean, rest - left);
-    joined(kind, one, taste.window(rng), other)
+    joined(rng, taste, kind, one, other)
 }
 
 /// A tree whose text has about as many enclosings as it may have: operators are put round a leaf,
@@ -177,19 +170,39 @@ fn deep(rng: &mut Prng, taste: &Taste) -> Shared {
         }
         let tight = size + 2 * (wanted - depth) > most;
         let kind = match rng.below(3) {
-            _ if tight => rng.pick(&UNARY),
+            _ if tight => rng.pick(&[kind::NOT, kind::EVENTUALLY, kind::ALWAYS]),
             0 => rng.pick(ANY),
             _ => rng.pick(kinds),
         };
-        let window = taste.window(rng);
         tree = if is_unary(kind) {
-            under(kind, window, tree)
+            under(rng, taste, kind, tree)
         } else {
             let leaf = taste.tree(rng, 0);
             let (left, right) = if rng.once_in(2) { (tree, leaf) } else { (leaf, tree) };
-            joined(kind, left, window, right)
+            joined(rng, taste, kind, left, right)
         };
     }
+}
+
+fn is_unary(kind: u64) -> bool {
+    matches!(kind, kind::NOT | kind::EVENTUALLY | kind::ALWAYS)
+}
+
+fn under(rng: &mut Prng, taste: &Taste, kind: u64, inner: Shared) -> Shared {
+    Rc::new(match kind {
+        kind::NOT => Tree::Not(inner),
+        kind::EVENTUALLY => Tree::Eventually(taste.window(rng), inner),
+        _ => Tree::Always(taste.window(rng), inner),
+    })
+}
+
+fn joined(rng: &mut Prng, taste: &Taste, kind: u64, left: Shared, right: Shared) -> Shared {
+    Rc::new(match kind {
+        kind::AND => Tree::And(left, right),
+        kind::OR => Tree::Or(left, right),
+        kind::UNTIL => Tree::Until(left, taste.window(rng), right),
+        _ => Tree::Release(left, taste.window(rng), right),
+    })
 }
 
 /// The tree as the reader lays it out, or in another order, or with equal parts shared, or with
@@ -272,8 +285,7 @@ fn with_unreached(rng: &mut Prng, taste: &Taste, mut table: Table) -> Table {
         let mut node = Table::of_tree(&leaf).nodes[0];
         if place > 0 && rng.once_in(2) {
             let (left, right) = (rng.below(place) as u64, rng.below(place) as u64);
-            let kind = rng.pick(&[kind::UNTIL, kind::SINCE]);
-            node = over(rng, taste, kind, left, right);
+            node = over(rng, taste, kind::UNTIL, left, right);
         }
         let behind = |child: u64| child + u64::from(child >= place as u64);
         table.nodes.iter_mut().for_each(|node| *node = moved(node, behind));

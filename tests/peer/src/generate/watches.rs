@@ -2,7 +2,6 @@
 //! between the others.
 
 use super::calls::{self, break_predicate, break_table, leaf, over, Call};
-use super::kinds::{is_temporal, is_unary, looks_back, AHEAD, BACK, TEMPORAL};
 use super::prng::Prng;
 use super::requirements::Taste;
 use super::scales::BAD;
@@ -45,8 +44,8 @@ pub fn watching(rng: &mut Prng) -> Watching {
     if !rng.once_in(6) {
         call.table = flat_table(rng, &taste);
     }
-    let faults: Vec<u64> = if rng.once_in(2) {
-        (0..1 + rng.below(2)).map(|_| rng.pick(&[3, 4, 13, 16, 16, 16, 16])).collect()
+    let faults: Vec<u64> = if rng.once_in(3) {
+        (0..1 + rng.below(2)).map(|_| rng.pick(&[3, 4, 13, 16, 16])).collect()
     } else {
         Vec::new()
     };
@@ -55,8 +54,7 @@ pub fn watching(rng: &mut Prng) -> Watching {
         put(rng, &taste, &mut call, fault);
     }
     let mut numbers = faults;
-    let refused = nested(&call.table) || call.table.nodes.iter().any(|node| looks_back(node.kind));
-    numbers.extend(refused.then_some(16));
+    numbers.extend(nested(&call.table).then_some(16));
     let Call { table, predicates, recording, .. } = call;
     Watching { table, predicates, scales: recording.scales, number: first_of(&numbers), offers }
 }
@@ -88,9 +86,12 @@ fn put(rng: &mut Prng, taste: &Taste, call: &mut Call, fault: u64) {
             let place = rng.below(call.recording.scales.len());
             call.recording.scales[place] = rng.pick(&BAD);
         }
-        _ if rng.once_in(2) => look_back(rng, taste, &mut call.table),
         _ => nest(rng, taste, &mut call.table),
     }
+}
+
+pub fn is_temporal(node: &Node) -> bool {
+    (kind::UNTIL..=kind::ALWAYS).contains(&node.kind)
 }
 
 /// The nodes of the tree that stands at this child, each once. Numbers that name no earlier node are
@@ -114,10 +115,10 @@ pub fn below(table: &Table, child: u64) -> Vec<usize> {
 pub fn nested(table: &Table) -> bool {
     table.nodes.iter().enumerate().any(|(k, node)| {
         let inner = children(node).into_iter().filter(|child| *child < k as u64);
-        is_temporal(node.kind)
+        is_temporal(node)
             && inner
                 .flat_map(|child| below(table, child))
-                .any(|inside| is_temporal(table.nodes[inside].kind))
+                .any(|inside| is_temporal(&table.nodes[inside]))
     })
 }
 
@@ -127,9 +128,9 @@ fn late(rng: &mut Prng, among: &[u64]) -> u64 {
     among[among.len() - 1 - rng.below(among.len().min(back))]
 }
 
-/// A table in which no temporal operator stands inside another or looks back. Children are any earlier
-/// nodes that allow it, so that many are shared, inside and outside such an operator. Mostly the root
-/// reaches nearly all: nodes that nothing uses are joined above.
+/// A table in which no temporal operator stands inside another. Children are any earlier nodes that
+/// allow it, so that many are shared, inside and outside such an operator. Mostly the root reaches
+/// nearly all: nodes that nothing uses are joined above.
 fn flat_table(rng: &mut Prng, taste: &Taste) -> Table {
     let count = if rng.once_in(15) { 64 } else { 1 + rng.below(14) };
     let joins = if rng.once_in(4) { 0 } else { count / 3 };
@@ -148,8 +149,7 @@ fn flat_table(rng: &mut Prng, taste: &Taste) -> Table {
 /// An operator over nodes of the table; one that joins is over nodes that nothing uses, if there are.
 fn flat_operator(rng: &mut Prng, taste: &Taste, table: &Table, joins: bool) -> Node {
     let all: Vec<u64> = (0..table.count() as u64).collect();
-    let plain =
-        |k: &u64| !below(table, *k).iter().any(|&inner| is_temporal(table.nodes[inner].kind));
+    let plain = |k: &u64| !below(table, *k).iter().any(|&inner| is_temporal(&table.nodes[inner]));
     let used = |k: &u64| table.nodes.iter().any(|node| children(node).contains(k));
     let unused: Vec<u64> = all.iter().copied().filter(|k| !used(k)).collect();
     if joins && unused.len() > 1 {
@@ -159,7 +159,7 @@ fn flat_operator(rng: &mut Prng, taste: &Taste, table: &Table, joins: bool) -> N
     }
     let kind = rng.pick(&KINDS);
     let among: Vec<u64> =
-        if is_temporal(kind) { all.into_iter().filter(plain).collect() } else { all };
+        if kind >= kind::UNTIL { all.into_iter().filter(plain).collect() } else { all };
     let (left, right) = (late(rng, &among), late(rng, &among));
     over(rng, taste, kind, left, right)
 }
@@ -179,36 +179,23 @@ const KINDS: [u64; 11] = [
     kind::ALWAYS,
 ];
 
-/// Puts an operator in that looks back, over a leaf: where the root reaches it, or not.
-fn look_back(rng: &mut Prng, taste: &Taste, table: &mut Table) {
-    table.nodes.truncate(50);
-    let old_root = table.nodes[table.count() - 1];
-    let kind = rng.pick(&BACK);
-    let top = append(rng, taste, table, kind, 0);
-    finish(rng, taste, table, old_root, top);
-}
+const TEMPORAL: [u64; 4] = [kind::UNTIL, kind::RELEASE, kind::EVENTUALLY, kind::ALWAYS];
 
-/// Puts a temporal operator inside another, mostly of those that look ahead: at once, or under some of
-/// not, and, or; on either side; where the root reaches it, or not.
+/// Puts a temporal operator inside another: at once, or under some of not, and, or; on either side;
+/// where the root reaches it, or not.
 fn nest(rng: &mut Prng, taste: &Taste, table: &mut Table) {
     table.nodes.truncate(50);
     let old_root = table.nodes[table.count() - 1];
     // Mostly over the first node, a leaf, so that nothing but this stands inside another.
     let any = rng.below(table.count()) as u64;
-    let among = if rng.once_in(4) { &TEMPORAL[..] } else { &AHEAD[..] };
-    let (inner, operand) = (rng.pick(among), rng.pick(&[0, 0, any]));
+    let (inner, operand) = (rng.pick(&TEMPORAL), rng.pick(&[0, 0, any]));
     let mut top = append(rng, taste, table, inner, operand);
     for _ in 0..rng.pick(&[0, 0, 1, 1, 2, 4]) {
         let kind = rng.pick(&[kind::NOT, kind::AND, kind::OR]);
         top = append(rng, taste, table, kind, top);
     }
-    let outer = rng.pick(among);
+    let outer = rng.pick(&TEMPORAL);
     top = append(rng, taste, table, outer, top);
-    finish(rng, taste, table, old_root, top);
-}
-
-/// The old root becomes the root again, or the new node does, perhaps under some of not, and, or.
-fn finish(rng: &mut Prng, taste: &Taste, table: &mut Table, old_root: Node, mut top: u64) {
     if rng.once_in(2) {
         table.nodes.push(old_root);
     } else {
@@ -221,7 +208,8 @@ fn finish(rng: &mut Prng, taste: &Taste, table: &mut Table, old_root: Node, mut 
 
 /// One node more over this one, which stands on either side of the first node: its place.
 fn append(rng: &mut Prng, taste: &Taste, table: &mut Table, kind: u64, child: u64) -> u64 {
-    let (left, right) = if is_unary(kind) || rng.once_in(2) { (child, 0) } else { (0, child) };
+    let unary = matches!(kind, kind::NOT | kind::EVENTUALLY | kind::ALWAYS);
+    let (left, right) = if unary || rng.once_in(2) { (child, 0) } else { (0, child) };
     let node = over(rng, taste, kind, left, right);
     table.nodes.push(node);
     table.count() as u64 - 1

@@ -2,7 +2,6 @@
 //! places.
 
 use super::calls::{Call, Foretold};
-use super::kinds::{is_binary, TEMPORAL};
 use super::marks::{marked, opened, LARGEST};
 use super::prng::{case_seed, Prng};
 use super::scales;
@@ -98,14 +97,14 @@ pub struct Shaped {
     pub spacing: Spacing,
 }
 
-/// A call with 40 to 400 rows, mostly few, and one to four windows.
+/// A call with 40 to 400 rows, mostly few, and one to three windows.
 pub fn windows(rng: &mut Prng) -> Shaped {
     let rows = 40 + rng.below(361).min(rng.below(361));
     let (values, spacing) = (rng.pick(&VALUES), rng.pick(&SPACINGS));
     let mut call = without_operators(rng, rows, values, spacing);
     let reach = Reach::whole(&call);
-    for _ in 0..1 + rng.below(4) {
-        let (kind, shape) = (rng.pick(&TEMPORAL), rng.pick(&shapes()));
+    for _ in 0..1 + rng.below(3) {
+        let (kind, shape) = (kind::UNTIL + rng.below(4) as u64, rng.pick(&shapes()));
         let window = reach.window(rng, shape);
         let window = marked(rng, window);
         append(rng, &mut call, kind, window);
@@ -113,32 +112,22 @@ pub fn windows(rng: &mut Prng) -> Shaped {
     shaped(rng, call, values, spacing)
 }
 
-/// Until, release, since or trigger with these windows costs most by the literal definition, seconds
-/// for each row of cells, so a long call has one of them: three rows. Where the verdict is refused each
-/// takes one row, and the call has one of them and its dual.
-const COSTLY: [(&[u64], Window, Spacing); 12] = [
+/// Until or release with these windows costs most by the literal definition, seconds for each row
+/// of cells, so a long call has one of them: three rows. Where the verdict is refused each takes one
+/// row, and the call has an until and a release.
+const COSTLY: [(&[u64], Window, Spacing); 6] = [
     (&[kind::UNTIL], Window::closed(0, None), Spacing::Second),
     (&[kind::UNTIL], Window::closed(0, Some(LARGEST)), Spacing::UpToStep),
     (&[kind::UNTIL, kind::RELEASE], Window::closed(1, None), Spacing::Gaps),
     (&[kind::UNTIL, kind::RELEASE], Window::closed(1, Some(LARGEST)), Spacing::Gaps),
     (&[kind::UNTIL], Window::closed(1_800, None), Spacing::Second),
     (&[kind::RELEASE], Window::closed(1_800, Some(3_600)), Spacing::Second),
-    (&[kind::SINCE], Window::closed(0, None), Spacing::Second),
-    (&[kind::SINCE], Window::closed(0, Some(LARGEST)), Spacing::UpToStep),
-    (&[kind::SINCE, kind::TRIGGER], Window::closed(1, None), Spacing::Gaps),
-    (&[kind::SINCE, kind::TRIGGER], Window::closed(1, Some(LARGEST)), Spacing::Gaps),
-    (&[kind::SINCE], Window::closed(1_800, None), Spacing::Second),
-    (&[kind::TRIGGER], Window::closed(1_800, Some(3_600)), Spacing::Second),
 ];
 
 /// So many calls in turn have every shape.
 pub const LONG_CASES: u64 = COSTLY.len() as u64;
 
-/// What takes turns in a long call: over one operand, and over two.
-const ONE: [u64; 4] = [kind::EVENTUALLY, kind::ALWAYS, kind::ONCE, kind::HISTORICALLY];
-const TWO: [u64; 4] = [kind::UNTIL, kind::RELEASE, kind::SINCE, kind::TRIGGER];
-
-/// The call of that number with 4,096 rows: an operator over one operand with every shape, one over two
+/// The call of that number with 4,096 rows: eventually or always with every shape, until or release
 /// with every shape that costs little, and a window that costs much.
 pub fn long(number: u64) -> Shaped {
     let rng = &mut Prng::new(case_seed(number, 0));
@@ -148,18 +137,18 @@ pub fn long(number: u64) -> Shaped {
     let mut call = without_operators(rng, MOST_SAMPLES as usize, values, spacing);
     let (whole, short) = (Reach::whole(&call), Reach::short(&call));
     for (place, shape) in shapes().into_iter().enumerate() {
-        let turn = (place + case) % 4;
+        let turn = ((place + case) % 2) as u64;
         // Starts take turns at a low mark, ends at a high one.
         let marked = |window| opened(window, shape.0 as usize % 2 == 1, shape.1 as usize % 2 == 1);
         let window = marked(whole.window(rng, shape));
-        append(rng, &mut call, ONE[turn], window);
+        append(rng, &mut call, kind::EVENTUALLY + turn, window);
         let early = matches!(shape.0, Start::Now | Start::Next);
         if !(early && matches!(shape.1, End::Missing | End::Past)) {
             let window = marked(short.window(rng, shape));
-            append(rng, &mut call, TWO[turn], window);
+            append(rng, &mut call, kind::UNTIL + turn, window);
         }
     }
-    for kind in [kind::UNTIL, kind::EVENTUALLY, kind::SINCE, kind::ONCE] {
+    for kind in [kind::UNTIL, kind::EVENTUALLY] {
         // From 0 without 0: a low end of 1, as it is read.
         let window = Window::closed(1, Some(1 + 3 * call.step as i64));
         append(rng, &mut call, kind, opened(window, true, false));
@@ -258,7 +247,7 @@ fn append(rng: &mut Prng, call: &mut Call, kind: u64, window: Window) {
         rng.below(among) as u64
     };
     let left = child(rng);
-    let right = if is_binary(kind) { child(rng) } else { 0 };
+    let right = if matches!(kind, kind::UNTIL | kind::RELEASE) { child(rng) } else { 0 };
     nodes.push(Node { kind, left, right, ..Node::default() }.with(window));
 }
 

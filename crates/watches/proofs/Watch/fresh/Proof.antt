@@ -14,7 +14,7 @@ make-requires : tie.Need-make-requires
 make-requires c κs = search rules
 
 returns : tie.Need-returns
-returns c = let m = c.before.before.make.ensures in (m.1.0 (record { long = search rules; wide = search rules }), m.1.1.0)
+returns c = c.before.before.make.ensures.1.0 (record { long = search rules; wide = search rules })
 
 pub fresh-spec : {M : Type 1} → statement M
 fresh-spec = tie.close (tie.spec slice-aggregate-make slice-aggregate-make-2 make-requires returns)

@@ -14,7 +14,7 @@ take-requires : tie.Need-take-requires
 take-requires c κs = search rules
 
 returns : tie.Need-returns
-returns c = c.before.before.take.ensures
+returns c = c.before.before.take.ensures.0
 
 pub row-spec : {M : Type 1} → statement M
 row-spec = tie.close (tie.spec slice-aggregate-take slice-aggregate-take-2 take-requires returns)
