@@ -1,4 +1,6 @@
 // The answers to a whole text, one for each requirement, and the lines that are printed for it. Times, values and cells are arrays of its own, so that nothing lent changes.
+#![tactic(auto)]
+
 ghost use Rattle.std.specs.Prelude.{◌≡◌, ◌≤◌, ◌<◌, length};
 ghost use Rattle.margins.specs.Answers.{margin_outcome};
 ghost use Rattle.verdicts.specs.Answer.{verdict_refusal};

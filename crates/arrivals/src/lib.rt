@@ -1,4 +1,6 @@
 // What refuses a watch at its making, and a row that is offered to it. Their sentences are listed in specs/Arrivals.
+#![tactic(auto)]
+
 ghost use Rattle.std.specs.Prelude.{◌≡◌, ◌≤◌};
 ghost use Rattle.refusals.specs.First.{first};
 ghost use Rattle.recordings.specs.Card.{Card};

@@ -1,4 +1,6 @@
 // Where a requirement's nodes are kept while they are read: seven cells a node, so that a deep text costs no copy of the table.
+#![tactic(auto)]
+
 ghost use Rattle.std.specs.Prelude.{◌≡◌, ◌+◌, ◌≤◌, ◌<◌, length};
 ghost use Rattle.grammar.specs.Reading.{leaf_at};
 ghost use Rattle.tables.specs.Tree.{NODES, no_span};
@@ -15,7 +17,7 @@ pub const WIDTH: usize = 7;
 pub const CELLS: usize = WIDTH * tables::NODES;
 
 // A part of the grammar that was read: the place after it, its root's number and the next free number.
-#[derive(Drop)]
+#[derive(Clone, Copy)]
 pub struct Part {
     pub end: usize,
     pub root: usize,
@@ -23,7 +25,7 @@ pub struct Part {
 }
 
 // What reading a part gives.
-#[derive(Drop)]
+#[derive(Clone, Copy)]
 pub enum Step {
     Read(Part),
     Refused,

@@ -1,11 +1,13 @@
 // The distance of a value from a predicate in its channel's unit, for callers that have neither a card nor a requirement. It asks nothing of them.
+#![tactic(auto)]
+
 ghost use Rattle.std.specs.Prelude.{◌≡◌};
 ghost use Rattle.distances.specs.Answers.{distance_outcome, distance_judged};
 
 use recordings::Predicate;
 
 // The distance, or the number of the first refusal that applies.
-#[derive(Drop)]
+#[derive(Clone, Copy)]
 pub enum Answer {
     Distance(i64),
     Refused(u64),

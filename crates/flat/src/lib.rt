@@ -1,5 +1,7 @@
 // Tables, predicates, scales and places as flat numbers in slices of any length, for callers that have no types of ours. Nothing is asked of a slice: a place that it doesn't have
 // reads as 0 and is not written.
+#![tactic(auto)]
+
 ghost use Rattle.std.specs.Prelude.{◌≡◌, ◌<◌, pos, get_or};
 ghost use Rattle.lists.specs.Front.{written};
 ghost use Rattle.flat.specs.Tables.{table_from};

@@ -1,4 +1,6 @@
 // The head of a sheet: `chan=`, `c=` lines, `p=` lines, `step=`, `drift=`, in this order. Each line reader answers the place of the next line, so one line more is one reader more.
+#![tactic(auto)]
+
 ghost use Rattle.std.specs.Prelude.{◌≡◌};
 ghost use Rattle.heads.specs.Form.{no_head};
 ghost use Rattle.heads.specs.Reading.{broken_head, behind_scales, head_of};
@@ -8,7 +10,7 @@ use recordings::{Scales, Setup};
 use text::Field;
 
 // What the head's lines say.
-#[derive(Drop)]
+#[derive(Clone, Copy)]
 pub struct Head {
     pub setup: Setup,
     pub step: u64,
@@ -16,7 +18,7 @@ pub struct Head {
 }
 
 // Whether the lines are a head, the place of the line behind it, and what it says.
-#[derive(Drop)]
+#[derive(Clone, Copy)]
 pub struct HeadLines {
     pub ok: bool,
     pub next: usize,

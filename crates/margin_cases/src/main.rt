@@ -1,4 +1,6 @@
 // The answer to each sheet that an argument names, so that one stored run shows every refusal of the program, 1 to 13, and every verdict.
+#![tactic(auto)]
+
 fn answer_file(i: usize) {
     let mut path = io::buffer();
     let length = os::arg(i, &mut path);

@@ -1,4 +1,6 @@
 // The margin of a requirement table over a recording: the cells of every node, children first, and the root's margin at sample 0.
+#![tactic(auto)]
+
 ghost use Rattle.std.specs.Prelude.{◌≡◌, ℕ, ◌*◌, length};
 ghost use Rattle.lists.specs.Fill.{fill, fill_rows};
 ghost use Rattle.logic.specs.Formula.{Formula};
@@ -13,7 +15,7 @@ use recordings::Setup;
 use tables::{Node, Table};
 
 // The recording's margin, or the number of the first refusal that applies.
-#[derive(Drop)]
+#[derive(Clone, Copy)]
 pub enum Answer {
     Margin(i64),
     Refused(u64),

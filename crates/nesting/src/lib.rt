@@ -1,4 +1,6 @@
 // Refusal 16: whether a temporal operator stands inside another. Of each node it is noted whether a temporal operator stands in it, and a temporal node asks that of its operands.
+#![tactic(auto)]
+
 ghost use Rattle.std.specs.Prelude.{◌≡◌};
 ghost use Rattle.tables.specs.Kind.{operator};
 ghost use Rattle.tables.specs.Rules.{TableRules};

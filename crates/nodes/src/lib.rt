@@ -1,4 +1,6 @@
 // The row of one node from the rows of its children: the same for a margin, which has a row for each node, and for a verdict, which has two.
+#![tactic(auto)]
+
 ghost use Rattle.std.specs.Prelude.{◌≡◌, ◌*◌, length};
 ghost use Rattle.lists.specs.Fill.{fill};
 ghost use Rattle.rows.specs.Cells.{cell};

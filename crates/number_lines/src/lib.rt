@@ -1,4 +1,6 @@
 // Reads single lines of a sheet's head, a key with a number, and answers the place of the next line.
+#![tactic(auto)]
+
 ghost use Rattle.std.specs.Prelude.{◌≡◌};
 ghost use Rattle.number_lines.specs.Reading.{number_line_at};
 

@@ -1,5 +1,7 @@
 // The smaller and the larger of two signed 64-bit numbers, whether one is at most the other, their difference and their product, and a number's negative.
 // Only these functions compare, subtract or multiply margins, so that no proof above them sees how a sign is stored.
+#![tactic(auto)]
+
 ghost use Rattle.std.specs.Prelude.{◌≡◌, neg_ℤ, ◌-ℤ◌, ◌*ℤ◌, nat_abs};
 ghost use Rattle.std.specs.Int.Signed.{le_z};
 ghost use Rattle.std.specs.Int.{w64};

@@ -1,4 +1,6 @@
 // The pieces of a requirement text that hold no other requirement: letters, windows and operators.
+#![tactic(auto)]
+
 ghost use Rattle.std.specs.Prelude.{◌≡◌, ◌≤◌, ◌<◌, length, get_or};
 ghost use Rattle.text.specs.Mark.{mark_at};
 ghost use Rattle.tables.specs.Tree.{LONGEST};

@@ -1,4 +1,6 @@
 // The printed lines of a sheet's outcomes, in a lent slice from a place on. Each function answers the place behind what it printed.
+#![tactic(auto)]
+
 ghost use Rattle.std.specs.Prelude.{◌≡◌, ◌++◌, ◌≤◌, ◌<◌, length, take};
 ghost use Rattle.printing.specs.Decimal.{decimal, decimal_signed};
 ghost use Rattle.printing.specs.Output.{output, printed};

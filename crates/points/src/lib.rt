@@ -1,5 +1,7 @@
 // One node's value at one place: the distance of a value from a range, a value or its negative, and the larger or the
 // smaller of two, or over nothing.
+#![tactic(auto)]
+
 ghost use Rattle.std.specs.Prelude.{◌≡◌, ◌≤◌, neg_ℤ};
 ghost use Rattle.std.specs.Int.{w64};
 ghost use Rattle.std.proofs.Common.{SFits};

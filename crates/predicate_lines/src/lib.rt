@@ -1,4 +1,6 @@
 // Reads the predicate lines of a sheet's head, `p= ch= lo= hi=`: by rising number, gaps allowed, perhaps none.
+#![tactic(auto)]
+
 ghost use Rattle.std.specs.Prelude.{◌≡◌, ◌<◌};
 ghost use Rattle.text.specs.Bytes.{bytes};
 ghost use Rattle.text.specs.Mark.{key_at};
@@ -9,35 +11,35 @@ use recordings::{Predicate, Range};
 use text::{Field, Mark, signed};
 
 // An end of a range; a missing one is written `*`.
-#[derive(Drop)]
+#[derive(Clone, Copy)]
 pub enum Bound {
     Missing,
     At(i64),
 }
 
 // An end and the place after it.
-#[derive(Drop)]
+#[derive(Clone, Copy)]
 pub enum End {
     Read(Bound, usize),
     Bad,
 }
 
 // A predicate's number, the predicate and the place of the next line.
-#[derive(Drop)]
+#[derive(Clone, Copy)]
 pub struct NumberedPredicate {
     pub number: usize,
     pub predicate: Predicate,
     pub next: usize,
 }
 
-#[derive(Drop)]
+#[derive(Clone, Copy)]
 pub enum Line {
     Set(NumberedPredicate),
     Bad,
 }
 
 // The predicates of the lines before a place. Where a line was refused, ok is false and nothing is set.
-#[derive(Drop)]
+#[derive(Clone, Copy)]
 pub struct Predicates {
     pub ok: bool,
     pub next: usize,

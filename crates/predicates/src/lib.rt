@@ -1,5 +1,7 @@
 // Refusals 3 and 4: a table with the predicates that it names, and the predicates with their channels. Their sentences are in tables/specs/Rules, in specs/ and in recordings/specs/Accepted.
 // No test branches on what it has found so far: each looks at everything that it judges. Names are looked up in a table that obeys.
+#![tactic(auto)]
+
 ghost use Rattle.std.specs.Prelude.{◌≡◌, ◌≤◌};
 ghost use Rattle.tables.specs.Tree.{NODES};
 ghost use Rattle.predicates.specs.Predicates.{is_set, names_set, all_named, requirement_obeys, value_obeys, range_obeys, predicate_obeys, predicates_obey, channels_obey};

@@ -1,4 +1,6 @@
 // Prints words and numbers into a lent slice from a place on, and answers the place behind them. A byte that the slice has no place for is left out.
+#![tactic(auto)]
+
 ghost use Rattle.std.specs.Prelude.{◌≡◌, [], ◌∷◌};
 ghost use Rattle.lists.specs.Front.{written};
 ghost use Rattle.printing.specs.Decimal.{digit_of, decimal, decimal_signed};

@@ -1,10 +1,12 @@
 // Reads a text from a descriptor and prints its answer on standard output. A call that a signal interrupts is made again. A proved loop has to end, and nothing says that
 // signals do, so each loop counts its turns down from a number that no run uses up.
+#![tactic(auto)]
+
 ghost use Rattle.std.specs.Prelude.{◌≤◌, length};
 ghost use Rattle.program.specs.Input.{Within};
 
 // How far reading or writing came: a call that moved nothing is the end, and one that failed is tried again where a signal interrupted it.
-#[derive(Drop)]
+#[derive(Clone, Copy)]
 pub struct Step {
     pub done: usize,
     pub over: bool,
@@ -49,7 +51,7 @@ fn write_more(fd: i32, line: &[u8], done: usize) -> Step
 }
 
 // All of a text's bytes, as many as there is room for, or that it could not be read.
-#[derive(Drop)]
+#[derive(Clone, Copy)]
 pub enum Input {
     Whole(usize),
     Failed,

@@ -1,4 +1,6 @@
 // Predicates on a card's channels and the channels' scales, a card's setup, the three verdicts, and the limits of a recording. Their meaning is in specs/.
+#![tactic(auto)]
+
 ghost use Rattle.std.specs.Prelude.{◌≡◌};
 ghost use Rattle.recordings.specs.Distance.{is_unset, is_free};
 
@@ -24,7 +26,7 @@ pub const MOST_SCALE: u64 = 1_000;
 pub const TOP: i64 = 4_000_000_000_000;
 
 // The numbers that a predicate asks for. The ends belong to the range.
-#[derive(Drop)]
+#[derive(Clone, Copy)]
 pub enum Range {
     Unset,
     Free,
@@ -59,28 +61,28 @@ pub fn is_free(range: Range) -> bool
 }
 
 // A channel together with a range. A requirement names one of sixteen of them by its number.
-#[derive(Drop)]
+#[derive(Clone, Copy)]
 pub struct Predicate {
     pub channel: usize,
     pub range: Range,
 }
 
 // The scales that were passed: the first `count` of eight, one for each channel. A count above eight passes all eight.
-#[derive(Drop)]
+#[derive(Clone, Copy)]
 pub struct Scales {
     pub count: usize,
     pub each: [u64; MOST_CHANNELS],
 }
 
 // What a card is judged with beside its samples. It is handed on whole, so that what joins it moves no signature.
-#[derive(Drop)]
+#[derive(Clone, Copy)]
 pub struct Setup {
     pub channels: usize,
     pub scales: Scales,
     pub predicates: [Predicate; 16],
 }
 
-#[derive(Drop)]
+#[derive(Clone, Copy)]
 pub enum Verdict {
     Holds,
     Fails,

@@ -1,5 +1,7 @@
 // Reads the requirement lines of a sheet, `req=` and any bytes up to the line feed, one after another. All are counted, so that a seventeenth is seen; the places of the first
 // sixteen are kept.
+#![tactic(auto)]
+
 ghost use Rattle.std.specs.Prelude.{◌≡◌, true, ◌+◌, ◌<◌, length, drop, set};
 ghost use Rattle.text.specs.Bytes.{bytes};
 ghost use Rattle.text.specs.Mark.{key_at};
@@ -12,21 +14,21 @@ use text::Mark;
 pub const MOST: usize = 16;
 
 // A requirement's first place, and the place behind its last.
-#[derive(Drop)]
+#[derive(Clone, Copy)]
 pub struct Place {
     pub from: usize,
     pub to: usize,
 }
 
 // A requirement's place and that of the next line.
-#[derive(Drop)]
+#[derive(Clone, Copy)]
 pub enum Line {
     At(Place, usize),
     Bad,
 }
 
 // How many requirement lines there are, the places of the first sixteen, and where the next line begins. Where a line lacks its line feed, ok is false and nothing is kept.
-#[derive(Drop)]
+#[derive(Clone, Copy)]
 pub struct Requirements {
     pub ok: bool,
     pub next: usize,

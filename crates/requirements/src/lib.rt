@@ -1,5 +1,7 @@
 // Reads requirement text into a table: nodes stand left, right, parent, none shared.
 // alternative, conjunction, bind and unary are the grammar's parts; each reader keeps the nodes of its part from the next free number on.
+#![tactic(auto)]
+
 ghost use Rattle.std.specs.Prelude.{◌≡◌};
 ghost use Rattle.grammar.specs.Reading.{unary_at, bind_at, conjunction_at, alternative_at};
 ghost use Rattle.building.specs.Storing.{zeros, Done};
@@ -11,14 +13,14 @@ use tables::{Span, Table};
 use text::Mark;
 
 // What a requirement text says: refusal 0 and its table, or refusal 2 and the empty table.
-#[derive(Drop)]
+#[derive(Clone, Copy)]
 pub struct Requirement {
     pub refusal: u64,
     pub table: Table,
 }
 
 // The same without the table, whose numbers stand in lent cells: the refusal, and how many nodes there are.
-#[derive(Drop)]
+#[derive(Clone, Copy)]
 pub struct Counted {
     pub refusal: u64,
     pub count: usize,

@@ -1,4 +1,6 @@
 // Reads the line of a row, `t= src= v0= v1=` and so on, and counts the rows of a text. Nothing is stored here.
+#![tactic(auto)]
+
 ghost use Rattle.std.specs.Prelude.{◌≡◌};
 ghost use Rattle.row_lines.specs.Reading.{channels_in_range, value_at, values_from, end_of, rest_at, row_at, rows_of, counts};
 
@@ -8,7 +10,7 @@ use text::{Field, Mark, signed};
 pub const LIMIT: usize = 65_536;
 
 // What a measured row's line says: its time, the place of its values and that of the next line.
-#[derive(Drop)]
+#[derive(Clone, Copy)]
 pub struct MeasuredRow {
     pub time: u64,
     pub values: usize,
@@ -16,7 +18,7 @@ pub struct MeasuredRow {
 }
 
 // A row's line; of a filled row nothing but the place of the next line.
-#[derive(Drop)]
+#[derive(Clone, Copy)]
 pub enum RowLine {
     Measured(MeasuredRow),
     Filled(usize),
@@ -24,7 +26,7 @@ pub enum RowLine {
 }
 
 // How many rows are measured and how many are filled, where every line has the form.
-#[derive(Drop)]
+#[derive(Clone, Copy)]
 pub enum Counts {
     Found(usize, usize),
     Bad,

@@ -1,5 +1,7 @@
 // The cells of one node from the recording or from its children's cells. With `rows` places to a row, row r of the work slice owns the cells from
 // r × rows on. A margin has one row for each node; a verdict has two.
+#![tactic(auto)]
+
 ghost use Rattle.std.specs.Prelude.{◌≡◌, ◌+◌, ◌*◌, ◌≤◌, ◌<◌, pos, length, get_or};
 ghost use Rattle.lists.specs.Fill.{fill};
 ghost use Rattle.logic.specs.declared.Extremum.TheVariants.{Smallest};

@@ -1,5 +1,7 @@
 // Refusals 3, 4, 13 and 5 to 7: what a table, a setup and a recording are judged by before a margin is taken. Their sentences are listed in specs/Refusals.
 // No test but that of the values branches on what it has found so far; none counts past what an earlier one has bounded.
+#![tactic(auto)]
+
 ghost use Rattle.std.specs.Prelude.{◌≡◌, [], ◌≤◌, length};
 ghost use Rattle.refusals.specs.First.{first};
 ghost use Rattle.rules.specs.Recording.{samples_obey, lengths_obey, all_rising, all_early, times_obey, values_obey};

@@ -1,5 +1,7 @@
 // Refusals 9 to 11: whether step and drift are in range, and whether neighbouring samples are near enough in time and in value. Their sentences are in recordings/specs/Accepted.
 // Differences are compared; nothing is added to a time or a value.
+#![tactic(auto)]
+
 ghost use Rattle.std.specs.Prelude.{◌≡◌, ◌-◌, ◌≤◌, ◌<◌, leb, length};
 ghost use Rattle.refusals.specs.First.{first};
 ghost use Rattle.recordings.specs.Card.{lent};

@@ -1,4 +1,6 @@
 // Reads the scale lines of a sheet's head, `c= scale=`: one for each channel, in order.
+#![tactic(auto)]
+
 ghost use Rattle.std.specs.Prelude.{◌≡◌, []};
 ghost use Rattle.recordings.specs.Card.{passed};
 ghost use Rattle.scale_lines.specs.Form.{due};
@@ -8,7 +10,7 @@ use recordings::Scales;
 use text::Field;
 
 // The scales of the lines before a place. Where a line was refused, ok is false and there are none.
-#[derive(Drop)]
+#[derive(Clone, Copy)]
 pub struct ChannelScales {
     pub ok: bool,
     pub next: usize,

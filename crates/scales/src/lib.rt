@@ -1,4 +1,6 @@
 // Refusal 13: whether the scales that were passed are in range. Its sentence is in recordings/specs/Accepted.
+#![tactic(auto)]
+
 ghost use Rattle.std.specs.Prelude.{◌≡◌};
 ghost use Rattle.scales.specs.Scales.{scale_obeys, passed_obeys, scales_obey};
 

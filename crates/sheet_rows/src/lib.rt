@@ -1,5 +1,7 @@
 // The row reader: the measured rows of a sheet's part behind its head, into lent slices. It checks and counts the whole part first and stores only what fits, so that
 // nothing is stored under a refusal.
+#![tactic(auto)]
+
 ghost use Rattle.std.specs.Prelude.{◌≡◌, ◌≤◌, length};
 ghost use Rattle.std.proofs.lemmas.List.Edits.{sets};
 ghost use Rattle.recordings.specs.Accepted.{MOST_CHANNELS};
@@ -13,7 +15,7 @@ use row_lines::{Counts, RowLine};
 use text::signed;
 
 // Document 01's number, 0 where no refusal applies, and the counts of measured and of filled rows.
-#[derive(Drop)]
+#[derive(Clone, Copy)]
 pub struct Answer {
     pub number: u64,
     pub rows: usize,

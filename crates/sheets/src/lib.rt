@@ -1,5 +1,7 @@
 // The sheet reader: the head, `req=` lines, then rows, which are judged here and read by the row reader.
 // It judges the whole text, so that 1 comes before 12; each part's reader answers the place of the next line.
+#![tactic(auto)]
+
 ghost use Rattle.std.specs.Prelude.{◌≡◌, true, ◌≤◌, length};
 ghost use Rattle.sheets.specs.Form.{blank};
 ghost use Rattle.sheets.specs.Sheets.{rows_kept, lines_kept, sheet_refusal, behind_head, sheet_of};
@@ -9,7 +11,7 @@ use requirement_lines::{Place, Requirements};
 use row_lines::Counts;
 
 // The papers' number, 0 where the text has the form, and the sheet's contents: requirement k is the bytes of place k, and the rows begin at `rows`.
-#[derive(Drop)]
+#[derive(Clone, Copy)]
 pub struct Sheet {
     pub number: u64,
     pub head: Head,

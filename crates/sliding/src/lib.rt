@@ -1,5 +1,7 @@
 // The sliding extremum: that of a row over the places between two ends that only move forward. This is sliding-window aggregation by two stacks, kept in place: it
 // takes one pass, whatever lies between the ends, and no memory but the row that is being filled, whose places from the low end on have no final value yet.
+#![tactic(auto)]
+
 ghost use Rattle.std.specs.Prelude.{◌≡◌, ◌+◌, ◌*◌, ◌-◌, ◌≤◌, length};
 ghost use Rattle.lists.specs.Fold.{fold};
 ghost use Rattle.logic.specs.Reading.{margin_extreme};
@@ -11,7 +13,7 @@ use logic::Extremum;
 
 // The run of places between the ends is parted at `cut`. In the row that is being filled, each place of the run before `cut` holds the extremum from itself up to
 // `cut`; `tail` is the one from `cut` up to `high`, and `value` that over the whole run.
-#[derive(Drop)]
+#[derive(Clone, Copy)]
 pub struct SlidingExtremum {
     pub cut: usize,
     pub high: usize,

@@ -1,5 +1,7 @@
 // The text of a requirement's tree, in pieces that hold no other requirement: parts of the grammar, and an operator's letter and window. What the whole text is, specs/Text says.
 // Each function that writes answers the place behind what it wrote; a byte that the slice has no place for is left out.
+#![tactic(auto)]
+
 ghost use Rattle.std.specs.Prelude.{◌≡◌, ◌++◌, true, cond, ltb};
 ghost use Rattle.printing.specs.Decimal.{decimal};
 ghost use Rattle.printing.specs.Output.{output, printed};

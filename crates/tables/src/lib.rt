@@ -1,5 +1,7 @@
 // The requirement table: up to 64 nodes of seven numbers each, the root last; and the test of its rules, which specs/Rules.antt states.
 // The tests take every number that the types hold: none of them adds to a number that it has not bounded.
+#![tactic(auto)]
+
 ghost use Rattle.std.specs.Prelude.{◌≡◌, ◌≤◌};
 ghost use Rattle.tables.specs.Kind.{operator, operator_extremum};
 ghost use Rattle.tables.specs.Tree.{NODES, no_span};
@@ -39,7 +41,7 @@ pub const LONGEST: u64 = 1_000_000_000;
 pub const NO_END: u64 = 4_294_967_295;
 
 // A window as it is written: its two ends, and a mark for each, 1 where that end is excluded. Kinds without a window have all at 0.
-#[derive(Drop)]
+#[derive(Clone, Copy)]
 pub struct Span {
     pub lo: u64,
     pub hi: u64,
@@ -48,7 +50,7 @@ pub struct Span {
 }
 
 // One node: its kind, its children (for a predicate, the predicate's number in left), and its window.
-#[derive(Drop)]
+#[derive(Clone, Copy)]
 pub struct Node {
     pub kind: u64,
     pub left: usize,
@@ -57,7 +59,7 @@ pub struct Node {
 }
 
 // The first `count` places of `nodes` are the table; the others are not looked at.
-#[derive(Drop)]
+#[derive(Clone, Copy)]
 pub struct Table {
     pub nodes: [Node; NODES],
     pub count: usize,

@@ -1,6 +1,8 @@
 // The row of until and release, eventually and always, from the rows of its operands. The places of a window are found from those of the place before.
 // What an operator takes of one operand alone slides along with the window: right's extremum over it for eventually and always, left's before it for until and
 // release. These two then share one loop over the window, which carries left's extremum along and stops where nothing later can change the answer.
+#![tactic(auto)]
+
 ghost use Rattle.std.specs.Prelude.{◌≡◌, true, ◌+◌, ◌*◌, ◌-◌, ◌≤◌, ◌<◌, max, length};
 ghost use Rattle.lists.specs.Fill.{fill};
 ghost use Rattle.logic.specs.declared.Stop.TheVariants.{Before};
@@ -17,7 +19,7 @@ ghost use Rattle.temporal.specs.Asks.{PlaceAsks, TemporalAsks};
 use logic::{Extremum, Stop, Window};
 
 // The left operand: a row, or none for eventually and always.
-#[derive(Drop)]
+#[derive(Clone, Copy)]
 pub enum Left {
     Row(usize),
     Absent,

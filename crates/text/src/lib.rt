@@ -1,5 +1,7 @@
 // Reads marks and number fields out of bytes. Every reader answers the place after what it read, or Bad.
 // A place past the end reads as byte 0, which is no digit, so no caller tests a length.
+#![tactic(auto)]
+
 pub mod signed;
 
 ghost use Rattle.std.specs.Prelude.{◌≡◌, ◌&&◌, eqb, ltb, get_or};
@@ -12,14 +14,14 @@ pub const LARGEST: u64 = 4_294_967_295;
 const LARGEST_SIGNED: u64 = 2_147_483_647;
 
 // What a number field holds and the place after it.
-#[derive(Drop)]
+#[derive(Clone, Copy)]
 pub enum Field {
     Number(u64, usize),
     Bad,
 }
 
 // The place after fixed bytes.
-#[derive(Drop)]
+#[derive(Clone, Copy)]
 pub enum Mark {
     Next(usize),
     Bad,

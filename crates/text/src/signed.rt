@@ -5,7 +5,7 @@ ghost use Rattle.text.specs.Number.{largest_signed, signed_at, signed_field_at};
 use crate::Mark;
 
 // What a signed field holds and the place after it.
-#[derive(Drop)]
+#[derive(Clone, Copy)]
 pub enum Field {
     Number(i64, usize),
     Bad,

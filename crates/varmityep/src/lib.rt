@@ -1,5 +1,7 @@
 // The library for C and Rust: every function takes and hands back flat numbers and slices, and the number of the refusal, 0 for none; `varmityep_answer` prints it. Nothing is asked of a caller
 // but that each slice is a pointer and a length that belong together. include/varmityep.h has the declarations in C.
+#![tactic(auto)]
+
 ghost use Rattle.std.specs.Prelude.{◌≡◌, [], ◌∷◌, ◌≤◌, length, pos};
 ghost use Rattle.building.specs.Storing.{cells_of};
 ghost use Rattle.flat.specs.Tables.{table_from};

@@ -1,4 +1,6 @@
 // The verdict: hold, fail, and whether the requirement holds, fails or is not shown between the samples.
+#![tactic(auto)]
+
 ghost use Rattle.std.specs.Prelude.{◌≡◌, ◌*◌, ◌≤◌, pos, length};
 ghost use Rattle.std.specs.Int.Signed.{lt_z};
 ghost use Rattle.recordings.specs.Accepted.{LONGEST_STEP, LARGEST_DRIFT};
@@ -18,7 +20,7 @@ use recordings::{Setup, Verdict};
 use tables::{Node, Table};
 
 // The verdict, and the strengthened margins that it was decided by.
-#[derive(Drop)]
+#[derive(Clone, Copy)]
 pub struct Judgement {
     pub verdict: Verdict,
     pub hold: i64,
@@ -26,7 +28,7 @@ pub struct Judgement {
 }
 
 // What the verdict hands back: the judgement, or the number of a refusal.
-#[derive(Drop)]
+#[derive(Clone, Copy)]
 pub enum Answer {
     Judged(Judgement),
     Refused(u64),

@@ -1,6 +1,8 @@
 // A watch in numbers, and one row more taken by each of its nodes, in place: a caller lends the watch, and nothing is copied at a row. Of a node without window the row gives the
 // value there, and the margin at sample 0 comes from its operands'. A temporal operator takes in the new sample and carries left's extremum along.
 // Nothing is asked of what the slices hold. Numbers that no making left give some margin; no place outside the slices is read or written.
+#![tactic(auto)]
+
 ghost use Rattle.std.specs.Prelude.{◌≡◌, ◌≤◌, ◌<◌, neg_ℤ, length};
 ghost use Rattle.numbers.specs.Order.{Within};
 ghost use Rattle.logic.specs.Window.{inside};

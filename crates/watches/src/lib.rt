@@ -1,5 +1,7 @@
 // A margin while the card runs. A watch is made from a table, its predicates and scales, takes one row at a time and tells the margin of the rows that it has accepted, without
 // storing them: its size is fixed. It is a struct by value; `make`, `take` and `tell` are the same for a watch that a caller lends as two slices, and nothing is copied there.
+#![tactic(auto)]
+
 ghost use Rattle.std.specs.Prelude.{◌≡◌, map, ◌≤◌, ◌<◌, ◌+◌, ◌-◌, ◌*◌, min, eqb, pos, length, get_or};
 ghost use Rattle.lists.specs.Fill.{fill};
 ghost use Rattle.lists.specs.Front.{written};
@@ -34,14 +36,14 @@ const NEXT: usize = 3;
 
 const CHANNELS: usize = 4;
 
-#[derive(Drop)]
+#[derive(Clone, Copy)]
 pub struct Watch {
     pub numbers: [u64; Watch::NUMBERS],
     pub cells: [i64; Watch::CELLS],
 }
 
 // The answer to a row: the number of its refusal, 0 for none, and the watch afterwards.
-#[derive(Drop)]
+#[derive(Clone, Copy)]
 pub struct Taken {
     pub number: u64,
     pub watch: Watch,

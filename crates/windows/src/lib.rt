@@ -1,4 +1,6 @@
 // A node's window as the rows read it, and its strengthening. An end that stands for no end is told apart before anything is added to it.
+#![tactic(auto)]
+
 ghost use Rattle.std.specs.Prelude.{◌≡◌, ◌-◌, ◌≤◌};
 ghost use Rattle.logic.specs.Strengthening.{sooner, later, delayed, contraction, expansion, strengthen_window};
 ghost use Rattle.tables.specs.Tree.{NO_END, window};

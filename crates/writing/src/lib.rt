@@ -1,5 +1,7 @@
 // Writes a requirement table as text. Whether the text stays within the grammar's limits is known from the nodes' measures, each from those of its children, before any of it is written:
 // shared nodes are unfolded only where the whole tree has at most 64 nodes.
+#![tactic(auto)]
+
 ghost use Rattle.std.specs.Prelude.{◌≡◌, suc, ◌+◌, ◌-◌, ◌≤◌, min, max, length};
 ghost use Rattle.tables.specs.Kind.{operator};
 ghost use Rattle.tables.specs.Tree.{node_at};
@@ -18,7 +20,7 @@ use grammar::Part;
 use tables::{Node, Span, Table};
 
 // What a tree is, counted no further than one past the limits: its nodes, the enclosings of its text, and the part of the grammar that this is.
-#[derive(Drop)]
+#[derive(Clone, Copy)]
 pub struct Measure {
     pub nodes: u64,
     pub enclosings: u64,
@@ -27,7 +29,7 @@ pub struct Measure {
 
 // What is handed back: the refusal's number, 0 for none, and the text's length, 0 under a refusal.
 #[repr(C)]
-#[derive(Drop)]
+#[derive(Clone, Copy)]
 pub struct Written {
     pub number: u64,
     pub length: usize,
