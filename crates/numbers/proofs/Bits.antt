@@ -17,7 +17,7 @@ back_is f = to_z-of_z f
 
 -- of a call's result: `back_ok _ c.f.ok`
 pub back_ok : (z : ℤ) → mag z < 2 ^ 63 → back z ≡ z
-back_ok z h = to_z-of_z (record { sfits = h })
+back_ok z h = to_z-of_z {w = w64} (record { sfits = h })
 
 -- a branch on a comparison of two signed numbers
 pub pick_true : {a b x : ℤ} (y : ℤ) → SFits w64 a → SFits w64 b → SFits w64 x → lt_z (back a) (back b) ≡ true → back x ≡ cond (lt_z a b) x y

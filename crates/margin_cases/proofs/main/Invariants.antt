@@ -1,0 +1,11 @@
+-- Each turn leaves one argument less.
+-- Assumes nothing.
+use Prim.Native.Nat.{◌-◌}
+use Rattle.margin_cases.proofs.main.Lts as lts
+use Rattle.margin_cases.proofs.main.Given as goal
+
+abbrev pub invariant-loop-i : goal.invariant-loop-i
+invariant-loop-i l = Unit {0}
+
+abbrev pub decreases-loop-i : goal.decreases-loop-i
+decreases-loop-i l = l.count - l.i

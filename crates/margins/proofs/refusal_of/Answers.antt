@@ -1,0 +1,29 @@
+-- Refusals 3 to 7 come first, and where none of them applies the count of cells can be taken.
+-- Assumes nothing.
+use mathlib.Core.Path.{sym, ◌∙◌}
+use native.Mathlib.Omega.{arith}
+use Rattle.recordings.specs.Card.{Card, card}
+use Rattle.rules.proofs.Refusals.{sound}
+use Rattle.margins.proofs.Answers.{refusal_early, refusal_room, refusal_none, few_cells}
+use Rattle.margins.proofs.refusal_of.Goals as goal
+use Rattle.margins.proofs.refusal_of.Goals.{Start}
+
+abbrev card-of : Start → Card
+card-of c = card c.args.setup c.args.times.now c.args.values.now
+
+pub returns-then-earlier-ne0 : goal.returns-then-earlier-ne0
+returns-then-earlier-ne0 c =
+    c.refusal-earlier.ensures ∙ sym (refusal_early (card-of (goal.at.returns-then-earlier-ne0 c).Start) c.args.table c.args.cells (λ z. c.if-earlier-ne0.true (c.refusal-earlier.ensures ∙ z)))
+
+pub overflow_mul-count : goal.overflow_mul-count
+overflow_mul-count c =
+    let f = few_cells (sound (card-of (goal.at.overflow_mul-count c).Start) c.args.table (sym c.refusal-earlier.ensures ∙ c.if-earlier-ne0.false)) in
+    omega arith
+
+pub returns-then-cells-count : goal.returns-then-cells-count
+returns-then-cells-count c =
+    sym (refusal_room (card-of (goal.at.returns-then-cells-count c).Start) c.args.table c.args.cells (sym c.refusal-earlier.ensures ∙ c.if-earlier-ne0.false) c.if-cells-count.true)
+
+pub returns : goal.returns
+returns c =
+    sym (refusal_none (card-of (goal.at.returns c).Start) c.args.table c.args.cells (sym c.refusal-earlier.ensures ∙ c.if-earlier-ne0.false) c.if-cells-count.false)

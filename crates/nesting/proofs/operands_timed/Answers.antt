@@ -1,0 +1,6 @@
+-- Which numbers are children is asked of the kind.
+-- Assumes nothing.
+use Rattle.nesting.proofs.operands_timed.Goals as goal
+
+pub returns : goal.returns
+returns c = rw (c.Has-left.ensures, c.Has-right.ensures)

@@ -1,0 +1,97 @@
+-- Each arm asks what its kind's operands give and returns what its row function ensures. What the tests of the kind say gives the operator.
+-- Assumes nothing.
+use mathlib.Core.Path.{◌≡◌, refl, sym, ap, ◌∙◌}
+use mathlib.Core.Bool.{true}
+use Prim.Native.Nat.{ℕ}
+use native.Mathlib.Omega.{arith}
+use borrow.Author.Tests.{not-true, not-false}
+use lib.IntN.{ℤ}
+use lib.ListN.{length}
+use Rattle.rows.specs.Cells.{cell}
+use Rattle.logic.specs.Formula.{future}
+use Rattle.logic.specs.Negation.{turn}
+use Rattle.tables.specs.Kind.{Operator, joined, binary, unary, operator, operator_extremum}
+use Rattle.tables.specs.Rules.{timed}
+use Rattle.tables.proofs.EveryKind.{operating, joined_form, temporal_form}
+use Rattle.temporal.specs.declared.Left.TheVariants.{Row, Absent}
+use Rattle.nodes.proofs.Rows.{left_before, right_before, above, row_asks, channel_known, leaf, true_arm, predicate_arm, not_arm, joined_arm, binary_arm, unary_arm}
+use Rattle.nodes.proofs.node_row.Goals as goal
+use Rattle.nodes.proofs.node_row.Goals.{After-is_timed, Else-has_right, Else-not-is_timed, Start, Then-has_right, Then-not-is_timed}
+
+abbrev operand : Start → ℕ → ℕ → ℤ
+operand c from = cell c.args.work.now (length c.args.times.now) from
+
+abbrev own : After-is_timed → Operator
+own c = operator c.args.node.kind
+
+turned : (c : After-is_timed) → c.turn-e.result ≡ turn c.args.affirmed (operator_extremum (own c))
+turned c = c.turn-e.ensures ∙ ap (turn c.args.affirmed) c.extremum_of.ensures
+
+joins : (c : Then-not-is_timed) → own c.AS.After-is_timed ≡ joined (operator_extremum (own c.AS.After-is_timed))
+joins c =
+    joined_form _ (operating _ c.requires.known c.if-kind-eq-TRUE.left c.if-kind-eq-PREDICATE.left c.if-kind-eq-NOT.left) (sym c.is_timed.ensures ∙ not-true _ c.if-not-is_timed.taken)
+
+has-window : (c : Else-not-is_timed) → timed (own c.AS.After-is_timed) ≡ true
+has-window c = sym c.is_timed.ensures ∙ not-false _ c.if-not-is_timed.left
+
+binds : (c : Then-has_right) → own c.AS.After-is_timed ≡ binary future (operator_extremum (own c.AS.After-is_timed))
+binds c = temporal_form _ (has-window c.AS.Else-not-is_timed) ∙ (rw (sym c.Has-right.ensures ∙ c.if-has_right.taken) refl)
+
+looks : (c : Else-has_right) → own c.AS.After-is_timed ≡ unary future (operator_extremum (own c.AS.After-is_timed))
+looks c = temporal_form _ (has-window c.AS.Else-not-is_timed) ∙ (rw (sym c.Has-right.ensures ∙ c.if-has_right.left) refl)
+
+pub returns-then-kind-eq-TRUE : goal.returns-then-kind-eq-TRUE
+returns-then-kind-eq-TRUE c = true_arm _ _ _ _ _ _ _ _ c.args.affirmed c.if-kind-eq-TRUE.taken c.true_row.ensures
+
+pub offset_bounds-setup-named : goal.offset_bounds-setup-named
+offset_bounds-setup-named c = omega (arith, c.requires.numbered c.if-kind-eq-PREDICATE.taken)
+
+pub bounds-setup-named : goal.bounds-setup-named
+bounds-setup-named c = omega (arith, c.requires.numbered c.if-kind-eq-PREDICATE.taken)
+
+pub offset_bounds-scales-channel : goal.offset_bounds-scales-channel
+offset_bounds-scales-channel c = omega (arith, channel_known c.requires c.if-kind-eq-PREDICATE.taken, c.requires.recorded.channels.few_channels)
+
+pub bounds-scales-channel : goal.bounds-scales-channel
+bounds-scales-channel c = omega (arith, channel_known c.requires c.if-kind-eq-PREDICATE.taken, c.requires.recorded.channels.few_channels)
+
+pub predicate_row-requires : goal.predicate_row-requires
+predicate_row-requires c = record { rows_in_bounds = c.requires.room; leaf = leaf c.requires c.if-kind-eq-PREDICATE.taken }
+
+pub returns-then-kind-eq-PREDICATE : goal.returns-then-kind-eq-PREDICATE
+returns-then-kind-eq-PREDICATE c = predicate_arm _ _ _ _ _ _ _ _ c.args.affirmed c.if-kind-eq-PREDICATE.taken c.predicate_row.ensures
+
+pub signed_row-requires : goal.signed_row-requires
+signed_row-requires c =
+    let h = left_before c.requires (ap operator c.if-kind-eq-NOT.taken) in
+    (above c.requires _ h, c.requires.bounded _ h)
+
+pub returns-then-kind-eq-NOT : goal.returns-then-kind-eq-NOT
+returns-then-kind-eq-NOT c = not_arm _ _ _ _ _ _ _ _ c.args.affirmed c.if-kind-eq-NOT.taken c.signed_row.ensures
+
+pub joined_row-requires : goal.joined_row-requires
+joined_row-requires c =
+    let a = c.requires in
+    (above a _ (left_before a (joins (goal.at.joined_row-requires c).Then-not-is_timed)), above a _ (right_before a (joins (goal.at.joined_row-requires c).Then-not-is_timed)))
+
+pub returns-then-not-is_timed : goal.returns-then-not-is_timed
+returns-then-not-is_timed c =
+    joined_arm _ c.args.node c.args.window (operand (goal.at.returns-then-not-is_timed c).Start c.args.left) (operand (goal.at.returns-then-not-is_timed c).Start c.args.right) _ _ c.args.work.now c.args.affirmed (joins (goal.at.returns-then-not-is_timed c).Then-not-is_timed) (turned (goal.at.returns-then-not-is_timed c).After-is_timed) c.joined_row.ensures
+
+pub temporal_row-requires : goal.temporal_row-requires
+temporal_row-requires c =
+    let a = c.requires in
+    row_asks a (Row _) _ (left_before a (binds (goal.at.temporal_row-requires c).Then-has_right)) (right_before a (binds (goal.at.temporal_row-requires c).Then-has_right))
+
+pub temporal_row-requires-else-has_right : goal.temporal_row-requires-else-has_right
+temporal_row-requires-else-has_right c =
+    let a = c.requires in
+    row_asks a Absent _ tt (left_before a (looks (goal.at.temporal_row-requires-else-has_right c).Else-has_right))
+
+pub returns-then-has_right : goal.returns-then-has_right
+returns-then-has_right c =
+    binary_arm _ c.args.node c.args.window (operand (goal.at.returns-then-has_right c).Start c.args.left) (operand (goal.at.returns-then-has_right c).Start c.args.right) _ _ c.args.work.now c.args.affirmed (binds (goal.at.returns-then-has_right c).Then-has_right) (turned (goal.at.returns-then-has_right c).After-is_timed) c.temporal_row.ensures
+
+pub returns-else-has_right : goal.returns-else-has_right
+returns-else-has_right c =
+    unary_arm _ c.args.node c.args.window (operand (goal.at.returns-else-has_right c).Start c.args.left) (operand (goal.at.returns-else-has_right c).Start c.args.right) _ _ c.args.work.now c.args.affirmed (looks (goal.at.returns-else-has_right c).Else-has_right) (turned (goal.at.returns-else-has_right c).After-is_timed) c.temporal_row-else-has_right.ensures

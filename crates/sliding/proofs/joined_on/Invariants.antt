@@ -1,0 +1,19 @@
+-- The loop's invariant: what was handed in is joined with the places from `from` up to j.
+-- Assumes nothing.
+use mathlib.Core.Path.{◌≡◌}
+use Prim.Native.Nat.{◌+◌, ◌-◌, ◌≤◌, max}
+use mir.Syntax.{w64}
+use mir.Val.{to_z}
+use Rattle.lists.specs.Fold.{fold}
+use Rattle.logic.specs.Reading.{margin_extreme}
+use Rattle.rows.specs.Cells.{cell}
+use Rattle.sliding.proofs.joined_on.Given as goal
+
+abbrev pub invariant-loop-j : goal.invariant-loop-j
+invariant-loop-j l =
+    (l.from ≤ l.j)
+    × (l.j ≤ max l.from l.high)
+    × (to_z w64 l.joined-bits ≡ fold (margin_extreme l.e) (to_z w64 l.tail) (λ m. cell l.cells l.rows l.source (l.from + m)) (l.j - l.from))
+
+abbrev pub decreases-loop-j : goal.decreases-loop-j
+decreases-loop-j l = l.high - l.j

@@ -1,0 +1,21 @@
+-- The loop's invariant: `best` and `run` are what the places from i up to j give. Before the window there is nothing, after it nothing is added, and
+-- where the carried value is beaten nothing later counts.
+-- Assumes nothing.
+use mathlib.Core.Path.{◌≡◌}
+use Prim.Native.Nat.{◌-◌, ◌≤◌}
+use mir.Syntax.{w64}
+use mir.Val.{to_z}
+use Rattle.rows.specs.Cells.{cell}
+use Rattle.logic.specs.Formula.{dual}
+use Rattle.sliding.specs.Run.{over}
+use Rattle.temporal.proofs.bound_at.Given as goal
+
+abbrev pub invariant-loop-j : goal.invariant-loop-j
+invariant-loop-j l =
+    (l.i ≤ l.j)
+    × (l.first ≤ l.j)
+    × (to_z w64 l.best-bits ≡ best_at l.rows l.e l.cells l.left l.right l.i l.first l.end l.j)
+    × (to_z w64 l.run-bits ≡ over (dual l.e) (cell l.cells l.rows l.left) l.i l.j)
+
+abbrev pub decreases-loop-j : goal.decreases-loop-j
+decreases-loop-j l = l.end - l.j

@@ -1,0 +1,15 @@
+-- Each case of the answer writes what the definition gives for it.
+-- Assumes nothing.
+use mathlib.Core.Path.{◌≡◌}
+use mir.Val.{to_z, of_z}
+use mir.Syntax.{w64}
+use borrow.Author.Rules.{rules}
+use Rattle.varmityep.proofs.hand_distance.Goals as goal
+
+pub returns-in-Distance : goal.returns-in-Distance
+returns-in-Distance c =
+    let z : to_z w64 (of_z w64 c.in-Distance.distance) ≡ c.in-Distance.distance = search rules in
+    rw c.in-Distance.is (c.hand.ensures.number, rw z at c.hand.ensures.res)
+
+pub returns-in-Refused : goal.returns-in-Refused
+returns-in-Refused c = rw c.in-Refused.is (c.hand-in-Refused.ensures.number, c.hand-in-Refused.ensures.res)

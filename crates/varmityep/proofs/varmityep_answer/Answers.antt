@@ -1,0 +1,22 @@
+-- An array of `LINES` bytes holds all lines, and that is what is written.
+-- Assumes nothing.
+use mathlib.Core.Path.{sym}
+use native.Mathlib.Omega.{arith}
+use lib.ListN.{replicate}
+use lib.Seq.{length-take-le}
+use Rattle.printing.proofs.Printed.{place_inside, front_says}
+use Rattle.outcome_lines.specs.Printed.{LINES}
+use Rattle.varmityep.proofs.varmityep_answer.Lts as lts
+use Rattle.varmityep.proofs.varmityep_answer.Goals as goal
+
+pub slice_bounds-printed-end : goal.slice_bounds-printed-end
+slice_bounds-printed-end c = place_inside _ _ c.answer_lines-len.ensures.result_value (omega arith)
+
+pub slice_bounds-write_bytes-end : goal.slice_bounds-write_bytes-end
+slice_bounds-write_bytes-end c = sym (length-take-le _ _ (place_inside _ _ c.answer_lines-len.ensures.result_value (omega arith)))
+
+pub returns : goal.returns
+returns c =
+    let a = c.answer_lines-len in
+    let s = front_says (replicate LINES 0) _ a.ensures.0 a.ensures.1 in
+    (s.0, (rw s.0 a.ensures.1, rw s.1 at c.write_bytes.ensures))

@@ -1,0 +1,10 @@
+-- The flat numbers are the table and the predicates that the margin is asked of; its answer is what is written.
+-- Assumes nothing.
+use Rattle.varmityep.specs.Places.{card_from}
+use Rattle.varmityep.proofs.varmityep_margin.Goals as goal
+
+pub returns : goal.returns
+unfolding card_from
+returns c =
+    let e = rw (c.table_from-table.ensures, c.setup_from-setup.ensures) at c.margin-answer.ensures.answer in
+    (rw (c.hand_margin.ensures.number, e), (rw (c.table_from-table.ensures, c.setup_from-setup.ensures) at c.margin-answer.ensures.cells, rw e at c.hand_margin.ensures.res))

@@ -1,0 +1,17 @@
+-- A refusal is handed back at once. Else what was read is what is written, its places, scales and predicates as flat numbers.
+-- Assumes nothing.
+use mathlib.Core.Path.{refl}
+use Rattle.varmityep.proofs.Handed.{kept}
+use Rattle.varmityep.proofs.varmityep_sheet.Lts as lts
+use Rattle.varmityep.proofs.varmityep_sheet.Goals as goal
+
+pub returns-then-sheet-ne0 : goal.returns-then-sheet-ne0
+returns-then-sheet-ne0 c =
+    let s = c.read_sheet-sheet.ensures in
+    let n = rw s at c.if-sheet-ne0.true in
+    (rw s, (kept _ _ _ n, (kept _ _ _ n, (kept _ _ _ n, (kept _ _ _ n, kept _ _ _ n)))))
+
+pub returns : goal.returns
+returns c =
+    let s = c.read_sheet-sheet.ensures in
+    rw (rw s at c.if-sheet-ne0.false) (refl, (rw s at c.write_numbers.ensures, (rw (c.places_of-stand.ensures, s) at c.write_numbers-2.ensures, (rw s at c.write_scales.ensures, (rw s at c.write_predicates.ensures.ranges, rw s at c.write_predicates.ensures.ends)))))

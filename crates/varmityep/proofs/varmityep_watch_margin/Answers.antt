@@ -1,0 +1,20 @@
+-- The watch's answer, handed over as every margin is.
+-- Assumes nothing.
+use mathlib.Core.Path.{ap, ◌∙◌}
+use Rattle.refusals.proofs.First.{unless_some}
+use Rattle.margins.specs.Answers.{MarginOutcome, margin_outcome}
+use Rattle.varmityep.specs.Places.{margin_handed}
+use Rattle.varmityep.proofs.varmityep_watch_margin.Goals as goal
+
+pub returns : goal.returns
+returns c =
+    let m = c.tell-answer.ensures in
+    let h = c.hand_margin.ensures in
+    let a = margin_outcome c.tell-answer.result in
+    let old = c.args.res.now in (
+      λ t k W. h.0 ∙ ap (λ (o : MarginOutcome). o.number) (m.0 t k W),
+      (
+        λ t k W. h.1 ∙ ap (λ (o : MarginOutcome). margin_handed o old) (m.0 t k W),
+        (λ z. h.1 ∙ unless_some a.number _ old (λ e. z (h.0 ∙ e)), λ z. h.0 ∙ m.1 z),
+      ),
+    )

@@ -1,0 +1,7 @@
+-- The arrays are as long as a watch.
+-- Assumes nothing.
+use borrow.Author.Rules.{rules}
+use Rattle.watches.proofs.Watch.fresh.Goals as goal
+
+pub returns : goal.returns
+returns c = c.make.ensures.watch.0 (record { long = search rules; wide = search rules })
