@@ -46,7 +46,7 @@ passed [] n x e = record { each = λ j h. absurd (omega arith) }
 passed (c ∷ cs) n x e = elim (either c.passes) [
   | inl p ↦
       let r = passed cs (tail_numbered c cs n) (x.1 (x.0.sound (holds p))) (sym (first_passes c cs p) ∙ e) in
-      record { each = λ j. elim j [ zero ↦ λ h. x.0.sound (holds p) | suc i ↦ λ h. r.each i (le_of_suc-le-suc h) ] }
+      record { each = λ j. elim j as (λ k. k < suc (length cs) → (check_at (c ∷ cs) k).sentence) [ zero ↦ λ h. x.0.sound (holds p) | suc i ↦ λ h. r.each i (le_of_suc-le-suc h) ] }
   | inr p ↦ absurd (omega (arith, head_numbered c cs n, sym (first_fails c cs p) ∙ e))
 ]
 
@@ -70,7 +70,7 @@ refused (c ∷ cs) x h = elim (either c.passes) [
         listed = omega (arith, r.listed);
         number = r.number ∙ sym e;
         fails = r.fails;
-        earlier = λ j. elim j [ zero ↦ λ k. x.0.sound (holds p) | suc i ↦ λ k. r.earlier i (le_of_suc-le-suc k) ];
+        earlier = λ j. elim j as (λ k. k < suc r.place → (check_at (c ∷ cs) k).sentence) [ zero ↦ λ k. x.0.sound (holds p) | suc i ↦ λ k. r.earlier i (le_of_suc-le-suc k) ];
       }
   | inr p ↦ record {
     place = 0;
@@ -121,7 +121,7 @@ first_of_whole (c ∷ cs) ds n e = elim (either c.passes) [
 -- the second part's tests are exact where the whole first part holds
 pub exact_append : (cs ds : List Check) → AllExact cs → (Passed cs → AllExact ds) → AllExact (cs ++ ds)
 exact_append [] ds x y = y (record { each = λ j h. absurd (omega arith) })
-exact_append (c ∷ cs) ds x y = (x.0, λ s. exact_append cs ds (x.1 s) (λ p. y (record { each = λ j. elim j [ zero ↦ λ h. s | suc i ↦ λ h. p.each i (le_of_suc-le-suc h) ] })))
+exact_append (c ∷ cs) ds x y = (x.0, λ s. exact_append cs ds (x.1 s) (λ p. y (record { each = λ j. elim j as (λ k. k < suc (length cs) → (check_at (c ∷ cs) k).sentence) [ zero ↦ λ h. s | suc i ↦ λ h. p.each i (le_of_suc-le-suc h) ] })))
 
 -- and the other way round
 pub exact_parts : (cs ds : List Check) → AllExact (cs ++ ds) → AllExact cs × (Passed cs → AllExact ds)
