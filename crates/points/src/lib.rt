@@ -11,10 +11,10 @@ ghost use Rattle.recordings.specs.Accepted.{MOST_SCALE, InRange, Ends};
 ghost use Rattle.points.specs.Point.{signed};
 
 use logic::Extremum;
-use recordings::{Range, TOP};
+use recordings::Range;
 
 // No margin is further from zero than TOP.
-pub const BOTTOM: i64 = -TOP;
+pub const BOTTOM: i64 = -recordings::TOP;
 
 // The larger of two, or the smaller.
 pub fn extreme(e: Extremum, a: i64, b: i64) -> i64
@@ -32,7 +32,7 @@ pub fn over_nothing(e: Extremum) -> i64
 {
     match e {
         Extremum::Largest => BOTTOM,
-        Extremum::Smallest => TOP,
+        Extremum::Smallest => recordings::TOP,
     }
 }
 
@@ -52,8 +52,8 @@ fn distance_of(range: Range, value: i64) -> i64
     ensures { result ≡ distance TOP range value }
 {
     match range {
-        Range::Unset => TOP,
-        Range::Free => TOP,
+        Range::Unset => recordings::TOP,
+        Range::Free => recordings::TOP,
         Range::AtLeast(lo) => clearance_of(lo, value),
         Range::AtMost(hi) => clearance_of(value, hi),
         Range::Between(lo, hi) => numbers::smaller(
@@ -71,7 +71,7 @@ pub fn scaled_distance(range: Range, scale: u64, value: i64) -> i64
     let far = distance_of(range, value);
     let free = recordings::is_free(range);
     if free {
-        return TOP;
+        return recordings::TOP;
     }
     numbers::product(scale as i64, far)
 }

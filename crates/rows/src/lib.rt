@@ -11,7 +11,7 @@ ghost use Rattle.points.specs.Point.{signed};
 ghost use Rattle.rows.specs.Cells.{cell, Above, Bounded, Leaf};
 
 use logic::Extremum;
-use recordings::{Predicate, TOP};
+use recordings::Predicate;
 
 // The value of a row at place i.
 pub fn cell_at(rows: usize, work: &[i64], row: usize, i: usize) -> i64
@@ -39,7 +39,7 @@ pub fn true_row(rows: usize, affirmed: bool, work: &mut [i64], row: usize)
     ensures { work.new ≡ fill (row * rows) rows (λ i. signed affirmed (margin_nothing TOP Smallest)) work.old }
 {
     let from = row * rows;
-    let value = points::signed_of(affirmed, TOP);
+    let value = points::signed_of(affirmed, recordings::TOP);
     fill_same(rows, value, &mut work[from..]);
 }
 

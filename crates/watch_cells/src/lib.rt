@@ -18,7 +18,6 @@ ghost use Rattle.watch_cells.specs.State.{NUMBERS, CELLS, node_in, kept_window, 
 ghost use Rattle.watch_cells.specs.Taking.{IsDistance, LeafValue, IsPoint, TimedAsks, so_far, margin_after, newest_of, SameBeyond, Arriving, Taking, NodeTakes};
 
 use logic::Extremum;
-use recordings::TOP;
 use tables::Node;
 
 // Where the scales, the predicates' numbers and the nodes begin, and the nodes' cells.
@@ -60,15 +59,15 @@ fn distance_of(numbers: &[u64], cells: &[i64], values: &[i64], node: Node) -> i6
     let at = RANGES_AT + 2 * named;
     let channel = numbers[at + 1] as usize;
     if values.len() <= channel {
-        return TOP;
+        return recordings::TOP;
     }
     let scale = numbers[SCALES_AT + channel % recordings::MOST_CHANNELS];
     if recordings::MOST_SCALE < scale {
-        return TOP;
+        return recordings::TOP;
     }
     let range = flat::range_from(numbers[at], cells[2 * named], cells[2 * named + 1]);
     if !predicates::range_obeys(range) {
-        return TOP;
+        return recordings::TOP;
     }
     points::scaled_distance(range, scale, values[channel])
 }
@@ -88,7 +87,7 @@ fn opposite(a: i64) -> i64
     if numbers::at_most(points::BOTTOM, a) {
         numbers::negated(a)
     } else {
-        TOP
+        recordings::TOP
     }
 }
 
@@ -265,7 +264,7 @@ fn take_node(
 {
     let kind = kind_of(numbers, k);
     match kind {
-        tables::TRUE => take_leaf(cells, TOP, opening, k),
+        tables::TRUE => take_leaf(cells, recordings::TOP, opening, k),
         tables::PREDICATE => {
             let leaf = distance_of(numbers, cells, values, node_of(numbers, k));
             take_leaf(cells, leaf, opening, k)

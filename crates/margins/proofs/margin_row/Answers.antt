@@ -50,4 +50,4 @@ returns-else-node-eq-NOT c =
     let n = c.args.node in
     let rows = length c.args.times.now in
     let seen = ap (λ (v : Window). fill (c.args.k * rows) rows (node_value (card-of (goal.at.returns-else-node-eq-NOT c).Start) true v (operator n.kind) n (cell c.args.work.now rows n.left) (cell c.args.work.now rows n.right)) c.args.work.now) c.plain-window.ensures in
-    value_filled (card-of (goal.at.returns-else-node-eq-NOT c).Start) c.args.work.now c.args.k φ H n c.requires.ruled (no_not n.kind c.if-node-eq-NOT.false) (c.Node-row.ensures ∙ seen)
+    value_filled (card-of (goal.at.returns-else-node-eq-NOT c).Start) c.args.work.now c.args.k φ H n c.requires.ruled (no_not n.kind c.if-node-eq-NOT.false) (c.node_row.ensures ∙ seen)

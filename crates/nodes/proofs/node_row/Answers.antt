@@ -35,10 +35,10 @@ has-window : (c : Else-not-is_timed) → timed (own c.AS.After-is_timed) ≡ tru
 has-window c = sym c.is_timed.ensures ∙ not-false _ c.if-not-is_timed.left
 
 binds : (c : Then-has_right) → own c.AS.After-is_timed ≡ binary future (operator_extremum (own c.AS.After-is_timed))
-binds c = temporal_form _ (has-window c.AS.Else-not-is_timed) ∙ (rw (sym c.Has-right.ensures ∙ c.if-has_right.taken) refl)
+binds c = temporal_form _ (has-window c.AS.Else-not-is_timed) ∙ (rw (sym c.has_right.ensures ∙ c.if-has_right.taken) refl)
 
 looks : (c : Else-has_right) → own c.AS.After-is_timed ≡ unary future (operator_extremum (own c.AS.After-is_timed))
-looks c = temporal_form _ (has-window c.AS.Else-not-is_timed) ∙ (rw (sym c.Has-right.ensures ∙ c.if-has_right.left) refl)
+looks c = temporal_form _ (has-window c.AS.Else-not-is_timed) ∙ (rw (sym c.has_right.ensures ∙ c.if-has_right.left) refl)
 
 pub returns-then-kind-eq-TRUE : goal.returns-then-kind-eq-TRUE
 returns-then-kind-eq-TRUE c = true_arm _ _ _ _ _ _ _ _ c.args.affirmed c.if-kind-eq-TRUE.taken c.true_row.ensures

@@ -66,7 +66,7 @@ loop-i-smaller c = omega arith
 pub loop-i-preserved : goal.loop-i-preserved
 loop-i-preserved c =
     let h = c.loop-i.invariant in
-    (omega arith, fill_more _ _ _ h.1 (back_ok c.Signed-of.result c.Signed-of.type_inv ∙ c.Signed-of.ensures ∙ ap (signed c.args.affirmed) (far (goal.at.loop-i-preserved c).After-scaled_distance-far)), simp length-set h.2)
+    (omega arith, fill_more _ _ _ h.1 (back_ok c.signed_of-value.result c.signed_of-value.type_inv ∙ c.signed_of-value.ensures ∙ ap (signed c.args.affirmed) (far (goal.at.loop-i-preserved c).After-scaled_distance-far)), simp length-set h.2)
 
 pub shape_of-part : goal.shape_of-part
 shape_of-part c = omega arith

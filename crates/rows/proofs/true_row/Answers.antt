@@ -7,5 +7,5 @@ use Rattle.rows.proofs.true_row.Goals as goal
 
 pub returns : goal.returns
 returns c =
-    let v = c.Signed-of in
+    let v = c.signed_of-value in
     fill_part _ _ _ _ c.requires (c.fill_same.ensures ∙ fill_cong _ _ _ _ _ (λ i h. back_ok v.result v.type_inv ∙ v.ensures))

@@ -11,8 +11,8 @@ returns-then-kind-eq-PREDICATE c = rw c.if-kind-eq-PREDICATE.true
 
 pub returns-then-has_left : goal.returns-then-has_left
 returns-then-has_left c =
-    rw (left_is c.args.kind, ne_eqb c.args.kind predicate_kind c.if-kind-eq-PREDICATE.false, sym c.Has-left.ensures ∙ c.if-has_left.true)
+    rw (left_is c.args.kind, ne_eqb c.args.kind predicate_kind c.if-kind-eq-PREDICATE.false, sym c.has_left.ensures ∙ c.if-has_left.true)
 
 pub returns : goal.returns
 returns c =
-    rw (left_is c.args.kind, ne_eqb c.args.kind predicate_kind c.if-kind-eq-PREDICATE.false, sym c.Has-left.ensures ∙ c.if-has_left.false)
+    rw (left_is c.args.kind, ne_eqb c.args.kind predicate_kind c.if-kind-eq-PREDICATE.false, sym c.has_left.ensures ∙ c.if-has_left.false)

@@ -19,4 +19,4 @@ node_row-requires c = due_asks c.requires.1 _ _ c.left_row-left.ensures c.row_fo
 pub returns : goal.returns
 returns c =
     λ t d.
-    due_filled d _ _ _ c.row_window-window.ensures c.left_row-left.ensures c.row_for-right.ensures c.Node-row.ensures
+    due_filled d _ _ _ c.row_window-window.ensures c.left_row-left.ensures c.row_for-right.ensures c.node_row.ensures
