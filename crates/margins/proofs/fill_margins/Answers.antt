@@ -12,16 +12,13 @@ use Rattle.margins.proofs.Filled.{filled_none, filled_holds, holds_bounded, fill
 use Rattle.margins.proofs.fill_margins.Goals as goal
 use Rattle.margins.proofs.fill_margins.Goals.{At-loop-k, Start}
 
-abbrev card-of : Start → Card
-card-of c = card c.args.setup c.args.times.now c.args.values.now
-
 -- the rows before k hold the margins of their nodes
 hold : (c : At-loop-k) → c.loop-k.k < c.args.table.count → Holds (card-of (start c)) c.loop-k.work c.loop-k.k (tree c.args.table.nodes)
 hold c h =
-    filled_holds (card-of c.AS.Start) (tree c.args.table.nodes) c.loop-k.k c.args.work.now (omega (arith, c.requires.room, earlier_row c.loop-k.k c.args.table.count (length c.args.times.now) h)) c.loop-k.invariant.1
+    filled_holds (card c.args.setup c.args.times.now c.args.values.now) (tree c.args.table.nodes) c.loop-k.k c.args.work.now (omega (arith, c.requires.room, earlier_row c.loop-k.k c.args.table.count (length c.args.times.now) h)) c.loop-k.invariant.1
 
 pub loop-k-init : goal.loop-k-init
-loop-k-init c = (omega arith, filled_none (card-of (goal.at.loop-k-init c).Start) (tree c.args.table.nodes) c.args.work.now, refl)
+loop-k-init c = (omega arith, filled_none (card c.args.setup c.args.times.now c.args.values.now) (tree c.args.table.nodes) c.args.work.now, refl)
 
 pub bounds-nodes-k : goal.bounds-nodes-k
 bounds-nodes-k c = omega (arith, c.requires.sound.ruled.few_nodes)
@@ -36,7 +33,7 @@ margin_row-requires c =
       named = c.requires.sound.named.set c.loop-k.k t;
       recorded = c.requires.sound.recorded;
       room = omega (arith, c.requires.room, earlier_row c.loop-k.k c.args.table.count (length c.args.times.now) t);
-      bounded = holds_bounded (card-of (goal.at.margin_row-requires c).Start) (tree c.args.table.nodes) c.loop-k.k c.requires.sound.recorded H;
+      bounded = holds_bounded (card c.args.setup c.args.times.now c.args.values.now) (tree c.args.table.nodes) c.loop-k.k c.requires.sound.recorded H;
     }
 
 pub overflow_add-k : goal.overflow_add-k
@@ -50,7 +47,7 @@ loop-k-preserved c =
     let t = c.loop-k-test.true in
     let k = c.loop-k.k in (
       omega arith,
-      filled_next (card-of (goal.at.loop-k-preserved c).Start) c.args.table.nodes k c.args.work.now (c.requires.sound.ruled.each k t) c.loop-k.invariant.1 (c.margin_row.ensures (tree c.args.table.nodes) (hold (goal.at.loop-k-preserved c).At-loop-k t)),
+      filled_next (card c.args.setup c.args.times.now c.args.values.now) c.args.table.nodes k c.args.work.now (c.requires.sound.ruled.each k t) c.loop-k.invariant.1 (c.margin_row.ensures (tree c.args.table.nodes) (hold (goal.at.loop-k-preserved c).At-loop-k t)),
       c.margin_row.auto.1.1.1.1.0 ∙ c.loop-k.invariant.2,
     )
 

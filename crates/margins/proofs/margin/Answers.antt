@@ -12,13 +12,10 @@ use Rattle.margins.proofs.Answers.{accepted, few_cells, refused_outcome, accepte
 use Rattle.margins.proofs.margin.Goals as goal
 use Rattle.margins.proofs.margin.Goals.{After-work-1, Else-number-ne0, Start}
 
-abbrev card-of : Start → Card
-card-of c = card c.args.setup c.args.times.now c.args.values.now
-
 -- what number 0 says
-fine : (c : Else-number-ne0) → Sound (card-of c.AS.Start) c.args.table × (c.args.table.count * length c.args.times.now ≤ length c.args.work.now)
+fine : (c : Else-number-ne0) → Sound (card c.args.setup c.args.times.now c.args.values.now) c.args.table × (c.args.table.count * length c.args.times.now ≤ length c.args.work.now)
 fine c =
-    accepted (card-of c.AS.Start) c.args.table (length c.args.work.now) (sym c.refusal_of-number.ensures ∙ c.if-number-ne0.false)
+    accepted (card c.args.setup c.args.times.now c.args.values.now) c.args.table (length c.args.work.now) (sym c.refusal_of-number.ensures ∙ c.if-number-ne0.false)
 
 -- the root's row lies in the cells, which are few
 last_row : (c : After-work-1) → ((c.args.table.count - 1) * length c.args.times.now < length c.args.work.now) × ((c.args.table.count - 1) * length c.args.times.now ≤ 262_144)
@@ -34,7 +31,7 @@ last_row c =
 pub returns-then-number-ne0 : goal.returns-then-number-ne0
 returns-then-number-ne0 c =
     let e = c.refusal_of-number.ensures in
-    record { answer = refused_outcome (card-of (goal.at.returns-then-number-ne0 c).Start) c.args.table (length c.args.work.now) _ e c.if-number-ne0.true; cells = cells_kept (card-of (goal.at.returns-then-number-ne0 c).Start) c.args.table c.args.work.now _ e c.if-number-ne0.true }
+    record { answer = refused_outcome (card c.args.setup c.args.times.now c.args.values.now) c.args.table (length c.args.work.now) _ e c.if-number-ne0.true; cells = cells_kept (card c.args.setup c.args.times.now c.args.values.now) c.args.table c.args.work.now _ e c.if-number-ne0.true }
 
 pub fill_margins-requires : goal.fill_margins-requires
 fill_margins-requires c = let t = fine (goal.at.fill_margins-requires c).Else-number-ne0 in record { sound = t.0; room = t.1 }
@@ -55,4 +52,4 @@ pub returns : goal.returns
 returns c =
     let f = fine (goal.at.returns c).Else-number-ne0 in
     let z = sym c.refusal_of-number.ensures ∙ c.if-number-ne0.false in
-    let g = c.fill_margins.ensures in record { answer = accepted_outcome (card-of (goal.at.returns c).Start) c.args.table (length c.args.work.now) _ z (back_ok _ c.value-1.given ∙ root_cell (card-of (goal.at.returns c).Start) c.args.table c.args.work.now f.0.ruled.some_node f.0.recorded.lengths.some_row f.1 g); cells = cells_filled (card-of (goal.at.returns c).Start) c.args.table c.args.work.now z g }
+    let g = c.fill_margins.ensures in record { answer = accepted_outcome (card c.args.setup c.args.times.now c.args.values.now) c.args.table (length c.args.work.now) _ z (back_ok _ c.value-1.given ∙ root_cell (card c.args.setup c.args.times.now c.args.values.now) c.args.table c.args.work.now f.0.ruled.some_node f.0.recorded.lengths.some_row f.1 g); cells = cells_filled (card c.args.setup c.args.times.now c.args.values.now) c.args.table c.args.work.now z g }

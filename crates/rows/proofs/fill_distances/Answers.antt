@@ -27,7 +27,7 @@ value c = c.requires.leaf.in_range.each _ (place c)
 -- its distance
 far : (c : After-scaled_distance-far) → back c.scaled_distance-far.result ≡ scaled_distance TOP c.args.scale c.args.predicate.range (get_or c.args.values.now (c.loop-i.i * c.args.channels + c.args.predicate.channel) (pos 0))
 far c =
-    back_ok c.scaled_distance-far.result c.scaled_distance-far.type_inv ∙ c.scaled_distance-far.ensures ∙ ap (scaled_distance TOP c.args.scale c.args.predicate.range) (back_is (fit (value c.AS.In-loop-i)))
+    back_ok c.scaled_distance-far.result c.scaled_distance-far.type_inv ∙ c.scaled_distance-far.ensures ∙ ap (scaled_distance TOP c.args.scale c.args.predicate.range) (back_is (fit (c.requires.leaf.in_range.each _ (omega (arith, mul-le-mul_right c.args.channels c.loop-i-test.true)))))
 
 pub loop-i-init : goal.loop-i-init
 loop-i-init c = (omega arith, fill_none _ _ _, refl)
@@ -66,7 +66,7 @@ loop-i-smaller c = omega arith
 pub loop-i-preserved : goal.loop-i-preserved
 loop-i-preserved c =
     let h = c.loop-i.invariant in
-    (omega arith, fill_more _ _ _ h.1 (back_ok c.signed_of-value.result c.signed_of-value.type_inv ∙ c.signed_of-value.ensures ∙ ap (signed c.args.affirmed) (far (goal.at.loop-i-preserved c).After-scaled_distance-far)), simp length-set h.2)
+    (omega arith, fill_more _ _ _ h.1 (back_ok c.signed_of.result c.signed_of.type_inv ∙ c.signed_of.ensures ∙ ap (signed c.args.affirmed) (far (goal.at.loop-i-preserved c).After-scaled_distance-far)), simp length-set h.2)
 
 pub shape_of-part : goal.shape_of-part
 shape_of-part c = omega arith

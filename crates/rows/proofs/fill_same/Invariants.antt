@@ -3,13 +3,11 @@
 use mathlib.Core.Path.{◌≡◌}
 use Prim.Native.Nat.{◌-◌, ◌≤◌}
 use lib.ListN.{length}
-use mir.Syntax.{w64}
-use mir.Val.{to_z}
 use Rattle.lists.specs.Fill.{fill}
 use Rattle.rows.proofs.fill_same.Given as goal
 
 abbrev pub invariant-loop-i : goal.invariant-loop-i
-invariant-loop-i l = (l.i ≤ l.rows) × (l.part ≡ fill 0 l.i (λ j. to_z w64 l.value) l.initial.part) × (length l.part ≡ length l.initial.part)
+invariant-loop-i l = (l.i ≤ l.rows) × (l.part ≡ fill 0 l.i (λ j. l.value) l.initial.part) × (length l.part ≡ length l.initial.part)
 
 abbrev pub decreases-loop-i : goal.decreases-loop-i
 decreases-loop-i l = l.rows - l.i

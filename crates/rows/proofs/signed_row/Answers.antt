@@ -49,7 +49,7 @@ loop-i-smaller c = omega arith
 pub loop-i-preserved : goal.loop-i-preserved
 loop-i-preserved c =
     let h = c.loop-i.invariant in
-    (omega arith, fill_next _ _ _ _ h.1 (back_ok c.signed_of-value.result c.signed_of-value.type_inv ∙ c.signed_of-value.ensures ∙ ap (signed c.args.affirmed) (value (goal.at.loop-i-preserved c).After-cell_at-value)), simp length-set h.2)
+    (omega arith, fill_next _ _ _ _ h.1 (back_ok c.signed_of.result c.signed_of.type_inv ∙ c.signed_of.ensures ∙ ap (signed c.args.affirmed) (value (goal.at.loop-i-preserved c).After-cell_at-value)), simp length-set h.2)
 
 pub shape_of-work : goal.shape_of-work
 shape_of-work c = omega arith

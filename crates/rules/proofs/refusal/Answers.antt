@@ -15,15 +15,12 @@ use Rattle.rules.proofs.Refusals.{table_same, table_passed}
 use Rattle.rules.proofs.refusal.Goals as goal
 use Rattle.rules.proofs.refusal.Goals.{Else-earlier-ne0, Else-not-five, Else-not-seven, Else-not-six, Start}
 
-abbrev card-of : Start → Card
-card-of c = card c.args.setup c.args.times.now c.args.values.now
-
 -- past the first branch nothing applies to the table, so the list of the samples decides
-table_none : (c : Else-earlier-ne0) → first (table_checks (card-of c.AS.Start) c.args.table) ≡ 0
+table_none : (c : Else-earlier-ne0) → first (table_checks (card c.args.setup c.args.times.now c.args.values.now) c.args.table) ≡ 0
 table_none c = sym (table_same c.args.setup c.args.times.now c.args.values.now c.args.table) ∙ sym c.table_refusal-earlier.ensures ∙ c.if-earlier-ne0.false
 
-behind : (c : Else-earlier-ne0) → first (checks (card-of c.AS.Start) c.args.table) ≡ first (sample_checks (card-of c.AS.Start))
-behind c = first_append (table_checks (card-of c.AS.Start) c.args.table) (sample_checks (card-of c.AS.Start)) tt (table_none c)
+behind : (c : Else-earlier-ne0) → first (checks (card c.args.setup c.args.times.now c.args.values.now) c.args.table) ≡ first (sample_checks (card c.args.setup c.args.times.now c.args.values.now))
+behind c = first_append (table_checks (card c.args.setup c.args.times.now c.args.values.now) c.args.table) (sample_checks (card c.args.setup c.args.times.now c.args.values.now)) tt (table_none c)
 
 passed-5 : (c : Else-not-five) → lengths_obey c.args.setup.scales.count c.args.setup.channels (length c.args.times.now) (length c.args.values.now) ≡ true
 passed-5 c = sym c.lengths_obey-five.ensures ∙ not-false _ c.if-not-five.false-raw
@@ -37,7 +34,7 @@ passed-7 c = sym c.values_obey-seven.ensures ∙ not-false _ c.if-not-seven.fals
 pub returns-then-earlier-ne0 : goal.returns-then-earlier-ne0
 returns-then-earlier-ne0 c =
     let e = c.table_refusal-earlier.ensures ∙ table_same c.args.setup c.args.times.now c.args.values.now c.args.table in
-    e ∙ sym (first_stays (table_checks (card-of (goal.at.returns-then-earlier-ne0 c).Start) c.args.table) (sample_checks (card-of (goal.at.returns-then-earlier-ne0 c).Start)) (λ z. c.if-earlier-ne0.true (e ∙ z)))
+    e ∙ sym (first_stays (table_checks (card c.args.setup c.args.times.now c.args.values.now) c.args.table) (sample_checks (card c.args.setup c.args.times.now c.args.values.now)) (λ z. c.if-earlier-ne0.true (e ∙ z)))
 
 pub lengths_obey-five-requires : goal.lengths_obey-five-requires
 lengths_obey-five-requires c = ((table_passed _ _ (table_none (goal.at.lengths_obey-five-requires c).Else-earlier-ne0)).each 1 (omega arith)).few_channels

@@ -23,35 +23,31 @@ use Rattle.recordings.specs.Accepted.{LONGEST_STEP, LARGEST_DRIFT}
 use Rattle.verdicts.proofs.verdict.Goals as goal
 use Rattle.verdicts.proofs.verdict.Goals.{After-refusal-late, After-shared_slice_known-1, Else-early-ne0, Else-late-ne0, Else-work-count, Start}
 
--- what is handed over
-abbrev card-of : Start → Card
-card-of c = card c.args.setup c.args.times.now c.args.values.now
-
 -- past the first branch refusals 3 to 7 do not apply
-early-zero : (c : Else-early-ne0) → first (checks (card-of c.AS.Start) c.args.table) ≡ 0
+early-zero : (c : Else-early-ne0) → first (checks (card c.args.setup c.args.times.now c.args.values.now) c.args.table) ≡ 0
 early-zero c = sym c.refusal-early.ensures ∙ c.if-early-ne0.false
 
-sound-at : (c : Else-early-ne0) → Sound (card-of c.AS.Start) c.args.table
-sound-at c = sound (card-of c.AS.Start) c.args.table (early-zero c)
+sound-at : (c : Else-early-ne0) → Sound (card c.args.setup c.args.times.now c.args.values.now) c.args.table
+sound-at c = sound (card c.args.setup c.args.times.now c.args.values.now) c.args.table (early-zero c)
 
 -- past the third refusals 9 to 11 do not either
-late-zero : (c : Else-late-ne0) → first (sampling-checks (card-of c.AS.Start) c.args.step c.args.drift) ≡ 0
+late-zero : (c : Else-late-ne0) → first (sampling-checks (card c.args.setup c.args.times.now c.args.values.now) c.args.step c.args.drift) ≡ 0
 late-zero c = sym c.refusal-late.ensures ∙ c.if-late-ne0.false
 
 small_at : (c : Else-late-ne0) → (c.args.step ≤ LONGEST_STEP) × (c.args.drift ≤ LARGEST_DRIFT)
 small_at c =
-    let a = accepted (card-of c.AS.Start) _ _ (sound-at c.AS.Else-early-ne0).recorded (late-zero c) in
+    let a = accepted (card c.args.setup c.args.times.now c.args.values.now) _ _ (sound-at c.AS.Else-early-ne0).recorded (late-zero c) in
     (a.stepped.short_step, a.stepped.small_drift)
 
-ready_at : (c : Else-late-ne0) → Ready (card-of c.AS.Start) c.args.table c.args.step (length c.args.work.now)
+ready_at : (c : Else-late-ne0) → Ready (card c.args.setup c.args.times.now c.args.values.now) c.args.table c.args.step (length c.args.work.now)
 ready_at c = record { sound = sound-at c.AS.Else-early-ne0; step_bound = (small_at c).0; room = c.if-work-count.false }
 
 pub returns-then-early-ne0 : goal.returns-then-early-ne0
 returns-then-early-ne0 c =
     let e = c.refusal-early.ensures in
-    let n : first (checks (card-of (goal.at.returns-then-early-ne0 c).Start) c.args.table) ≡ 0 → ⊥ = λ z. c.if-early-ne0.true (e ∙ z) in
-    let r : verdict_refusal (card-of (goal.at.returns-then-early-ne0 c).Start) c.args.table c.args.step c.args.drift (length c.args.work.now) ≡ c.refusal-early.result = refused_early (card-of (goal.at.returns-then-early-ne0 c).Start) c.args.table c.args.step c.args.drift (length c.args.work.now) n ∙ sym e in
-    record { answer = refused_outcome (card-of (goal.at.returns-then-early-ne0 c).Start) c.args.table c.args.step c.args.drift (length c.args.work.now) _ r c.if-early-ne0.true; cells = cells_kept (card-of (goal.at.returns-then-early-ne0 c).Start) c.args.table c.args.step c.args.drift c.args.work.now _ r c.if-early-ne0.true }
+    let n : first (checks (card c.args.setup c.args.times.now c.args.values.now) c.args.table) ≡ 0 → ⊥ = λ z. c.if-early-ne0.true (e ∙ z) in
+    let r : verdict_refusal (card c.args.setup c.args.times.now c.args.values.now) c.args.table c.args.step c.args.drift (length c.args.work.now) ≡ c.refusal-early.result = refused_early (card c.args.setup c.args.times.now c.args.values.now) c.args.table c.args.step c.args.drift (length c.args.work.now) n ∙ sym e in
+    record { answer = refused_outcome (card c.args.setup c.args.times.now c.args.values.now) c.args.table c.args.step c.args.drift (length c.args.work.now) _ r c.if-early-ne0.true; cells = cells_kept (card c.args.setup c.args.times.now c.args.values.now) c.args.table c.args.step c.args.drift c.args.work.now _ r c.if-early-ne0.true }
 
 pub overflow_mul-count : goal.overflow_mul-count
 overflow_mul-count c = omega (arith, (sound-at (goal.at.overflow_mul-count c).Else-early-ne0).ruled.few_nodes)
@@ -61,17 +57,17 @@ overflow_mul-count-2 c = omega (arith, few_cells c.args.table.count (length c.ar
 
 pub returns-then-work-count : goal.returns-then-work-count
 returns-then-work-count c =
-    let r = refused_room (card-of (goal.at.returns-then-work-count c).Start) c.args.table c.args.step c.args.drift (length c.args.work.now) (early-zero (goal.at.returns-then-work-count c).Else-early-ne0) c.if-work-count.true in
+    let r = refused_room (card c.args.setup c.args.times.now c.args.values.now) c.args.table c.args.step c.args.drift (length c.args.work.now) (early-zero (goal.at.returns-then-work-count c).Else-early-ne0) c.if-work-count.true in
     let n : ◌≡◌ {A = ℕ} 8 0 → ⊥ = λ z. omega arith in
-    record { answer = refused_outcome (card-of (goal.at.returns-then-work-count c).Start) c.args.table c.args.step c.args.drift (length c.args.work.now) _ r n; cells = cells_kept (card-of (goal.at.returns-then-work-count c).Start) c.args.table c.args.step c.args.drift c.args.work.now _ r n }
+    record { answer = refused_outcome (card c.args.setup c.args.times.now c.args.values.now) c.args.table c.args.step c.args.drift (length c.args.work.now) _ r n; cells = cells_kept (card c.args.setup c.args.times.now c.args.values.now) c.args.table c.args.step c.args.drift c.args.work.now _ r n }
 
 pub refusal-late-requires : goal.refusal-late-requires
 refusal-late-requires c = (sound-at (goal.at.refusal-late-requires c).Else-early-ne0).recorded
 
 pub returns-then-late-ne0 : goal.returns-then-late-ne0
 returns-then-late-ne0 c =
-    let r = refused_late (card-of (goal.at.returns-then-late-ne0 c).Start) c.args.table c.args.step c.args.drift (length c.args.work.now) (early-zero (goal.at.returns-then-late-ne0 c).Else-early-ne0) c.if-work-count.false ∙ sym c.refusal-late.ensures in
-    record { answer = refused_outcome (card-of (goal.at.returns-then-late-ne0 c).Start) c.args.table c.args.step c.args.drift (length c.args.work.now) _ r c.if-late-ne0.true; cells = cells_kept (card-of (goal.at.returns-then-late-ne0 c).Start) c.args.table c.args.step c.args.drift c.args.work.now _ r c.if-late-ne0.true }
+    let r = refused_late (card c.args.setup c.args.times.now c.args.values.now) c.args.table c.args.step c.args.drift (length c.args.work.now) (early-zero (goal.at.returns-then-late-ne0 c).Else-early-ne0) c.if-work-count.false ∙ sym c.refusal-late.ensures in
+    record { answer = refused_outcome (card c.args.setup c.args.times.now c.args.values.now) c.args.table c.args.step c.args.drift (length c.args.work.now) _ r c.if-late-ne0.true; cells = cells_kept (card c.args.setup c.args.times.now c.args.values.now) c.args.table c.args.step c.args.drift c.args.work.now _ r c.if-late-ne0.true }
 
 pub strong_rows-requires : goal.strong_rows-requires
 strong_rows-requires c = ready_at (goal.at.strong_rows-requires c).Else-late-ne0
@@ -98,9 +94,9 @@ pub returns : goal.returns
 unfolding strong
 returns c =
     let w = c.strong_rows.ensures in
-    let r : verdict_refusal (card-of (goal.at.returns c).Start) c.args.table c.args.step c.args.drift (length c.args.work.now) ≡ 0 = refused_late (card-of (goal.at.returns c).Start) c.args.table c.args.step c.args.drift (length c.args.work.now) (early-zero (goal.at.returns c).After-shared_slice_known-1) c.if-work-count.false ∙ late-zero (goal.at.returns c).Else-work-count in
-    let h = c.cell_at-hold.ensures ∙ root_cell (card-of (goal.at.returns c).Start) c.args.table c.args.step c.args.work.now (ready_at (goal.at.returns c).Else-work-count) w true in
-    let f = c.cell_at-fail.ensures ∙ root_cell (card-of (goal.at.returns c).Start) c.args.table c.args.step c.args.work.now (ready_at (goal.at.returns c).Else-work-count) w false in
+    let r : verdict_refusal (card c.args.setup c.args.times.now c.args.values.now) c.args.table c.args.step c.args.drift (length c.args.work.now) ≡ 0 = refused_late (card c.args.setup c.args.times.now c.args.values.now) c.args.table c.args.step c.args.drift (length c.args.work.now) (early-zero (goal.at.returns c).After-shared_slice_known-1) c.if-work-count.false ∙ late-zero (goal.at.returns c).Else-work-count in
+    let h = c.cell_at-hold.ensures ∙ root_cell (card c.args.setup c.args.times.now c.args.values.now) c.args.table c.args.step c.args.work.now (ready_at (goal.at.returns c).Else-work-count) w true in
+    let f = c.cell_at-fail.ensures ∙ root_cell (card c.args.setup c.args.times.now c.args.values.now) c.args.table c.args.step c.args.work.now (ready_at (goal.at.returns c).Else-work-count) w false in
     let bh = back_ok _ c.cell_at-hold.type_inv ∙ h in
     let bf = back_ok _ c.cell_at-fail.type_inv ∙ f in
-    record { answer = accepted_outcome (card-of (goal.at.returns c).Start) c.args.table c.args.step c.args.drift (length c.args.work.now) r (c.decided.ensures ∙ ap₂ (decide c.args.drift) bh bf) bh bf; cells = cells_filled (card-of (goal.at.returns c).Start) c.args.table c.args.step c.args.drift c.args.work.now r w }
+    record { answer = accepted_outcome (card c.args.setup c.args.times.now c.args.values.now) c.args.table c.args.step c.args.drift (length c.args.work.now) r (c.decided.ensures ∙ ap₂ (decide c.args.drift) bh bf) bh bf; cells = cells_filled (card c.args.setup c.args.times.now c.args.values.now) c.args.table c.args.step c.args.drift c.args.work.now r w }
