@@ -26,7 +26,7 @@ loop-k-init c =
     let n : length r.new.1.1.1.0 ≡ VALUES = search rules in (
       omega arith,
       c.requires,
-      stored c.args.text.now c.args.sheet c.requires.checked _ (whole_behind c.args.text.now c.args.sheet.rows) r.result r.ensures.0 _ _ r.ensures.1.0 m _ _ r.ensures.1.1 n,
+      stored c.args.text.now c.args.sheet c.requires.checked _ (whole_behind c.args.text.now c.args.sheet.rows) r.result r.ensures.answer _ _ r.ensures.times.0 m _ _ r.ensures.times.1 n,
       rw c.refused-none.ensures (fill_none 0 _ no_entries),
     )
 

@@ -31,7 +31,7 @@ value-test : (c : After-value_obeys) → value_obeys c.args.value ≡ c.value_ob
 value-test c = sym (c.value_obeys.ensures ∙ ap value_obeys (back_is c.ranges.value))
 
 value_passes : (c : Else-not-value_obeys) → value_obeys c.args.value ≡ true
-value_passes c = value-test c.AS.After-value_obeys ∙ not-false _ c.if-not-value_obeys.false-raw
+value_passes c = ap value_obeys (sym (back_is c.ranges.value)) ∙ sym c.value_obeys.ensures ∙ not-false _ c.if-not-value_obeys.false-raw
 
 refused_as : (c : Start) (n : ℕ) → distance_refusal c.args.predicate c.args.scale c.args.value ≡ suc n → distance_outcome (Refused (suc n)) ≡ distance_judged c.args.predicate c.args.scale c.args.value
 refused_as c n e = refused_outcome c.args.predicate c.args.scale c.args.value (suc n) e (λ z. omega arith)
@@ -46,12 +46,11 @@ pub returns-then-not-value_obeys : goal.returns-then-not-value_obeys
 returns-then-not-value_obeys c = refused_as (goal.at.returns-then-not-value_obeys c).Start 6 (refused_value _ _ _ (predicate-passes (goal.at.returns-then-not-value_obeys c).Else-not-predicate_obeys) (scale_passes (goal.at.returns-then-not-value_obeys c).Else-not-scale_obeys) (value-test (goal.at.returns-then-not-value_obeys c).After-value_obeys ∙ not-true _ c.if-not-value_obeys.true-raw))
 
 pub scaled_distance-requires : goal.scaled_distance-requires
-scaled_distance-requires c =
-    (
-      in_back (value_in_range c.args.value (holds (value_passes (goal.at.scaled_distance-requires c).Else-not-value_obeys))),
-      (proper c.args.predicate MOST_CHANNELS (holds (predicate-passes (goal.at.scaled_distance-requires c).Else-not-predicate_obeys))).ends,
-      (scale_is c.args.scale (holds (scale_passes (goal.at.scaled_distance-requires c).Else-not-scale_obeys))).most,
-    )
+scaled_distance-requires c = (
+  in_back (value_in_range c.args.value (holds (value_passes (goal.at.scaled_distance-requires c).Else-not-value_obeys))),
+  (proper c.args.predicate MOST_CHANNELS (holds (predicate-passes (goal.at.scaled_distance-requires c).Else-not-predicate_obeys))).ends,
+  (scale_is c.args.scale (holds (scale_passes (goal.at.scaled_distance-requires c).Else-not-scale_obeys))).most,
+)
 
 pub returns : goal.returns
 returns c =

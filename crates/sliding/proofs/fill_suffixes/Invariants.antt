@@ -15,7 +15,7 @@ invariant-loop-j l =
     × (l.j ≤ l.high)
     × (l.work ≡ suffixed l.e (cell l.initial.work l.rows l.source) (l.row * l.rows) l.j l.high l.initial.work)
     × (length l.work ≡ length l.initial.work)
-    × (to_z w64 l.suffix-bits ≡ over l.e (cell l.initial.work l.rows l.source) l.j l.high)
+    × (l.suffix ≡ over l.e (cell l.initial.work l.rows l.source) l.j l.high)
 
 abbrev pub decreases-loop-j : goal.decreases-loop-j
 decreases-loop-j l = l.j

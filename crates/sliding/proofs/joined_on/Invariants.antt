@@ -13,7 +13,7 @@ abbrev pub invariant-loop-j : goal.invariant-loop-j
 invariant-loop-j l =
     (l.from ≤ l.j)
     × (l.j ≤ max l.from l.high)
-    × (to_z w64 l.joined-bits ≡ fold (margin_extreme l.e) (to_z w64 l.tail) (λ m. cell l.cells l.rows l.source (l.from + m)) (l.j - l.from))
+    × (l.joined ≡ fold (margin_extreme l.e) l.tail (λ m. cell l.cells l.rows l.source (l.from + m)) (l.j - l.from))
 
 abbrev pub decreases-loop-j : goal.decreases-loop-j
 decreases-loop-j l = l.high - l.j

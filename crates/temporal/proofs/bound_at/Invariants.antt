@@ -14,8 +14,8 @@ abbrev pub invariant-loop-j : goal.invariant-loop-j
 invariant-loop-j l =
     (l.i ≤ l.j)
     × (l.first ≤ l.j)
-    × (to_z w64 l.best-bits ≡ best_at l.rows l.e l.cells l.left l.right l.i l.first l.end l.j)
-    × (to_z w64 l.run-bits ≡ over (dual l.e) (cell l.cells l.rows l.left) l.i l.j)
+    × (l.best ≡ best_at l.rows l.e l.cells l.left l.right l.i l.first l.end l.j)
+    × (l.run ≡ over (dual l.e) (cell l.cells l.rows l.left) l.i l.j)
 
 abbrev pub decreases-loop-j : goal.decreases-loop-j
 decreases-loop-j l = l.end - l.j

@@ -1,5 +1,6 @@
 -- The loop's invariant is `SoFar`: the first i places are filled, and the edges and what slides along are those of the place before.
 -- Assumes nothing.
+use borrow.Author.Rules.{rules}
 use mathlib.Core.Path.{refl, ◌∙◌}
 use Prim.Native.Nat.{◌-◌}
 use native.Mathlib.Omega.{arith}
@@ -47,7 +48,7 @@ pub at_place-requires : goal.at_place-requires
 at_place-requires c =
     let a = (entry (loop (goal.at.at_place-requires c).After-if_left-low)).pre in
     let e = c.advanced-extremum.ensures in
-    let f : SFits w64 c.advanced-extremum.result.value = record { sfits = c.type_inv.extremum.1.1.1.0.1 } in record { place_asks = place_asks a (turn (goal.at.at_place-requires c).After-if_left-low) e.0 e.1; bounded = (right_bounded a (turn (goal.at.at_place-requires c).After-if_left-low) e.0 e.1, back_is f ∙ slid_value a (turn (goal.at.at_place-requires c).After-if_left-low) e.0 e.1) }
+    let f : SFits w64 c.advanced-extremum.result.value = search rules in record { place_asks = place_asks a (turn (goal.at.at_place-requires c).After-if_left-low) e.0 e.1; bounded = (right_bounded a (turn (goal.at.at_place-requires c).After-if_left-low) e.0 e.1, back_is f ∙ slid_value a (turn (goal.at.at_place-requires c).After-if_left-low) e.0 e.1) }
 
 pub overflow_add-base : goal.overflow_add-base
 overflow_add-base c =

@@ -18,5 +18,5 @@ slice_bounds-write_bytes-end c = sym (length-take-le _ _ (place_inside _ _ c.ans
 pub returns : goal.returns
 returns c =
     let a = c.answer_lines-len in
-    let s = front_says (replicate LINES 0) _ a.ensures.0 a.ensures.1 in
-    (s.0, (rw s.0 a.ensures.1, rw s.1 at c.write_bytes.ensures))
+    let s = front_says (replicate LINES 0) _ a.ensures.result_value a.ensures.room in
+    (s.0, (rw s.0 a.ensures.room, rw s.1 at c.write_bytes.ensures))

@@ -7,4 +7,4 @@ returns c =
     let w = c.write_predicates in
     let p = c.put_numbers in
     let k = c.write_scales in
-    record { numbers = rw (k.ensures, p.ensures, w.ensures.0) at c.put_numbers-2.ensures; cells = w.ensures.1 }
+    record { numbers = rw (k.ensures, p.ensures, w.ensures.ranges) at c.put_numbers-2.ensures; cells = w.ensures.ends }
