@@ -16,41 +16,26 @@ use Rattle.sliding.specs.Run.{over}
 use Rattle.sliding.proofs.Over.{joined_next}
 use Rattle.temporal.proofs.Along.{best, best_first, best_end, best_settled, turn_best}
 use Rattle.temporal.proofs.bound_at.Goals as goal
-use Rattle.temporal.proofs.bound_at.Goals.{After-extreme-run, At-loop-j, Start}
-
-abbrev best_at : ℕ → Extremum → List ℤ → ℕ → ℕ → ℕ → ℕ → ℕ → ℕ → ℤ
-best_at rows e cells left right i first end j = best first end e (cell cells rows left) (cell cells rows right) i j
-
-abbrev left : Start → ℕ → ℤ
-left c = cell c.args.cells.now c.args.rows c.args.left
-
-abbrev right : Start → ℕ → ℤ
-right c = cell c.args.cells.now c.args.rows c.args.right
-
-abbrev best-to : Start → ℕ → ℤ
-best-to c j = best_at c.args.rows c.args.e c.args.cells.now c.args.left c.args.right c.args.i c.args.first c.args.end j
-
-other-dual : (c : At-loop-j) → c.dual-other.result ≡ dual c.args.e
-other-dual c = c.dual-other.ensures
+use Rattle.temporal.proofs.bound_at.Goals.{After-extreme-run}
 
 -- what a turn leaves
-turned-best : (c : After-extreme-run) → back c.extreme-best.result ≡ best-to (start c.AS.At-loop-j) (c.loop-j.j + 1)
+turned-best : (c : After-extreme-run) → back c.extreme-best.result ≡ best c.args.first c.args.end c.args.e (cell c.args.cells.now c.args.rows c.args.left) (cell c.args.cells.now c.args.rows c.args.right) c.args.i (c.loop-j.j + 1)
 turned-best c =
     let h = c.loop-j.invariant in
     let x = c.cell_at-r in
     let u = c.extreme in
     let v = c.extreme-best in
-    turn_best c.args.first c.args.end c.args.e (left c.AS.Start) (right c.AS.Start) c.args.i c.loop-j.j (other-dual c.AS.At-loop-j) h.0 h.1 c.loop-j-test.true h.2 h.3 (back_ok x.result x.type_inv ∙ x.ensures) u.ensures (back_ok u.result u.type_inv) v.ensures (back_ok v.result v.type_inv)
+    turn_best c.args.first c.args.end c.args.e (cell c.args.cells.now c.args.rows c.args.left) (cell c.args.cells.now c.args.rows c.args.right) c.args.i c.loop-j.j c.dual-other.ensures h.0 h.1 c.loop-j-test.true h.2 h.3 (back_ok x.result x.type_inv ∙ x.ensures) u.ensures (back_ok u.result u.type_inv) v.ensures (back_ok v.result v.type_inv)
 
-turned-run : (c : After-extreme-run) → back c.extreme-run.result ≡ (over (dual c.args.e) (left (start c.AS.At-loop-j)) c.args.i (c.loop-j.j + 1))
+turned-run : (c : After-extreme-run) → back c.extreme-run.result ≡ (over (dual c.args.e) (cell c.args.cells.now c.args.rows c.args.left) c.args.i (c.loop-j.j + 1))
 turned-run c =
     let h = c.loop-j.invariant in
     let x = c.cell_at-l in
-    joined_next (dual c.args.e) (margin_nothing TOP (dual c.args.e)) (left c.AS.Start) c.args.i c.loop-j.j h.0 h.3 (back_ok x.result x.type_inv ∙ x.ensures) (rw (other-dual c.AS.At-loop-j) at c.extreme-run.ensures) (back_ok c.extreme-run.result c.extreme-run.type_inv)
+    joined_next (dual c.args.e) (margin_nothing TOP (dual c.args.e)) (cell c.args.cells.now c.args.rows c.args.left) c.args.i c.loop-j.j h.0 h.3 (back_ok x.result x.type_inv ∙ x.ensures) (rw c.dual-other.ensures at c.extreme-run.ensures) (back_ok c.extreme-run.result c.extreme-run.type_inv)
 
 pub loop-j-init : goal.loop-j-init
 loop-j-init c =
-    let n : best-to (goal.at.loop-j-init c).Start c.args.first ≡ margin_nothing TOP c.args.e = best_first c.args.first c.args.end c.args.e (left (goal.at.loop-j-init c).Start) (right (goal.at.loop-j-init c).Start) c.args.i c.args.first (omega arith) in
+    let n : best c.args.first c.args.end c.args.e (cell c.args.cells.now c.args.rows c.args.left) (cell c.args.cells.now c.args.rows c.args.right) c.args.i c.args.first ≡ margin_nothing TOP c.args.e = best_first c.args.first c.args.end c.args.e (cell c.args.cells.now c.args.rows c.args.left) (cell c.args.cells.now c.args.rows c.args.right) c.args.i c.args.first (omega arith) in
     (c.requires.place_asks.0.from, omega arith, back_ok c.over_nothing-best.result c.over_nothing-best.type_inv ∙ c.over_nothing-best.ensures ∙ sym n, back_is c.ranges.carried ∙ c.requires.carried_value)
 
 pub cell_at-r-requires : goal.cell_at-r-requires
@@ -68,7 +53,7 @@ returns-then-settled c =
     let p = turned-best (goal.at.returns-then-settled c).After-extreme-run in
     let q = turned-run (goal.at.returns-then-settled c).After-extreme-run in
     p
-    ∙ sym (best_settled c.args.first c.args.end c.args.e (left (goal.at.returns-then-settled c).Start) (right (goal.at.returns-then-settled c).Start) c.args.i (c.loop-j.j + 1) c.args.rows (omega arith) (omega (arith, c.requires.place_asks.0.end_inside))
+    ∙ sym (best_settled c.args.first c.args.end c.args.e (cell c.args.cells.now c.args.rows c.args.left) (cell c.args.cells.now c.args.rows c.args.right) c.args.i (c.loop-j.j + 1) c.args.rows (omega arith) (omega (arith, c.requires.place_asks.0.end_inside))
     (sym (ap₂ (margin_extreme c.args.e) p q) ∙ c.settled.ensures c.if-settled.true ∙ p))
 
 pub loop-j-smaller : goal.loop-j-smaller
@@ -80,4 +65,4 @@ loop-j-preserved c = (omega arith, omega arith, turned-best (goal.at.loop-j-pres
 pub returns : goal.returns
 returns c =
     let h = c.loop-j.invariant in
-    h.2 ∙ sym (best_end c.args.first c.args.end c.args.e (left (goal.at.returns c).Start) (right (goal.at.returns c).Start) c.args.i c.loop-j.j c.args.rows h.0 c.loop-j-test.false c.requires.place_asks.0.end_inside)
+    h.2 ∙ sym (best_end c.args.first c.args.end c.args.e (cell c.args.cells.now c.args.rows c.args.left) (cell c.args.cells.now c.args.rows c.args.right) c.args.i c.loop-j.j c.args.rows h.0 c.loop-j-test.false c.requires.place_asks.0.end_inside)

@@ -3,18 +3,17 @@
 -- Assumes nothing.
 use mathlib.Core.Path.{◌≡◌}
 use Prim.Native.Nat.{◌-◌, ◌≤◌}
-use mir.Syntax.{w64}
-use mir.Val.{to_z}
 use Rattle.rows.specs.Cells.{cell}
 use Rattle.logic.specs.Formula.{dual}
 use Rattle.sliding.specs.Run.{over}
+use Rattle.temporal.proofs.Along.{best}
 use Rattle.temporal.proofs.bound_at.Given as goal
 
 abbrev pub invariant-loop-j : goal.invariant-loop-j
 invariant-loop-j l =
     (l.i ≤ l.j)
     × (l.first ≤ l.j)
-    × (l.best ≡ best_at l.rows l.e l.cells l.left l.right l.i l.first l.end l.j)
+    × (l.best ≡ best l.first l.end l.e (cell l.cells l.rows l.left) (cell l.cells l.rows l.right) l.i l.j)
     × (l.run ≡ over (dual l.e) (cell l.cells l.rows l.left) l.i l.j)
 
 abbrev pub decreases-loop-j : goal.decreases-loop-j

@@ -10,7 +10,7 @@ abbrev pub invariant-loop-i : goal.invariant-loop-i
 invariant-loop-i l =
     (l.i ≤ l.rows)
     × (length l.work ≡ length l.initial.work)
-    × SoFar l.e (record { l.from = l.from; l.stop = l.stop }) l.times l.left l.right l.row l.initial.work l.work l.extremum l.first l.end l.i
+    × SoFar l.e (record { from = l.from; stop = l.stop }) l.times l.left l.right l.row l.initial.work l.work l.extremum l.first l.end l.i
 
 abbrev pub decreases-loop-i : goal.decreases-loop-i
 decreases-loop-i l = l.rows - l.i
