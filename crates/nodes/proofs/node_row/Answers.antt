@@ -18,56 +18,47 @@ use Rattle.nodes.proofs.Rows.{left_before, right_before, above, row_asks, channe
 use Rattle.nodes.proofs.node_row.Goals as goal
 use Rattle.nodes.proofs.node_row.Goals.{After-is_timed, Else-has_right, Else-not-is_timed, Start, Then-has_right, Then-not-is_timed}
 
-abbrev operand : Start → ℕ → ℕ → ℤ
-operand c from = cell c.args.work.now (length c.args.times.now) from
-
-abbrev own : After-is_timed → Operator
-own c = operator c.args.node.kind
-
-turned : (c : After-is_timed) → c.turn-e.result ≡ turn c.args.affirmed (operator_extremum (own c))
+turned : (c : After-is_timed) → c.turn-e.result ≡ turn c.args.affirmed (operator_extremum (operator c.args.node.kind))
 turned c = c.turn-e.ensures ∙ ap (turn c.args.affirmed) c.extremum_of.ensures
 
-joins : (c : Then-not-is_timed) → own c.AS.After-is_timed ≡ joined (operator_extremum (own c.AS.After-is_timed))
+joins : (c : Then-not-is_timed) → operator c.args.node.kind ≡ joined (operator_extremum (operator c.args.node.kind))
 joins c =
-    joined_form _ (operating _ c.requires.known c.if-kind-eq-TRUE.left c.if-kind-eq-PREDICATE.left c.if-kind-eq-NOT.left) (sym c.is_timed.ensures ∙ not-true _ c.if-not-is_timed.taken)
+    joined_form _ (operating _ c.requires.known c.if-kind-eq-TRUE.false c.if-kind-eq-PREDICATE.false c.if-kind-eq-NOT.false) (sym c.is_timed.ensures ∙ not-true _ c.if-not-is_timed.true-raw)
 
-has-window : (c : Else-not-is_timed) → timed (own c.AS.After-is_timed) ≡ true
-has-window c = sym c.is_timed.ensures ∙ not-false _ c.if-not-is_timed.left
+binds : (c : Then-has_right) → operator c.args.node.kind ≡ binary future (operator_extremum (operator c.args.node.kind))
+binds c = temporal_form _ (sym c.is_timed.ensures ∙ not-false _ c.if-not-is_timed.false-raw) ∙ (rw (sym c.has_right.ensures ∙ c.if-has_right.true) refl)
 
-binds : (c : Then-has_right) → own c.AS.After-is_timed ≡ binary future (operator_extremum (own c.AS.After-is_timed))
-binds c = temporal_form _ (has-window c.AS.Else-not-is_timed) ∙ (rw (sym c.has_right.ensures ∙ c.if-has_right.taken) refl)
-
-looks : (c : Else-has_right) → own c.AS.After-is_timed ≡ unary future (operator_extremum (own c.AS.After-is_timed))
-looks c = temporal_form _ (has-window c.AS.Else-not-is_timed) ∙ (rw (sym c.has_right.ensures ∙ c.if-has_right.left) refl)
+looks : (c : Else-has_right) → operator c.args.node.kind ≡ unary future (operator_extremum (operator c.args.node.kind))
+looks c = temporal_form _ (sym c.is_timed.ensures ∙ not-false _ c.if-not-is_timed.false-raw) ∙ (rw (sym c.has_right.ensures ∙ c.if-has_right.false) refl)
 
 pub returns-then-kind-eq-TRUE : goal.returns-then-kind-eq-TRUE
-returns-then-kind-eq-TRUE c = true_arm _ _ _ _ _ _ _ _ c.args.affirmed c.if-kind-eq-TRUE.taken c.true_row.ensures
+returns-then-kind-eq-TRUE c = true_arm _ _ _ _ _ _ _ _ c.args.affirmed c.if-kind-eq-TRUE.true c.true_row.ensures
 
 pub offset_bounds-setup-named : goal.offset_bounds-setup-named
-offset_bounds-setup-named c = omega (arith, c.requires.numbered c.if-kind-eq-PREDICATE.taken)
+offset_bounds-setup-named c = omega (arith, c.requires.numbered c.if-kind-eq-PREDICATE.true)
 
 pub bounds-setup-named : goal.bounds-setup-named
-bounds-setup-named c = omega (arith, c.requires.numbered c.if-kind-eq-PREDICATE.taken)
+bounds-setup-named c = omega (arith, c.requires.numbered c.if-kind-eq-PREDICATE.true)
 
 pub offset_bounds-scales-channel : goal.offset_bounds-scales-channel
-offset_bounds-scales-channel c = omega (arith, channel_known c.requires c.if-kind-eq-PREDICATE.taken, c.requires.recorded.channels.few_channels)
+offset_bounds-scales-channel c = omega (arith, channel_known c.requires c.if-kind-eq-PREDICATE.true, c.requires.recorded.channels.few_channels)
 
 pub bounds-scales-channel : goal.bounds-scales-channel
-bounds-scales-channel c = omega (arith, channel_known c.requires c.if-kind-eq-PREDICATE.taken, c.requires.recorded.channels.few_channels)
+bounds-scales-channel c = omega (arith, channel_known c.requires c.if-kind-eq-PREDICATE.true, c.requires.recorded.channels.few_channels)
 
 pub predicate_row-requires : goal.predicate_row-requires
-predicate_row-requires c = record { rows_in_bounds = c.requires.room; leaf = leaf c.requires c.if-kind-eq-PREDICATE.taken }
+predicate_row-requires c = record { rows_in_bounds = c.requires.room; leaf = leaf c.requires c.if-kind-eq-PREDICATE.true }
 
 pub returns-then-kind-eq-PREDICATE : goal.returns-then-kind-eq-PREDICATE
-returns-then-kind-eq-PREDICATE c = predicate_arm _ _ _ _ _ _ _ _ c.args.affirmed c.if-kind-eq-PREDICATE.taken c.predicate_row.ensures
+returns-then-kind-eq-PREDICATE c = predicate_arm _ _ _ _ _ _ _ _ c.args.affirmed c.if-kind-eq-PREDICATE.true c.predicate_row.ensures
 
 pub signed_row-requires : goal.signed_row-requires
 signed_row-requires c =
-    let h = left_before c.requires (ap operator c.if-kind-eq-NOT.taken) in
+    let h = left_before c.requires (ap operator c.if-kind-eq-NOT.true) in
     (above c.requires _ h, c.requires.bounded _ h)
 
 pub returns-then-kind-eq-NOT : goal.returns-then-kind-eq-NOT
-returns-then-kind-eq-NOT c = not_arm _ _ _ _ _ _ _ _ c.args.affirmed c.if-kind-eq-NOT.taken c.signed_row.ensures
+returns-then-kind-eq-NOT c = not_arm _ _ _ _ _ _ _ _ c.args.affirmed c.if-kind-eq-NOT.true c.signed_row.ensures
 
 pub joined_row-requires : goal.joined_row-requires
 joined_row-requires c =
@@ -76,7 +67,7 @@ joined_row-requires c =
 
 pub returns-then-not-is_timed : goal.returns-then-not-is_timed
 returns-then-not-is_timed c =
-    joined_arm _ c.args.node c.args.window (operand (goal.at.returns-then-not-is_timed c).Start c.args.left) (operand (goal.at.returns-then-not-is_timed c).Start c.args.right) _ _ c.args.work.now c.args.affirmed (joins (goal.at.returns-then-not-is_timed c).Then-not-is_timed) (turned (goal.at.returns-then-not-is_timed c).After-is_timed) c.joined_row.ensures
+    joined_arm _ c.args.node c.args.window (cell c.args.work.now (length c.args.times.now) c.args.left) (cell c.args.work.now (length c.args.times.now) c.args.right) _ _ c.args.work.now c.args.affirmed (joins (goal.at.returns-then-not-is_timed c).Then-not-is_timed) (turned (goal.at.returns-then-not-is_timed c).After-is_timed) c.joined_row.ensures
 
 pub temporal_row-requires : goal.temporal_row-requires
 temporal_row-requires c =
@@ -90,8 +81,8 @@ temporal_row-requires-else-has_right c =
 
 pub returns-then-has_right : goal.returns-then-has_right
 returns-then-has_right c =
-    binary_arm _ c.args.node c.args.window (operand (goal.at.returns-then-has_right c).Start c.args.left) (operand (goal.at.returns-then-has_right c).Start c.args.right) _ _ c.args.work.now c.args.affirmed (binds (goal.at.returns-then-has_right c).Then-has_right) (turned (goal.at.returns-then-has_right c).After-is_timed) c.temporal_row.ensures
+    binary_arm _ c.args.node c.args.window (cell c.args.work.now (length c.args.times.now) c.args.left) (cell c.args.work.now (length c.args.times.now) c.args.right) _ _ c.args.work.now c.args.affirmed (binds (goal.at.returns-then-has_right c).Then-has_right) (turned (goal.at.returns-then-has_right c).After-is_timed) c.temporal_row.ensures
 
 pub returns-else-has_right : goal.returns-else-has_right
 returns-else-has_right c =
-    unary_arm _ c.args.node c.args.window (operand (goal.at.returns-else-has_right c).Start c.args.left) (operand (goal.at.returns-else-has_right c).Start c.args.right) _ _ c.args.work.now c.args.affirmed (looks (goal.at.returns-else-has_right c).Else-has_right) (turned (goal.at.returns-else-has_right c).After-is_timed) c.temporal_row-else-has_right.ensures
+    unary_arm _ c.args.node c.args.window (cell c.args.work.now (length c.args.times.now) c.args.left) (cell c.args.work.now (length c.args.times.now) c.args.right) _ _ c.args.work.now c.args.affirmed (looks (goal.at.returns-else-has_right c).Else-has_right) (turned (goal.at.returns-else-has_right c).After-is_timed) c.temporal_row-else-has_right.ensures
