@@ -10,10 +10,10 @@ use Rattle.tables.specs.Tree.{tree}
 use Rattle.margins.specs.Nodes.{Holds}
 use Rattle.margins.proofs.Filled.{filled_none, filled_holds, holds_bounded, filled_next}
 use Rattle.margins.proofs.fill_margins.Goals as goal
-use Rattle.margins.proofs.fill_margins.Goals.{At-loop-k, Start}
+use Rattle.margins.proofs.fill_margins.Goals.{At-loop-k}
 
 -- the rows before k hold the margins of their nodes
-hold : (c : At-loop-k) → c.loop-k.k < c.args.table.count → Holds (card-of (start c)) c.loop-k.work c.loop-k.k (tree c.args.table.nodes)
+hold : (c : At-loop-k) → c.loop-k.k < c.args.table.count → Holds (card c.args.setup c.args.times.now c.args.values.now) c.loop-k.work c.loop-k.k (tree c.args.table.nodes)
 hold c h =
     filled_holds (card c.args.setup c.args.times.now c.args.values.now) (tree c.args.table.nodes) c.loop-k.k c.args.work.now (omega (arith, c.requires.room, earlier_row c.loop-k.k c.args.table.count (length c.args.times.now) h)) c.loop-k.invariant.1
 
@@ -48,7 +48,7 @@ loop-k-preserved c =
     let k = c.loop-k.k in (
       omega arith,
       filled_next (card c.args.setup c.args.times.now c.args.values.now) c.args.table.nodes k c.args.work.now (c.requires.sound.ruled.each k t) c.loop-k.invariant.1 (c.margin_row.ensures (tree c.args.table.nodes) (hold (goal.at.loop-k-preserved c).At-loop-k t)),
-      c.margin_row.auto.1.1.1.1.0 ∙ c.loop-k.invariant.2,
+      c.margin_row.auto.work ∙ c.loop-k.invariant.2,
     )
 
 pub shape_of-work : goal.shape_of-work

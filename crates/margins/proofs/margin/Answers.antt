@@ -20,7 +20,7 @@ fine c =
 -- the root's row lies in the cells, which are few
 last_row : (c : After-work-1) → ((c.args.table.count - 1) * length c.args.times.now < length c.args.work.now) × ((c.args.table.count - 1) * length c.args.times.now ≤ 262_144)
 last_row c =
-    let f = fine c.AS.Else-number-ne0 in
+    let f = accepted (card c.args.setup c.args.times.now c.args.values.now) c.args.table (length c.args.work.now) (sym c.refusal_of-number.ensures ∙ c.if-number-ne0.false) in
     let n = length c.args.times.now in
     let r : (c.args.table.count - 1) * n + n ≤ c.args.table.count * n = earlier_row (c.args.table.count - 1) c.args.table.count n (omega (arith, f.0.ruled.some_node)) in
     let a : 1 ≤ n = f.0.recorded.lengths.some_row in
@@ -46,7 +46,7 @@ pub offset_bounds-work-at : goal.offset_bounds-work-at
 offset_bounds-work-at c = omega (arith, last_row (goal.at.offset_bounds-work-at c).After-work-1)
 
 pub slice_copy_out-value : goal.slice_copy_out-value
-slice_copy_out-value c = omega (arith, last_row (goal.at.slice_copy_out-value c).After-work-1, c.fill_margins.auto.1.1.1.1.0)
+slice_copy_out-value c = omega (arith, last_row (goal.at.slice_copy_out-value c).After-work-1, c.fill_margins.auto.work)
 
 pub returns : goal.returns
 returns c =

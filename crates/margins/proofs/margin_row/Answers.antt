@@ -18,9 +18,6 @@ use Rattle.margins.proofs.Nodes.{value_filled, negation_filled}
 use Rattle.margins.proofs.margin_row.Goals as goal
 use Rattle.margins.proofs.margin_row.Goals.{Start}
 
-abbrev card-of : Start → Card
-card-of c = card c.args.setup c.args.times.now c.args.values.now
-
 -- the child of "not"
 child : (c : Start) → c.args.node.kind ≡ not_kind → c.args.node.left < c.args.k
 child c e = subst (λ (x : ℕ). Used (left_use (operator x)) c.args.k c.args.node.left) e c.requires.ruled.left
@@ -42,12 +39,12 @@ pub returns-then-node-eq-NOT : goal.returns-then-node-eq-NOT
 returns-then-node-eq-NOT c =
     λ φ H.
     let e = c.if-node-eq-NOT.true in
-    negation_filled (card-of (goal.at.returns-then-node-eq-NOT c).Start) c.args.work.now c.args.k φ H c.args.node (ap operator e) (child (goal.at.returns-then-node-eq-NOT c).Start e) c.signed_row.ensures
+    negation_filled (card c.args.setup c.args.times.now c.args.values.now) c.args.work.now c.args.k φ H c.args.node (ap operator e) (child (goal.at.returns-then-node-eq-NOT c).Start e) c.signed_row.ensures
 
 pub returns-else-node-eq-NOT : goal.returns-else-node-eq-NOT
 returns-else-node-eq-NOT c =
     λ φ H.
     let n = c.args.node in
     let rows = length c.args.times.now in
-    let seen = ap (λ (v : Window). fill (c.args.k * rows) rows (node_value (card-of (goal.at.returns-else-node-eq-NOT c).Start) true v (operator n.kind) n (cell c.args.work.now rows n.left) (cell c.args.work.now rows n.right)) c.args.work.now) c.plain-window.ensures in
-    value_filled (card-of (goal.at.returns-else-node-eq-NOT c).Start) c.args.work.now c.args.k φ H n c.requires.ruled (no_not n.kind c.if-node-eq-NOT.false) (c.node_row.ensures ∙ seen)
+    let seen = ap (λ (v : Window). fill (c.args.k * rows) rows (node_value (card c.args.setup c.args.times.now c.args.values.now) true v (operator n.kind) n (cell c.args.work.now rows n.left) (cell c.args.work.now rows n.right)) c.args.work.now) c.plain-window.ensures in
+    value_filled (card c.args.setup c.args.times.now c.args.values.now) c.args.work.now c.args.k φ H n c.requires.ruled (no_not n.kind c.if-node-eq-NOT.false) (c.node_row.ensures ∙ seen)

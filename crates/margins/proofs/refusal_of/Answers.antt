@@ -8,22 +8,19 @@ use Rattle.margins.proofs.Answers.{refusal_early, refusal_room, refusal_none, fe
 use Rattle.margins.proofs.refusal_of.Goals as goal
 use Rattle.margins.proofs.refusal_of.Goals.{Start}
 
-abbrev card-of : Start → Card
-card-of c = card c.args.setup c.args.times.now c.args.values.now
-
 pub returns-then-earlier-ne0 : goal.returns-then-earlier-ne0
 returns-then-earlier-ne0 c =
-    c.refusal-earlier.ensures ∙ sym (refusal_early (card-of (goal.at.returns-then-earlier-ne0 c).Start) c.args.table c.args.cells (λ z. c.if-earlier-ne0.true (c.refusal-earlier.ensures ∙ z)))
+    c.refusal-earlier.ensures ∙ sym (refusal_early (card c.args.setup c.args.times.now c.args.values.now) c.args.table c.args.cells (λ z. c.if-earlier-ne0.true (c.refusal-earlier.ensures ∙ z)))
 
 pub overflow_mul-count : goal.overflow_mul-count
 overflow_mul-count c =
-    let f = few_cells (sound (card-of (goal.at.overflow_mul-count c).Start) c.args.table (sym c.refusal-earlier.ensures ∙ c.if-earlier-ne0.false)) in
+    let f = few_cells (sound (card c.args.setup c.args.times.now c.args.values.now) c.args.table (sym c.refusal-earlier.ensures ∙ c.if-earlier-ne0.false)) in
     omega arith
 
 pub returns-then-cells-count : goal.returns-then-cells-count
 returns-then-cells-count c =
-    sym (refusal_room (card-of (goal.at.returns-then-cells-count c).Start) c.args.table c.args.cells (sym c.refusal-earlier.ensures ∙ c.if-earlier-ne0.false) c.if-cells-count.true)
+    sym (refusal_room (card c.args.setup c.args.times.now c.args.values.now) c.args.table c.args.cells (sym c.refusal-earlier.ensures ∙ c.if-earlier-ne0.false) c.if-cells-count.true)
 
 pub returns : goal.returns
 returns c =
-    sym (refusal_none (card-of (goal.at.returns c).Start) c.args.table c.args.cells (sym c.refusal-earlier.ensures ∙ c.if-earlier-ne0.false) c.if-cells-count.false)
+    sym (refusal_none (card c.args.setup c.args.times.now c.args.values.now) c.args.table c.args.cells (sym c.refusal-earlier.ensures ∙ c.if-earlier-ne0.false) c.if-cells-count.false)
