@@ -15,7 +15,7 @@ use Rattle.answers.proofs.Wholes.{requirement_refused, table_read}
 use borrow.Author.Rules.{rules}
 use Rattle.answers.proofs.answer_for.Lts as lts
 use Rattle.answers.proofs.answer_for.Goals as goal
-use Rattle.answers.proofs.answer_for.Goals.{After-setup-1, After-struct_known-2-1, Else-read-ne0}
+use Rattle.answers.proofs.answer_for.Goals.{Else-read-ne0}
 
 -- as many rows and values as there is room for
 few_rows : (c : Else-read-ne0) → c.args.read.rows ≤ ROWS
@@ -51,10 +51,10 @@ pub overflow_mul-wide : goal.overflow_mul-wide
 overflow_mul-wide c = search (rules, few-values (goal.at.overflow_mul-wide c).Else-read-ne0)
 
 pub slice_bounds-judge-end : goal.slice_bounds-judge-end
-slice_bounds-judge-end c = sym (length-take-le _ _ (omega (arith, few_rows (goal.at.slice_bounds-judge-end c).After-struct_known-2-1, c.requires.2.times_long)))
+slice_bounds-judge-end c = sym (length-take-le _ _ (omega (arith, few_rows (goal.at.slice_bounds-judge-end c).Else-read-ne0, c.requires.2.times_long)))
 
 pub slice_bounds-judge-end-2 : goal.slice_bounds-judge-end-2
-slice_bounds-judge-end-2 c = sym (length-take-le _ _ (omega (arith, few-values (goal.at.slice_bounds-judge-end-2 c).After-setup-1, c.requires.2.values_long)))
+slice_bounds-judge-end-2 c = sym (length-take-le _ _ (omega (arith, few-values (goal.at.slice_bounds-judge-end-2 c).Else-read-ne0, c.requires.2.values_long)))
 
 pub returns : goal.returns
 returns c =

@@ -10,7 +10,7 @@ use Rattle.rules.specs.Refusals.{Sound}
 use Rattle.lists.proofs.Filled.{earlier_row}
 use Rattle.margins.proofs.Answers.{accepted, few_cells, refused_outcome, accepted_outcome, cells_kept, cells_filled, root_cell}
 use Rattle.margins.proofs.margin.Goals as goal
-use Rattle.margins.proofs.margin.Goals.{After-work-1, Else-number-ne0, Start}
+use Rattle.margins.proofs.margin.Goals.{After-work-1, Else-number-ne0}
 
 -- what number 0 says
 fine : (c : Else-number-ne0) → Sound (card c.args.setup c.args.times.now c.args.values.now) c.args.table × (c.args.table.count * length c.args.times.now ≤ length c.args.work.now)

@@ -6,7 +6,6 @@ use Rattle.recordings.specs.Card.{Card, card}
 use Rattle.rules.proofs.Refusals.{sound}
 use Rattle.margins.proofs.Answers.{refusal_early, refusal_room, refusal_none, few_cells}
 use Rattle.margins.proofs.refusal_of.Goals as goal
-use Rattle.margins.proofs.refusal_of.Goals.{Start}
 
 pub returns-then-earlier-ne0 : goal.returns-then-earlier-ne0
 returns-then-earlier-ne0 c =

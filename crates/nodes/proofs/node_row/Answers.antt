@@ -16,7 +16,7 @@ use Rattle.tables.proofs.EveryKind.{operating, joined_form, temporal_form}
 use Rattle.temporal.specs.declared.Left.TheVariants.{Row, Absent}
 use Rattle.nodes.proofs.Rows.{left_before, right_before, above, row_asks, channel_known, leaf, true_arm, predicate_arm, not_arm, joined_arm, binary_arm, unary_arm}
 use Rattle.nodes.proofs.node_row.Goals as goal
-use Rattle.nodes.proofs.node_row.Goals.{After-is_timed, Else-has_right, Else-not-is_timed, Start, Then-has_right, Then-not-is_timed}
+use Rattle.nodes.proofs.node_row.Goals.{After-is_timed, Else-has_right, Then-has_right, Then-not-is_timed}
 
 turned : (c : After-is_timed) → c.turn-e.result ≡ turn c.args.affirmed (operator_extremum (operator c.args.node.kind))
 turned c = c.turn-e.ensures ∙ ap (turn c.args.affirmed) c.extremum_of.ensures

@@ -12,7 +12,7 @@ use Rattle.outcomes.proofs.Steps.{test_taken, test_left}
 use Rattle.outcome_lines.proofs.Several.{printing_none, printing_next, printing_all, printing_room}
 use Rattle.outcome_lines.proofs.numbered_lines.Lts as lts
 use Rattle.outcome_lines.proofs.numbered_lines.Goals as goal
-use Rattle.outcome_lines.proofs.numbered_lines.Goals.{After-arrange-order, In-loop-n, In-loop-n-unread}
+use Rattle.outcome_lines.proofs.numbered_lines.Goals.{After-arrange-order, In-loop-n}
 
 long : (c : After-arrange-order) → length c.args.entries ≡ 16
 long c = search rules
@@ -30,10 +30,10 @@ pub loop-n-init : goal.loop-n-init
 loop-n-init c = printing_none _ _
 
 pub offset_bounds-order-n : goal.offset_bounds-order-n
-offset_bounds-order-n c = let s = small (goal.at.offset_bounds-order-n c).In-loop-n-unread in search rules
+offset_bounds-order-n c = let s = small (goal.at.offset_bounds-order-n c).In-loop-n in search rules
 
 pub bounds-order-n : goal.bounds-order-n
-bounds-order-n c = let s = small (goal.at.bounds-order-n c).In-loop-n-unread in search rules
+bounds-order-n c = let s = small (goal.at.bounds-order-n c).In-loop-n in search rules
 
 pub offset_bounds-entries-k : goal.offset_bounds-entries-k
 offset_bounds-entries-k c = let s = small (goal.at.offset_bounds-entries-k c).In-loop-n in search rules

@@ -13,7 +13,7 @@ use Rattle.rules.specs.Refusals.{table_checks, sample_checks, checks}
 use Rattle.rules.proofs.Recording.{some_row}
 use Rattle.rules.proofs.Refusals.{table_same, table_passed}
 use Rattle.rules.proofs.refusal.Goals as goal
-use Rattle.rules.proofs.refusal.Goals.{Else-earlier-ne0, Else-not-five, Else-not-seven, Else-not-six, Start}
+use Rattle.rules.proofs.refusal.Goals.{Else-earlier-ne0, Else-not-five, Else-not-seven, Else-not-six}
 
 -- past the first branch nothing applies to the table, so the list of the samples decides
 table_none : (c : Else-earlier-ne0) → first (table_checks (card c.args.setup c.args.times.now c.args.values.now) c.args.table) ≡ 0

@@ -19,4 +19,4 @@ pub returns : goal.returns
 returns c =
     let a = c.answer_lines-len in
     let s = front_says (replicate LINES 0) _ a.ensures.result_value a.ensures.room in
-    (s.0, (rw s.0 a.ensures.room, rw s.1 at c.write_bytes.ensures))
+    record { length = s.0; room = rw s.0 a.ensures.room; lines = rw s.1 at c.write_bytes.ensures }

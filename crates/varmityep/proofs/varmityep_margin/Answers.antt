@@ -7,4 +7,4 @@ pub returns : goal.returns
 unfolding card_from
 returns c =
     let e = rw (c.table_from-table.ensures, c.setup_from-setup.ensures) at c.margin-answer.ensures.answer in
-    (rw (c.hand_margin.ensures.number, e), (rw (c.table_from-table.ensures, c.setup_from-setup.ensures) at c.margin-answer.ensures.cells, rw e at c.hand_margin.ensures.res))
+    record { number = rw (c.hand_margin.ensures.number, e); work = rw (c.table_from-table.ensures, c.setup_from-setup.ensures) at c.margin-answer.ensures.cells; res = rw e at c.hand_margin.ensures.res }

@@ -9,7 +9,7 @@ use Rattle.varmityep.proofs.varmityep_requirement.Goals as goal
 pub returns-then-read-ne0 : goal.returns-then-read-ne0
 returns-then-read-ne0 c =
     let n = c.read_numbers-read.ensures in
-    (n.refusal, (kept _ _ _ (λ z. c.if-read-ne0.true (n.refusal ∙ z)), kept _ _ _ (λ z. c.if-read-ne0.true (n.refusal ∙ z))))
+    record { number = n.refusal; nodes = kept _ _ _ (λ z. c.if-read-ne0.true (n.refusal ∙ z)); count = kept _ _ _ (λ z. c.if-read-ne0.true (n.refusal ∙ z)) }
 
 pub slice_bounds-write_numbers-end : goal.slice_bounds-write_numbers-end
 slice_bounds-write_numbers-end c = let l = numbers_long _ c.read_numbers-read.ensures c.if-read-ne0.false in search rules

@@ -9,7 +9,7 @@ pub returns-then-sheet-ne0 : goal.returns-then-sheet-ne0
 returns-then-sheet-ne0 c =
     let s = c.read_sheet-sheet.ensures in
     let n = rw s at c.if-sheet-ne0.true in
-    (rw s, (kept _ _ _ n, (kept _ _ _ n, (kept _ _ _ n, (kept _ _ _ n, kept _ _ _ n)))))
+    record { number = rw s; numbers = kept _ _ _ n; places = kept _ _ _ n; scales = kept _ _ _ n; ranges = kept _ _ _ n; ends = kept _ _ _ n }
 
 pub returns : goal.returns
 returns c =

@@ -11,10 +11,4 @@ returns c =
     let m = c.tell-answer.ensures in
     let h = c.hand_margin.ensures in
     let a = margin_outcome c.tell-answer.result in
-    let old = c.args.res.now in (
-      λ t k W. h.0 ∙ ap (λ (o : MarginOutcome). o.number) (m.0 t k W),
-      (
-        λ t k W. h.1 ∙ ap (λ (o : MarginOutcome). margin_handed o old) (m.0 t k W),
-        (λ z. h.1 ∙ unless_some a.number _ old (λ e. z (h.0 ∙ e)), λ z. h.0 ∙ m.1 z),
-      ),
-    )
+    let old = c.args.res.now in record { number = λ t k W. h.0 ∙ ap (λ (o : MarginOutcome). o.number) (m.0 t k W); res = λ t k W. h.1 ∙ ap (λ (o : MarginOutcome). margin_handed o old) (m.0 t k W); refused = λ z. h.1 ∙ unless_some a.number _ old (λ e. z (h.0 ∙ e)); short = λ z. h.0 ∙ m.1 z }

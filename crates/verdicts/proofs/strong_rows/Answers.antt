@@ -6,7 +6,6 @@ use native.Mathlib.Omega.{arith}
 use Rattle.lists.proofs.Filled.{rows_next, rows_none, rows_to}
 use Rattle.verdicts.proofs.Rows.{same_length as kept-length, so_far}
 use Rattle.verdicts.proofs.strong_rows.Goals as goal
-use Rattle.verdicts.proofs.strong_rows.Goals.{After-strong_row-arg-1}
 
 pub overflow_mul-end : goal.overflow_mul-end
 overflow_mul-end c = omega (arith, c.requires.sound.ruled.few_nodes)
@@ -30,10 +29,8 @@ pub loop-row-smaller : goal.loop-row-smaller
 loop-row-smaller c = omega arith
 
 pub loop-row-preserved : goal.loop-row-preserved
-unfolding strong-row-requires
 loop-row-preserved c =
-    let d = strong-row-requires (goal.at.loop-row-preserved c).After-strong_row-arg-1 c.lifetimes in
-    (omega (arith, c.loop-row-test.true), c.strong_row.ensures d.0 d.1 ∙ rows_next _ _ _ _ c.loop-row.invariant.1)
+    (omega (arith, c.loop-row-test.true), c.strong_row.ensures c.args.table (record { filled = so_far _ c.requires _ c.loop-row.invariant.1 c.loop-row-test.true; node_is = refl }) ∙ rows_next _ _ _ _ c.loop-row.invariant.1)
 
 pub shape_of-work : goal.shape_of-work
 shape_of-work c = kept-length _ c.requires _ c.loop-row.invariant.1

@@ -21,7 +21,7 @@ use Rattle.verdicts.proofs.Entry.{refused_early, refused_room, refused_late, ref
 use Rattle.verdicts.proofs.verdict.Lts as lts
 use Rattle.recordings.specs.Accepted.{LONGEST_STEP, LARGEST_DRIFT}
 use Rattle.verdicts.proofs.verdict.Goals as goal
-use Rattle.verdicts.proofs.verdict.Goals.{After-refusal-late, After-shared_slice_known-1, Else-early-ne0, Else-late-ne0, Else-work-count, Start}
+use Rattle.verdicts.proofs.verdict.Goals.{Else-early-ne0, Else-late-ne0}
 
 -- past the first branch refusals 3 to 7 do not apply
 early-zero : (c : Else-early-ne0) → first (checks (card c.args.setup c.args.times.now c.args.values.now) c.args.table) ≡ 0
@@ -36,11 +36,11 @@ late-zero c = sym c.refusal-late.ensures ∙ c.if-late-ne0.false
 
 small_at : (c : Else-late-ne0) → (c.args.step ≤ LONGEST_STEP) × (c.args.drift ≤ LARGEST_DRIFT)
 small_at c =
-    let a = accepted (card c.args.setup c.args.times.now c.args.values.now) _ _ (sound-at c.AS.Else-early-ne0).recorded (late-zero c) in
+    let a = accepted (card c.args.setup c.args.times.now c.args.values.now) _ _ (sound (card c.args.setup c.args.times.now c.args.values.now) c.args.table (sym c.refusal-early.ensures ∙ c.if-early-ne0.false)).recorded (late-zero c) in
     (a.stepped.short_step, a.stepped.small_drift)
 
 ready_at : (c : Else-late-ne0) → Ready (card c.args.setup c.args.times.now c.args.values.now) c.args.table c.args.step (length c.args.work.now)
-ready_at c = record { sound = sound-at c.AS.Else-early-ne0; step_bound = (small_at c).0; room = c.if-work-count.false }
+ready_at c = record { sound = sound (card c.args.setup c.args.times.now c.args.values.now) c.args.table (sym c.refusal-early.ensures ∙ c.if-early-ne0.false); step_bound = (small_at c).0; room = c.if-work-count.false }
 
 pub returns-then-early-ne0 : goal.returns-then-early-ne0
 returns-then-early-ne0 c =
@@ -79,24 +79,24 @@ pub overflow_mul-root : goal.overflow_mul-root
 overflow_mul-root c = omega (arith, (sound-at (goal.at.overflow_mul-root c).Else-early-ne0).ruled.few_nodes)
 
 pub cell_at-hold-requires : goal.cell_at-hold-requires
-cell_at-hold-requires c = root_inside _ _ _ _ (ready_at (goal.at.cell_at-hold-requires c).After-refusal-late) c.strong_rows.ensures true
+cell_at-hold-requires c = root_inside _ _ _ _ (ready_at (goal.at.cell_at-hold-requires c).Else-late-ne0) c.strong_rows.ensures true
 
 pub overflow_add-root : goal.overflow_add-root
-overflow_add-root c = omega (arith, (sound-at (goal.at.overflow_add-root c).After-shared_slice_known-1).ruled.few_nodes)
+overflow_add-root c = omega (arith, (sound-at (goal.at.overflow_add-root c).Else-early-ne0).ruled.few_nodes)
 
 pub cell_at-fail-requires : goal.cell_at-fail-requires
-cell_at-fail-requires c = omega (arith, root_inside _ _ _ _ (ready_at (goal.at.cell_at-fail-requires c).Else-work-count) c.strong_rows.ensures false)
+cell_at-fail-requires c = omega (arith, root_inside _ _ _ _ (ready_at (goal.at.cell_at-fail-requires c).Else-late-ne0) c.strong_rows.ensures false)
 
 pub decided-requires : goal.decided-requires
-decided-requires c = (small_at (goal.at.decided-requires c).Else-work-count).1
+decided-requires c = (small_at (goal.at.decided-requires c).Else-late-ne0).1
 
 pub returns : goal.returns
 unfolding strong
 returns c =
     let w = c.strong_rows.ensures in
-    let r : verdict_refusal (card c.args.setup c.args.times.now c.args.values.now) c.args.table c.args.step c.args.drift (length c.args.work.now) ≡ 0 = refused_late (card c.args.setup c.args.times.now c.args.values.now) c.args.table c.args.step c.args.drift (length c.args.work.now) (early-zero (goal.at.returns c).After-shared_slice_known-1) c.if-work-count.false ∙ late-zero (goal.at.returns c).Else-work-count in
-    let h = c.cell_at-hold.ensures ∙ root_cell (card c.args.setup c.args.times.now c.args.values.now) c.args.table c.args.step c.args.work.now (ready_at (goal.at.returns c).Else-work-count) w true in
-    let f = c.cell_at-fail.ensures ∙ root_cell (card c.args.setup c.args.times.now c.args.values.now) c.args.table c.args.step c.args.work.now (ready_at (goal.at.returns c).Else-work-count) w false in
+    let r : verdict_refusal (card c.args.setup c.args.times.now c.args.values.now) c.args.table c.args.step c.args.drift (length c.args.work.now) ≡ 0 = refused_late (card c.args.setup c.args.times.now c.args.values.now) c.args.table c.args.step c.args.drift (length c.args.work.now) (early-zero (goal.at.returns c).Else-early-ne0) c.if-work-count.false ∙ late-zero (goal.at.returns c).Else-late-ne0 in
+    let h = c.cell_at-hold.ensures ∙ root_cell (card c.args.setup c.args.times.now c.args.values.now) c.args.table c.args.step c.args.work.now (ready_at (goal.at.returns c).Else-late-ne0) w true in
+    let f = c.cell_at-fail.ensures ∙ root_cell (card c.args.setup c.args.times.now c.args.values.now) c.args.table c.args.step c.args.work.now (ready_at (goal.at.returns c).Else-late-ne0) w false in
     let bh = back_ok _ c.cell_at-hold.type_inv ∙ h in
     let bf = back_ok _ c.cell_at-fail.type_inv ∙ f in
     record { answer = accepted_outcome (card c.args.setup c.args.times.now c.args.values.now) c.args.table c.args.step c.args.drift (length c.args.work.now) r (c.decided.ensures ∙ ap₂ (decide c.args.drift) bh bf) bh bf; cells = cells_filled (card c.args.setup c.args.times.now c.args.values.now) c.args.table c.args.step c.args.drift c.args.work.now r w }

@@ -7,7 +7,7 @@ use Rattle.numbers.proofs.Parts.{holds}
 use Rattle.tables.specs.Rules.{window_obeys}
 use Rattle.tables.proofs.Rules.{window_rules}
 use Rattle.watches.proofs.kept_node.Goals as goal
-use Rattle.watches.proofs.kept_node.Goals.{After-closed-arg-1, Else-not-window_obeys}
+use Rattle.watches.proofs.kept_node.Goals.{Else-not-window_obeys}
 
 obeys : (c : Else-not-window_obeys) → window_obeys c.args.node.span ≡ true
 obeys c = sym c.window_obeys.ensures ∙ not-false _ c.if-not-window_obeys.false-raw
@@ -18,7 +18,7 @@ returns-then-not-window_obeys c =
     rw e
 
 pub closed-w-requires : goal.closed-w-requires
-closed-w-requires c = window_rules c.args.node.span (holds (obeys (goal.at.closed-w-requires c).After-closed-arg-1))
+closed-w-requires c = window_rules c.args.node.span (holds (obeys (goal.at.closed-w-requires c).Else-not-window_obeys))
 
 pub returns : goal.returns
-returns c = rw (obeys (goal.at.returns c).After-closed-arg-1, c.closed-w.ensures)
+returns c = rw (obeys (goal.at.returns c).Else-not-window_obeys, c.closed-w.ensures)

@@ -21,13 +21,13 @@ pub returns-then-number-ne0 : goal.returns-then-number-ne0
 returns-then-number-ne0 c =
     let s = c.args in
     let m = c.making_refusal-number.ensures in
-    (m ∙ sym (first_stays (making_checks (no_rows (watch_setup s.predicates s.scales)) s.table) _ (λ z. c.if-number-ne0.true (m ∙ z))), (λ z. absurd (short (goal.at.returns-then-number-ne0 c).Then-not-is_roomy z), (λ z. (refl, refl), (record { same = λ i h. refl }, record { same = λ i h. refl }))))
+    record { number = m ∙ sym (first_stays (making_checks (no_rows (watch_setup s.predicates s.scales)) s.table) _ (λ z. c.if-number-ne0.true (m ∙ z))); watch = λ z. absurd (short (goal.at.returns-then-number-ne0 c).Then-not-is_roomy z); short = λ z. (refl, refl); behind = (record { same = λ i h. refl }, record { same = λ i h. refl }) }
 
 pub returns-then-not-is_roomy : goal.returns-then-not-is_roomy
 returns-then-not-is_roomy c =
     let s = c.args in
     let m = c.making_refusal-number.ensures in
-    (sym (first_here (making_checks (no_rows (watch_setup s.predicates s.scales)) s.table) (room_check (length s.numbers.now) (length s.cells.now)) [] tt (sym m ∙ c.if-number-ne0.false) (sym c.is_roomy.ensures ∙ not-true c.is_roomy.result c.if-not-is_roomy.true-raw)), (λ z. absurd (short (goal.at.returns-then-not-is_roomy c).Then-not-is_roomy z), (λ z. (refl, refl), (record { same = λ i h. refl }, record { same = λ i h. refl }))))
+    record { number = sym (first_here (making_checks (no_rows (watch_setup s.predicates s.scales)) s.table) (room_check (length s.numbers.now) (length s.cells.now)) [] tt (sym m ∙ c.if-number-ne0.false) (sym c.is_roomy.ensures ∙ not-true c.is_roomy.result c.if-not-is_roomy.true-raw)); watch = λ z. absurd (short (goal.at.returns-then-not-is_roomy c).Then-not-is_roomy z); short = λ z. (refl, refl); behind = (record { same = λ i h. refl }, record { same = λ i h. refl }) }
 
 pub write_fresh-requires : goal.write_fresh-requires
 write_fresh-requires c = let m = room (goal.at.write_fresh-requires c).Else-not-is_roomy in (m.long, m.wide)
@@ -39,13 +39,4 @@ returns c =
     let f = c.write_fresh.ensures in
     let o = room (goal.at.returns c).Else-not-is_roomy in
     let n = f.1.1.0 in
-    let p = f.1.1.1 in (
-      m ∙ sym (lent_first (watch_setup s.predicates s.scales) s.table _ _ o),
-      (
-        λ z. rw (f.0, f.1.0) (fresh_watches c.making_refusal-number.result s.table s.predicates s.scales s.numbers.now s.cells.now n p o.long o.wide m),
-        (
-          λ z. absurd (z o),
-          (rw f.0 (fresh_behind c.making_refusal-number.result s.table s.predicates s.scales s.numbers.now s.cells.now n p o.long o.wide), rw f.1.0 (cells_behind c.making_refusal-number.result s.table s.predicates s.scales s.numbers.now s.cells.now n p o.long o.wide)),
-        ),
-      ),
-    )
+    let p = f.1.1.1 in record { number = m ∙ sym (lent_first (watch_setup s.predicates s.scales) s.table _ _ o); watch = λ z. rw (f.0, f.1.0) (fresh_watches c.making_refusal-number.result s.table s.predicates s.scales s.numbers.now s.cells.now n p o.long o.wide m); short = λ z. absurd (z o); behind = (rw f.0 (fresh_behind c.making_refusal-number.result s.table s.predicates s.scales s.numbers.now s.cells.now n p o.long o.wide), rw f.1.0 (cells_behind c.making_refusal-number.result s.table s.predicates s.scales s.numbers.now s.cells.now n p o.long o.wide)) }

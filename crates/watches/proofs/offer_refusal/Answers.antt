@@ -10,7 +10,7 @@ abbrev row_of : Start → Row
 row_of c = record { time = c.args.time; values = c.args.values.now }
 
 pub returns-then-refusal-ne0 : goal.returns-then-refusal-ne0
-returns-then-refusal-ne0 c = (λ cells t k W. making_first W (row_checks k (row_of (goal.at.returns-then-refusal-ne0 c).Start)) c.if-refusal-ne0.true, (λ z. absurd (c.if-refusal-ne0.true z), λ z. absurd (c.if-refusal-ne0.true z)))
+returns-then-refusal-ne0 c = record { number = λ cells t k W. making_first W (row_checks k (row_of (goal.at.returns-then-refusal-ne0 c).Start)) c.if-refusal-ne0.true; early = λ z. absurd (c.if-refusal-ne0.true z); values = λ z. absurd (c.if-refusal-ne0.true z) }
 
 pub returns : goal.returns
 returns c = (

@@ -20,4 +20,4 @@ returns c =
     let k = c.kept_nodes-kept in
     let l : length o.result ≡ CELLS = search rules in
     let n : length c.args.table.nodes ≡ NODES = omega (arith, l, ap length (o.ensures ∙ ap cells_of k.ensures), length_cells (map kept_node c.args.table.nodes), length-map c.args.table.nodes kept_node) in
-    (rw (w.ensures.numbers, p.ensures, o.ensures, k.ensures) at q.ensures, (rw w.ensures.cells at c.clear_nodes.ensures, (n, search rules)))
+    record { numbers = rw (w.ensures.numbers, p.ensures, o.ensures, k.ensures) at q.ensures; cells = rw w.ensures.cells at c.clear_nodes.ensures; arrays = (n, search rules) }
