@@ -159,7 +159,7 @@ pub fn answers(text: &[u8]) -> Outcomes
 
 // The lines that are printed for a whole text, at the front of a slice; with LINES places they are whole.
 pub fn answer_lines(text: &[u8], out: &mut [u8]) -> usize
-    ensures result_value { output out.exit result ≡ printed (output out.entry 0) (lines_of (answers_of text.now)) }
+    ensures result_value { output out.new result ≡ printed (output out.old 0) (lines_of (answers_of text.now)) }
     ensures room { length (lines_of (answers_of text.now)) ≤ LINES }
 {
     outcome_lines::lines(out, 0, answers(text))

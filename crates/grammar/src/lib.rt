@@ -1,7 +1,6 @@
 // What the pieces of a requirement text are, before they are put together: windows and the operators that carry one; and the grammar's parts.
 #![tactic(auto)]
 
-
 use tables::Span;
 
 // A window and the place after it.

@@ -14,7 +14,7 @@ use recordings::Verdict;
 pub const LINES: usize = 2688;
 
 fn verdict_word(out: &mut [u8], at: usize, verdict: Verdict) -> usize
-    ensures { output out.exit result ≡ printed (output out.entry at) (word_of verdict) }
+    ensures { output out.new result ≡ printed (output out.old at) (word_of verdict) }
 {
     match verdict {
         Verdict::Holds => printing::word(out, at, b"holds"),
@@ -25,14 +25,14 @@ fn verdict_word(out: &mut [u8], at: usize, verdict: Verdict) -> usize
 
 // A key and a number.
 fn number_field(out: &mut [u8], at: usize, key: &[u8], n: u64) -> usize
-    ensures { output out.exit result ≡ printed (output out.entry at) (key.now ++ decimal n) }
+    ensures { output out.new result ≡ printed (output out.old at) (key.now ++ decimal n) }
 {
     let digits = printing::word(out, at, key);
     printing::number(out, digits, n)
 }
 
 fn signed_field(out: &mut [u8], at: usize, key: &[u8], v: i64) -> usize
-    ensures { output out.exit result ≡ printed (output out.entry at) (key.now ++ decimal_signed v) }
+    ensures { output out.new result ≡ printed (output out.old at) (key.now ++ decimal_signed v) }
 {
     let digits = printing::word(out, at, key);
     printing::signed(out, digits, v)
@@ -48,7 +48,7 @@ fn figures_line(
     fail: i64,
     verdict: Verdict,
 ) -> usize
-    ensures result_value { output out.exit result ≡ printed (output out.entry at) (figures_line rows filled margin hold fail verdict) }
+    ensures result_value { output out.new result ≡ printed (output out.old at) (figures_line rows filled margin hold fail verdict) }
     ensures room { length (figures_line rows filled margin hold fail verdict) ≤ LINE }
 {
     let at = number_field(out, at, b"rows=", rows as u64);
@@ -62,7 +62,7 @@ fn figures_line(
 }
 
 fn refusal_line(out: &mut [u8], at: usize, number: u64) -> usize
-    ensures result_value { output out.exit result ≡ printed (output out.entry at) (refusal_line number) }
+    ensures result_value { output out.new result ≡ printed (output out.old at) (refusal_line number) }
     ensures room { length (refusal_line number) ≤ LINE }
 {
     let at = number_field(out, at, b"refused=", number);
@@ -70,7 +70,7 @@ fn refusal_line(out: &mut [u8], at: usize, number: u64) -> usize
 }
 
 fn line(out: &mut [u8], at: usize, outcome: Outcome) -> usize
-    ensures result_value { output out.exit result ≡ printed (output out.entry at) (line_of outcome) }
+    ensures result_value { output out.new result ≡ printed (output out.old at) (line_of outcome) }
     ensures room { length (line_of outcome) ≤ LINE }
 {
     let number = outcome.number;
@@ -93,7 +93,7 @@ fn line(out: &mut [u8], at: usize, outcome: Outcome) -> usize
 // A line with its requirement's number in front.
 fn numbered_line(out: &mut [u8], at: usize, k: usize, outcome: Outcome) -> usize
     requires { k < 16 }
-    ensures result_value { output out.exit result ≡ printed (output out.entry at) (numbered_line k outcome) }
+    ensures result_value { output out.new result ≡ printed (output out.old at) (numbered_line k outcome) }
     ensures room { length (numbered_line k outcome) ≤ NUMBERED }
 {
     let at = number_field(out, at, b"req=", k as u64);
@@ -103,7 +103,7 @@ fn numbered_line(out: &mut [u8], at: usize, k: usize, outcome: Outcome) -> usize
 
 // The numbered lines of the first `count` outcomes, in the order in which they come.
 fn numbered_lines(out: &mut [u8], at: usize, entries: [Outcome; 16], count: usize) -> usize
-    ensures result_value { output out.exit result ≡ printed (output out.entry at) (lines_in (take count entries) (arrangement (take count entries))) }
+    ensures result_value { output out.new result ≡ printed (output out.old at) (lines_in (take count entries) (arrangement (take count entries))) }
     ensures room { length (lines_in (take count entries) (arrangement (take count entries))) ≤ LINES }
 {
     let order = outcomes::arrange(entries, count);
@@ -120,7 +120,7 @@ fn numbered_lines(out: &mut [u8], at: usize, entries: [Outcome; 16], count: usiz
 
 // Lines have their requirements' numbers, except a single one.
 fn entry_lines(out: &mut [u8], at: usize, entries: [Outcome; 16], count: usize) -> usize
-    ensures result_value { output out.exit result ≡ printed (output out.entry at) (entry_lines (take count entries)) }
+    ensures result_value { output out.new result ≡ printed (output out.old at) (entry_lines (take count entries)) }
     ensures room { length (entry_lines (take count entries)) ≤ LINES }
 {
     if count != 1 {
@@ -132,7 +132,7 @@ fn entry_lines(out: &mut [u8], at: usize, entries: [Outcome; 16], count: usize) 
 
 // All that is printed for a text. With LINES places it is whole.
 pub fn lines(out: &mut [u8], at: usize, all: Outcomes) -> usize
-    ensures result_value { output out.exit result ≡ printed (output out.entry at) (lines_of all) }
+    ensures result_value { output out.new result ≡ printed (output out.old at) (lines_of all) }
     ensures room { length (lines_of all) ≤ LINES }
 {
     let number = all.number;

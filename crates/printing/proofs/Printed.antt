@@ -14,7 +14,7 @@ use Rattle.printing.specs.Output.{Output, one_more, printed}
 pub printed_append : (o : Output) (a b : List ℕ) → printed o (a ++ b) ≡ printed (printed o a) b
 unfolding printed
 printed_append o [] b = refl
-printed_append o (x ∷ a) b = printed_append _ a b
+printed_append o (x ∷ a) b = printed_append (one_more o x) a b
 
 -- so each word is put in front of what is printed after it
 pub printed_then : (o : Output) (a b : List ℕ) {m n : Output} → m ≡ printed o a → n ≡ printed m b → n ≡ printed o (a ++ b)
@@ -70,7 +70,7 @@ one_inside o b h = elim (dec_lt o.end (length o.bytes)) [
 pub printed_inside : (o : Output) (bs : List ℕ) → o.end ≤ length o.bytes → (printed o bs).end ≤ length (printed o bs).bytes
 unfolding printed
 printed_inside o [] h = h
-printed_inside o (b ∷ bs) h = printed_inside _ bs (one_inside o b h)
+printed_inside o (b ∷ bs) h = printed_inside (one_more o b) bs (one_inside o b h)
 
 pub place_inside : (o : Output) (bs : List ℕ) {slice : List ℕ} {end : ℕ} → record { bytes = slice; end = end } ≡ printed o bs → o.end ≤ length o.bytes → end ≤ length slice
 place_inside o bs e h = subst (λ (m : Output). m.end ≤ length m.bytes) (sym e) (printed_inside o bs h)

@@ -1,15 +1,14 @@
 -- Bytes printed into a lent slice, from a place on.
 -- Assumes nothing.
 use Rattle.std.specs.Prelude.{cond, List, [], ◌∷◌, ℕ, ◌+◌, ltb, length, set}
-use Rattle.std.specs.Borrow.{Bor}
 
 -- what a slice holds, and the place behind the last byte that was printed
 pub record Output : Type 0 where
   pub bytes : List ℕ
   pub end : ℕ
 
-abbrev pub output : Bor (List ℕ) → ℕ → Output
-output slice end = record { bytes = slice.now; end = end }
+abbrev pub output : List ℕ → ℕ → Output
+output slice end = record { bytes = slice; end = end }
 
 -- one byte more, where there is a place for it
 abbrev pub one_more : Output → ℕ → Output

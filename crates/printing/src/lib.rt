@@ -7,7 +7,7 @@ ghost use Rattle.printing.specs.Decimal.{digit_of, decimal, decimal_signed};
 ghost use Rattle.printing.specs.Output.{output, printed};
 
 fn byte(out: &mut [u8], at: usize, b: u8) -> usize
-    ensures { output out.exit result ≡ printed (output out.entry at) (b ∷ []) }
+    ensures { output out.new result ≡ printed (output out.old at) (b ∷ []) }
 {
     if out.len() <= at {
         return at;
@@ -18,7 +18,7 @@ fn byte(out: &mut [u8], at: usize, b: u8) -> usize
 
 // A fixed word.
 pub fn word(out: &mut [u8], at: usize, word: &[u8]) -> usize
-    ensures { output out.exit result ≡ printed (output out.entry at) word.now }
+    ensures { output out.new result ≡ printed (output out.old at) word.now }
 {
     let mut next = at;
     let mut i = 0;
@@ -37,7 +37,7 @@ fn digit(n: u64) -> u8
 
 // A number in decimal digits.
 pub fn number(out: &mut [u8], at: usize, n: u64) -> usize
-    ensures { output out.exit result ≡ printed (output out.entry at) (decimal n) }
+    ensures { output out.new result ≡ printed (output out.old at) (decimal n) }
 {
     if n < 10 {
         return byte(out, at, digit(n));
@@ -48,7 +48,7 @@ pub fn number(out: &mut [u8], at: usize, n: u64) -> usize
 
 // A number with its sign, where it is negative.
 pub fn signed(out: &mut [u8], at: usize, v: i64) -> usize
-    ensures { output out.exit result ≡ printed (output out.entry at) (decimal_signed v) }
+    ensures { output out.new result ≡ printed (output out.old at) (decimal_signed v) }
 {
     let size = numbers::magnitude(v);
     if v < 0 {

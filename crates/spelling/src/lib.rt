@@ -73,7 +73,7 @@ pub fn stands_as(due: Part, own: Part) -> bool
 
 // What stands before a part where another is due: a parenthesis, or nothing.
 pub fn write_opening(out: &mut [u8], at: usize, due: Part, own: Part) -> usize
-    ensures { output out.exit result ≡ printed (output out.entry at) (opening due own) }
+    ensures { output out.new result ≡ printed (output out.old at) (opening due own) }
 {
     if stands_as(due, own) {
         return at;
@@ -83,7 +83,7 @@ pub fn write_opening(out: &mut [u8], at: usize, due: Part, own: Part) -> usize
 
 // What stands behind it.
 pub fn write_closing(out: &mut [u8], at: usize, due: Part, own: Part) -> usize
-    ensures { output out.exit result ≡ printed (output out.entry at) (closing due own) }
+    ensures { output out.new result ≡ printed (output out.old at) (closing due own) }
 {
     if stands_as(due, own) {
         return at;
@@ -92,7 +92,7 @@ pub fn write_closing(out: &mut [u8], at: usize, due: Part, own: Part) -> usize
 }
 
 fn write_letter(out: &mut [u8], at: usize, kind: u64) -> usize
-    ensures { output out.exit result ≡ printed (output out.entry at) (letter kind) }
+    ensures { output out.new result ≡ printed (output out.old at) (letter kind) }
 {
     let mark = [operators::letter_of(kind)];
     printing::word(out, at, &mark)
@@ -100,7 +100,7 @@ fn write_letter(out: &mut [u8], at: usize, kind: u64) -> usize
 
 // The bracket at an end of a window: another where a mark excludes that end.
 fn write_bracket(out: &mut [u8], at: usize, mark: u64, counted: &[u8], excluded: &[u8]) -> usize
-    ensures { output out.exit result ≡ printed (output out.entry at) (cond (ltb 0 mark) excluded.now counted.now) }
+    ensures { output out.new result ≡ printed (output out.old at) (cond (ltb 0 mark) excluded.now counted.now) }
 {
     if 0 < mark {
         return printing::word(out, at, excluded);
@@ -110,7 +110,7 @@ fn write_bracket(out: &mut [u8], at: usize, mark: u64, counted: &[u8], excluded:
 
 // What follows a window's comma: its end, or `*` where it has none.
 fn write_end(out: &mut [u8], at: usize, span: Span) -> usize
-    ensures { output out.exit result ≡ printed (output out.entry at) (end_text span) }
+    ensures { output out.new result ≡ printed (output out.old at) (end_text span) }
 {
     let hi = span.hi;
     if hi == tables::NO_END {
@@ -122,7 +122,7 @@ fn write_end(out: &mut [u8], at: usize, span: Span) -> usize
 
 // A window: `[lo,hi]` or `[lo,*]`, with `(` and `)` for excluded ends.
 fn write_window(out: &mut [u8], at: usize, span: Span) -> usize
-    ensures { output out.exit result ≡ printed (output out.entry at) (window_text true span) }
+    ensures { output out.new result ≡ printed (output out.old at) (window_text true span) }
 {
     let at = write_bracket(out, at, span.openlo, b"[", b"(");
     let at = printing::number(out, at, span.lo);
@@ -132,7 +132,7 @@ fn write_window(out: &mut [u8], at: usize, span: Span) -> usize
 
 // An operator: its letter, and its window where its kind has one.
 pub fn write_sign(out: &mut [u8], at: usize, kind: u64, span: Span) -> usize
-    ensures { output out.exit result ≡ printed (output out.entry at) (sign kind span) }
+    ensures { output out.new result ≡ printed (output out.old at) (sign kind span) }
 {
     let at = write_letter(out, at, kind);
     if tables::is_timed(kind) {
@@ -143,7 +143,7 @@ pub fn write_sign(out: &mut [u8], at: usize, kind: u64, span: Span) -> usize
 
 // A predicate by its number.
 pub fn write_predicate(out: &mut [u8], at: usize, number: usize) -> usize
-    ensures { output out.exit result ≡ printed (output out.entry at) (letter predicate_kind ++ decimal number) }
+    ensures { output out.new result ≡ printed (output out.old at) (letter predicate_kind ++ decimal number) }
 {
     let at = write_letter(out, at, tables::PREDICATE);
     printing::number(out, at, number as u64)

@@ -53,13 +53,13 @@ all_digits b ds h = by_test (is_digit b) (λ e. (e, tail (rw e at h))) (λ e. ab
 
 grow : {w : List ℕ} {v : ℕ} (ds : List ℕ) → Numeral w v → 0 < v → digits ds ≡ ds → Numeral (w ++ ds) (value v ds)
 unfolding value
-grow {w} {v} [] n p h = rw append-nil n
-grow {w} {v} (b ∷ ds) n p h =
+grow {w = w} {v} [] n p h = rw append-nil n
+grow {w = w} {v} (b ∷ ds) n p h =
     let a = all_digits b ds h in
     let r = digit_range b a.0 in
     let e : 48 + (b - 48) ≡ b = omega arith in
     let m : Numeral (w ++ (b ∷ [])) (v * 10 + (b - 48)) = rw e at (longer {d = b - 48} n p (omega arith)) in
-    rw append_assoc at (grow ds m (omega arith) a.1)
+    rw append_assoc at (grow {w = w ++ (b ∷ [])} ds m (omega arith) a.1)
 
 run_numeral : (b : ℕ) (ds : List ℕ) → digits (b ∷ ds) ≡ b ∷ ds → eqb b 48 && ltb 1 (length (b ∷ ds)) ≡ false → Numeral (b ∷ ds) (value 0 (b ∷ ds))
 unfolding value

@@ -141,7 +141,7 @@ fn last_measure(nodes: [Node; tables::NODES], count: usize) -> Measure
 
 // A node without children: `T`, or a predicate by its number.
 fn write_leaf(out: &mut [u8], at: usize, node: Node) -> usize
-    ensures { output out.exit result ≡ printed (output out.entry at) (leaf_text node) }
+    ensures { output out.new result ≡ printed (output out.old at) (leaf_text node) }
 {
     if node.kind == tables::PREDICATE {
         return spelling::write_predicate(out, at, node.left);
@@ -158,7 +158,7 @@ fn write_leaf(out: &mut [u8], at: usize, node: Node) -> usize
 // The text of node k where a part is due.
 fn write_node(cells: &[u64; CELLS], k: usize, due: Part, out: &mut [u8], at: usize) -> usize
     requires { Ruled (node_from cells.now) k }
-    ensures { output out.exit result ≡ printed (output out.entry at) (text_as due (unshared (node_from cells.now) k)) }
+    ensures { output out.new result ≡ printed (output out.old at) (text_as due (unshared (node_from cells.now) k)) }
 {
     let node = building::node_at(cells, k);
     if tables::has_right(node.kind) {

@@ -1,6 +1,5 @@
 -- A broken head is the head of no sheet.
 -- Assumes nothing.
-use Rattle.heads.proofs.broken.Lts as lts
 use Rattle.heads.proofs.broken.Goals as goal
 
 pub returns : goal.returns

@@ -1,6 +1,5 @@
 -- The head of no sheet has the scales of no lines and no predicate set.
 -- Assumes nothing.
-use Rattle.heads.proofs.no_head.Lts as lts
 use Rattle.heads.proofs.no_head.Goals as goal
 
 pub returns : goal.returns

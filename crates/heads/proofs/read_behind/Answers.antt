@@ -3,7 +3,6 @@
 use borrow.Author.Tests.{not-true, not-false}
 use mathlib.Core.Path.{sym, ◌∙◌}
 use Rattle.heads.proofs.Chain.{chain_predicates, chain_step, chain_drift, chain_read}
-use Rattle.heads.proofs.read_behind.Lts as lts
 use Rattle.heads.proofs.read_behind.Goals as goal
 
 pub returns-then-not-predicates : goal.returns-then-not-predicates

@@ -3,7 +3,6 @@
 use borrow.Author.Tests.{not-true, not-false}
 use mathlib.Core.Path.{sym, ◌∙◌}
 use Rattle.heads.proofs.Chain.{chain_channels, chain_scales, chain_behind}
-use Rattle.heads.proofs.read_head.Lts as lts
 use Rattle.heads.proofs.read_head.Goals as goal
 
 pub returns-in_default : goal.returns-in_default

@@ -2,7 +2,6 @@
 -- Assumes nothing.
 use mathlib.Core.Path.{◌∙◌}
 use Rattle.operators.proofs.Pieces.{two_kinds}
-use Rattle.operators.proofs.read_binder.Lts as lts
 use Rattle.operators.proofs.read_binder.Goals as goal
 
 pub returns : goal.returns

@@ -1,7 +1,7 @@
 -- The mark that is due is the one byte of the kind's letter.
 -- Assumes nothing.
 use mathlib.Core.Path.{ap, ◌∙◌}
-use mathlib.Core.List.{◌∷◌}
+use mathlib.Core.List.{[], ◌∷◌}
 use Prim.Native.Nat.{ℕ}
 use Rattle.text.specs.Mark.{mark_at}
 use Rattle.operators.proofs.read_letter.Goals as goal

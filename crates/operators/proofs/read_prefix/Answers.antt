@@ -2,7 +2,6 @@
 -- Assumes nothing.
 use mathlib.Core.Path.{sym, ◌∙◌}
 use Rattle.operators.proofs.Pieces.{two_kinds}
-use Rattle.operators.proofs.read_prefix.Lts as lts
 use Rattle.operators.proofs.read_prefix.Goals as goal
 
 pub returns-in-Next : goal.returns-in-Next

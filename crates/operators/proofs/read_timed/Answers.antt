@@ -2,7 +2,6 @@
 -- Assumes nothing.
 use mathlib.Core.Path.{sym, ◌∙◌}
 use Rattle.grammar.specs.Reading.{timed_at}
-use Rattle.operators.proofs.read_timed.Lts as lts
 use Rattle.operators.proofs.read_timed.Goals as goal
 
 pub returns-in_default : goal.returns-in_default

@@ -1,7 +1,6 @@
 -- `predicate_lines::read_predicates` meets its contract: the lines that are left give what all of them give.
 -- Assumes nothing.
 use mathlib.Core.Path.{sym, ◌∙◌}
-use Prim.Native.Nat.{◌-◌}
 use native.Mathlib.Omega.{arith}
 use Rattle.predicate_lines.proofs.Rest.{line_known, rest_start, rest_over, rest_bad, rest_below, rest_less, rest_more}
 use Rattle.predicate_lines.proofs.read_predicates.Goals as goal

@@ -9,7 +9,6 @@ use Rattle.text.specs.Bytes.{bytes}
 use Rattle.printing.specs.Decimal.{decimal}
 use Rattle.printing.proofs.Printed.{printed_append}
 use Rattle.printing.proofs.Decimal.{signed_minus, signed_plain}
-use Rattle.printing.proofs.signed.Lts as lts
 use Rattle.printing.proofs.signed.Goals as goal
 
 pub returns-then-v-lt0 : goal.returns-then-v-lt0

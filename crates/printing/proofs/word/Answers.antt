@@ -1,14 +1,12 @@
 -- After i turns the first i bytes of the word are printed.
 -- Assumes nothing.
 use mathlib.Core.Path.{ap, ◌∙◌}
-use Prim.Native.Nat.{◌-◌}
 use native.Mathlib.Omega.{arith}
 use borrow.Author.Rules.{rules}
 use lib.ListN.{length}
 use lib.Seq.{take_all}
 use Rattle.printing.specs.Output.{Output, printed}
 use Rattle.printing.proofs.Printed.{printed_none, printed_next, printed_length}
-use Rattle.printing.proofs.word.Lts as lts
 use Rattle.printing.proofs.word.Goals as goal
 
 pub loop-i-init : goal.loop-i-init

@@ -4,7 +4,6 @@ use mathlib.Core.Path.{◌≡◌}
 use Prim.Native.Nat.{◌≤◌, ◌-◌}
 use lib.ListN.{length, take}
 use Rattle.printing.specs.Output.{printed}
-use Rattle.printing.proofs.word.Lts as lts
 use Rattle.printing.proofs.word.Given as goal
 
 abbrev pub invariant-loop-i : goal.invariant-loop-i

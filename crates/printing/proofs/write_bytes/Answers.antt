@@ -1,7 +1,6 @@
 -- The first i places are new; the loop ends where the new contents or the slice do.
 -- Assumes nothing.
 use mathlib.Core.Path.{refl}
-use Prim.Native.Nat.{◌-◌}
 use Rattle.lists.proofs.Writing.{start, next, full, over}
 use Rattle.printing.proofs.write_bytes.Goals as goal
 

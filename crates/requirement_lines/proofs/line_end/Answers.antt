@@ -1,7 +1,6 @@
 -- `requirement_lines::line_end` meets its contract: the line feed that is first from a place on is first from the start.
 -- Assumes nothing.
 use mathlib.Core.Path.{refl}
-use Prim.Native.Nat.{◌-◌}
 use native.Mathlib.Omega.{arith}
 use Rattle.requirement_lines.proofs.Steps.{feed_over, feed_here, feed_next}
 use Rattle.requirement_lines.proofs.line_end.Goals as goal

@@ -1,7 +1,6 @@
 -- `requirement_lines::read_requirements` meets its contract: what was read and what is left are together what all of the lines give.
 -- Assumes nothing.
 use mathlib.Core.Path.{sym, ◌∙◌}
-use Prim.Native.Nat.{◌-◌}
 use Rattle.requirement_lines.proofs.Collecting.{collect_start, collect_over, collect_bad, collect_few, collect_less, collect_more}
 use Rattle.requirement_lines.proofs.read_requirements.Goals as goal
 

@@ -1,6 +1,5 @@
 -- `row_lines::count_rows` meets its contract: what was counted and what is left are the counts of the whole text.
 -- Assumes nothing.
-use Prim.Native.Nat.{◌-◌}
 use native.Mathlib.Omega.{arith}
 use Rattle.row_lines.proofs.Counting.{count_start, count_over, count_bad, count_measured, count_filled}
 use Rattle.row_lines.proofs.count_rows.Goals as goal

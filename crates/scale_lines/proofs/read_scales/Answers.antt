@@ -2,7 +2,6 @@
 -- Assumes nothing.
 use borrow.Author.Rules.{rules}
 use mathlib.Core.Path.{sym, ◌∙◌}
-use Prim.Native.Nat.{◌-◌}
 use Rattle.scale_lines.proofs.Steps.{due_most, lines_start, lines_over, lines_bad, lines_next}
 use Rattle.scale_lines.proofs.read_scales.Goals as goal
 

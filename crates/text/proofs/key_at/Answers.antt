@@ -4,7 +4,6 @@ use mathlib.Core.Path.{◌∙◌, ap}
 use Rattle.text.specs.Mark.{prefix_of}
 use borrow.Author.Tests.{le-leb, lt-leb}
 use Rattle.text.proofs.Places.{whole_behind}
-use Rattle.text.proofs.key_at.Lts as lts
 use Rattle.text.proofs.key_at.Goals as goal
 
 pub returns-then-at-s : goal.returns-then-at-s

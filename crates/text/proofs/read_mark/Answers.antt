@@ -6,7 +6,6 @@ use native.Mathlib.Omega.{arith}
 use lib.ListN.{length}
 use Rattle.text.specs.Mark.{mark_at}
 use Rattle.text.proofs.Marks.{key_inside}
-use Rattle.text.proofs.read_mark.Lts as lts
 use Rattle.text.proofs.read_mark.Goals as goal
 use Rattle.text.proofs.read_mark.Goals.{Then-key_at}
 

@@ -1,14 +1,13 @@
 -- `text::read_number` meets its contract: the loop keeps `Run`, and the test of the whole run decides.
 -- Assumes nothing.
 use native.Mathlib.Omega.{arith}
-use Prim.Native.Nat.{◌-◌, ◌^◌, ◌<◌, ◌≤◌}
+use Prim.Native.Nat.{◌^◌, ◌<◌, ◌≤◌}
 use mathlib.Core.Path.{◌≡◌, sym, ◌∙◌}
 use native.Mathlib.Nat.{lt_of_lt_of_le, pow-le-pow_right}
 use mathlib.Core.Bool.{true, false}
 use lib.ListN.{get_or, length}
 use Rattle.text.specs.Number.{is_digit}
 use Rattle.text.proofs.Digits.{run_start, run_step, run_done, run_long, digit_inside, digit_range}
-use Rattle.text.proofs.read_number.Lts as lts
 use Rattle.text.proofs.read_number.Goals as goal
 use Rattle.text.proofs.read_number.Goals.{After-loop-at, After-wide, Else-i-at-ge10, In-loop-at}
 
@@ -27,7 +26,7 @@ wide_is : (c : After-wide) → c.wide.result ≡ get_or c.args.s.now c.loop-at.i
 wide_is c = cc
 
 wide-range : (c : After-wide) → (48 ≤ c.wide.result) × (c.wide.result ≤ 57)
-wide-range c = rw (wide_is c) (digit_range _ (digit-here c.AS.In-loop-at))
+wide-range c = rw (wide_is c) (let d : is_digit (get_or c.args.s.now c.loop-at.i 0) ≡ true = cc in digit_range _ d)
 
 -- v is below 10 ^ 10 before a turn's sum
 room : (c : Else-i-at-ge10) → c.loop-at.value < 10 ^ 9

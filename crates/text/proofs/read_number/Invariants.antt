@@ -2,7 +2,6 @@
 -- Assumes nothing.
 use Prim.Native.Nat.{◌-◌, ◌+◌}
 use Rattle.text.proofs.Digits.{Run}
-use Rattle.text.proofs.read_number.Lts as lts
 use Rattle.text.proofs.read_number.Given as goal
 
 abbrev pub invariant-loop-at : goal.invariant-loop-at

@@ -2,9 +2,7 @@
 -- Assumes nothing.
 use borrow.Author.Rules.{rules}
 use mathlib.Core.Path.{refl, ◌∙◌}
-use Prim.Native.Nat.{◌-◌}
 use Rattle.text.proofs.Marks.{prefix_step, prefix_differ, prefix_short, prefix_end}
-use Rattle.text.proofs.starts_with.Lts as lts
 use Rattle.text.proofs.starts_with.Goals as goal
 
 pub loop-i-init : goal.loop-i-init

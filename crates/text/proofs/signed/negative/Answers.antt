@@ -4,7 +4,6 @@ use native.Mathlib.Omega.{arith}
 use mir.Syntax.{w64}
 use mir.ValLaws.{to_z_pos, to_z-of_z}
 use Rattle.text.proofs.Signs.{minus, neg_small}
-use Rattle.text.proofs.signed.negative.Lts as lts
 use Rattle.text.proofs.signed.negative.Goals as goal
 
 pub overflow_sub-result : goal.overflow_sub-result

@@ -3,7 +3,6 @@
 use native.Mathlib.Omega.{arith}
 use mir.Syntax.{w64}
 use mir.ValLaws.{to_z_pos}
-use Rattle.text.proofs.signed.positive.Lts as lts
 use Rattle.text.proofs.signed.positive.Goals as goal
 
 pub returns : goal.returns

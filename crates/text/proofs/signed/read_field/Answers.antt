@@ -2,7 +2,6 @@
 -- Assumes nothing.
 use mathlib.Core.Path.{sym, ◌∙◌}
 use Rattle.text.specs.Number.{signed_field_at}
-use Rattle.text.proofs.signed.read_field.Lts as lts
 use Rattle.text.proofs.signed.read_field.Goals as goal
 
 pub returns-in_default : goal.returns-in_default

@@ -7,7 +7,6 @@ use Rattle.text.proofs.Numerals.{number_is}
 use Rattle.text.specs.Number.{signed_at}
 use mathlib.Core.Path.{sym, ◌∙◌}
 use native.Mathlib.Omega.{arith}
-use Rattle.text.proofs.signed.read_number.Lts as lts
 use Rattle.text.proofs.signed.read_number.Goals as goal
 
 pub returns-in_default-read_number : goal.returns-in_default-read_number
