@@ -10,7 +10,6 @@ use Rattle.text.proofs.Places.{whole_behind}
 use Rattle.answers.specs.Answers.{ROWS, VALUES, answer_for, no_entries}
 use Rattle.answers.proofs.Rows.{stored}
 use borrow.Author.Rules.{rules}
-use Rattle.answers.proofs.answer_all.Lts as lts
 use Rattle.answers.proofs.answer_all.Goals as goal
 
 pub slice_bounds-read_rows-count : goal.slice_bounds-read_rows-count

@@ -13,7 +13,6 @@ use Rattle.answers.specs.Answers.{ROWS, VALUES, rows_part, requirement_part, lis
 use Rattle.answers.proofs.Rows.{none_judged, rows_few, values_few, rows_judged}
 use Rattle.answers.proofs.Wholes.{requirement_refused, table_read}
 use borrow.Author.Rules.{rules}
-use Rattle.answers.proofs.answer_for.Lts as lts
 use Rattle.answers.proofs.answer_for.Goals as goal
 use Rattle.answers.proofs.answer_for.Goals.{Else-read-ne0}
 

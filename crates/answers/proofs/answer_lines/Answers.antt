@@ -1,6 +1,5 @@
 -- The answers, then their lines.
 -- Assumes nothing.
-use Rattle.answers.proofs.answer_lines.Lts as lts
 use Rattle.answers.proofs.answer_lines.Goals as goal
 
 pub returns : goal.returns

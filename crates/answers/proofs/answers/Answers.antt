@@ -7,7 +7,6 @@ use Rattle.sheets.specs.Sheets.{sheet_of}
 use Rattle.outcomes.specs.declared.Outcome.{Outcome}
 use Rattle.answers.specs.Answers.{none_answered, all_answered, Placed}
 use Rattle.answers.proofs.Wholes.{answers_refused, answers_read, placed}
-use Rattle.answers.proofs.answers.Lts as lts
 use Rattle.answers.proofs.answers.Goals as goal
 
 pub returns-then-sheet-ne0 : goal.returns-then-sheet-ne0

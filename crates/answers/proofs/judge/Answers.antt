@@ -10,7 +10,6 @@ use Rattle.verdicts.proofs.Promises.{refused_some}
 use Rattle.answers.specs.Answers.{CELLS}
 use Rattle.answers.proofs.Figures.{judge_refused, judge_accepted}
 use borrow.Author.Rules.{rules}
-use Rattle.answers.proofs.judge.Lts as lts
 use Rattle.answers.proofs.judge.Goals as goal
 use Rattle.answers.proofs.judge.Goals.{Start}
 

@@ -1,7 +1,6 @@
 -- Every place is that of no answer.
 -- Assumes nothing.
 use mathlib.Core.Path.{refl}
-use Rattle.answers.proofs.no_answers.Lts as lts
 use Rattle.answers.proofs.no_answers.Goals as goal
 
 pub returns : goal.returns

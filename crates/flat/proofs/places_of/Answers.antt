@@ -4,7 +4,6 @@ use mathlib.Core.Path.{refl}
 use Prim.Native.Nat.{◌-◌}
 use Rattle.flat.proofs.Laid.{pairs_start, pairs_next, pairs_over}
 use borrow.Author.Rules.{rules}
-use Rattle.flat.proofs.places_of.Lts as lts
 use Rattle.flat.proofs.places_of.Goals as goal
 
 pub loop-k-init : goal.loop-k-init

@@ -9,7 +9,6 @@ use Rattle.printing.specs.Output.{printed}
 use Rattle.outcome_lines.specs.Printed.{LINE, LINES}
 use Rattle.outcome_lines.proofs.Several.{entry_one, entry_several}
 use borrow.Author.Rules.{rules}
-use Rattle.outcome_lines.proofs.entry_lines.Lts as lts
 use Rattle.outcome_lines.proofs.entry_lines.Goals as goal
 
 pub returns-then-count-ne1 : goal.returns-then-count-ne1

@@ -4,7 +4,6 @@ use mathlib.Core.Path.{◌≡◌}
 use Rattle.numbers.proofs.Bits.{back}
 use Rattle.outcome_lines.proofs.Room.{line_refused, line_judged, room_refused, room_judged}
 use borrow.Author.Rules.{rules}
-use Rattle.outcome_lines.proofs.line.Lts as lts
 use Rattle.outcome_lines.proofs.line.Goals as goal
 
 pub returns-then-number-ne0 : goal.returns-then-number-ne0

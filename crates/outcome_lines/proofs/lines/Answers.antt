@@ -8,7 +8,6 @@ use lib.ListN.{length}
 use Rattle.printing.specs.Output.{printed}
 use Rattle.outcome_lines.specs.Printed.{LINE, LINES}
 use Rattle.outcome_lines.proofs.Several.{lines_refused, lines_judged}
-use Rattle.outcome_lines.proofs.lines.Lts as lts
 use Rattle.outcome_lines.proofs.lines.Goals as goal
 
 pub returns-then-number-ne0 : goal.returns-then-number-ne0

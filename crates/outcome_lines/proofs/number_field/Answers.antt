@@ -1,7 +1,6 @@
 -- The digits are printed behind the key.
 -- Assumes nothing.
 use Rattle.printing.proofs.Printed.{printed_then}
-use Rattle.outcome_lines.proofs.number_field.Lts as lts
 use Rattle.outcome_lines.proofs.number_field.Goals as goal
 
 pub returns : goal.returns

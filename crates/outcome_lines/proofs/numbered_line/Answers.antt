@@ -2,7 +2,6 @@
 -- Assumes nothing.
 use Rattle.printing.proofs.Printed.{printed_then}
 use Rattle.outcome_lines.proofs.Room.{numbered_few}
-use Rattle.outcome_lines.proofs.numbered_line.Lts as lts
 use Rattle.outcome_lines.proofs.numbered_line.Goals as goal
 
 pub returns : goal.returns

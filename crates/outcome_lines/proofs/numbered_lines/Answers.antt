@@ -10,7 +10,6 @@ use Rattle.printing.proofs.Printed.{printed_length}
 use Rattle.outcomes.proofs.Arrangements.{order_below}
 use Rattle.outcomes.proofs.Steps.{test_taken, test_left}
 use Rattle.outcome_lines.proofs.Several.{printing_none, printing_next, printing_all, printing_room}
-use Rattle.outcome_lines.proofs.numbered_lines.Lts as lts
 use Rattle.outcome_lines.proofs.numbered_lines.Goals as goal
 use Rattle.outcome_lines.proofs.numbered_lines.Goals.{After-arrange-order, In-loop-n}
 
@@ -24,16 +23,17 @@ taken c = test_taken _ _ c.loop-n-test.true
 small : (c : In-loop-n) → (c.loop-n.n < 16) × (get_or c.arrange-order.result c.loop-n.n 0 < 16)
 small c =
     let t = taken c in
-    (t.0, rw c.arrange-order.ensures (omega (arith, order_below c.args.entries c.args.count c.loop-n.n t.1 (omega (arith, t.0, long c.AS.After-arrange-order)), long c.AS.After-arrange-order)))
+    let sixteen : length c.args.entries ≡ 16 = search rules in
+    (t.0, rw c.arrange-order.ensures (omega (arith, order_below c.args.entries c.args.count c.loop-n.n t.1 (omega (arith, t.0, sixteen)), sixteen)))
 
 pub loop-n-init : goal.loop-n-init
 loop-n-init c = printing_none _ _
 
 pub offset_bounds-order-n : goal.offset_bounds-order-n
-offset_bounds-order-n c = let s = small (goal.at.offset_bounds-order-n c).In-loop-n in search rules
+offset_bounds-order-n c = let t = test_taken c.loop-n.n c.args.count c.loop-n-test.true in search rules
 
 pub bounds-order-n : goal.bounds-order-n
-bounds-order-n c = let s = small (goal.at.bounds-order-n c).In-loop-n in search rules
+bounds-order-n c = let t = test_taken c.loop-n.n c.args.count c.loop-n-test.true in search rules
 
 pub offset_bounds-entries-k : goal.offset_bounds-entries-k
 offset_bounds-entries-k c = let s = small (goal.at.offset_bounds-entries-k c).In-loop-n in search rules

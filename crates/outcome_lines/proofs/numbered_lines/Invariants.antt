@@ -3,7 +3,6 @@
 use Prim.Native.Nat.{◌-◌}
 use lib.ListN.{take}
 use Rattle.outcome_lines.proofs.Several.{Printing}
-use Rattle.outcome_lines.proofs.numbered_lines.Lts as lts
 use Rattle.outcome_lines.proofs.numbered_lines.Given as goal
 
 abbrev pub invariant-loop-n : goal.invariant-loop-n

@@ -2,7 +2,6 @@
 -- Assumes nothing.
 use Rattle.printing.proofs.Printed.{printed_then}
 use Rattle.outcome_lines.proofs.Room.{refusal_few}
-use Rattle.outcome_lines.proofs.refusal_line.Lts as lts
 use Rattle.outcome_lines.proofs.refusal_line.Goals as goal
 
 pub returns : goal.returns

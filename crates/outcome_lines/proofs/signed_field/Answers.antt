@@ -4,7 +4,6 @@ use mathlib.Core.Path.{◌≡◌}
 use Rattle.printing.proofs.Printed.{printed_then}
 use Rattle.numbers.proofs.Bits.{back}
 use borrow.Author.Rules.{rules}
-use Rattle.outcome_lines.proofs.signed_field.Lts as lts
 use Rattle.outcome_lines.proofs.signed_field.Goals as goal
 
 pub returns : goal.returns

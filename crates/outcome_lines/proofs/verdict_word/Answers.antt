@@ -1,6 +1,5 @@
 -- The word by the arm.
 -- Assumes nothing.
-use Rattle.outcome_lines.proofs.verdict_word.Lts as lts
 use Rattle.outcome_lines.proofs.verdict_word.Goals as goal
 
 pub returns-in-Holds : goal.returns-in-Holds

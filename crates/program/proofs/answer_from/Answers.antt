@@ -4,7 +4,6 @@ use mathlib.Core.Path.{sym}
 use native.Mathlib.Omega.{arith}
 use lib.Seq.{length-take-le}
 use Rattle.printing.proofs.Printed.{place_inside}
-use Rattle.program.proofs.answer_from.Lts as lts
 use Rattle.program.proofs.answer_from.Goals as goal
 
 pub slice_bounds-text-end : goal.slice_bounds-text-end

@@ -6,7 +6,6 @@ use lib.ListN.{replicate}
 use lib.Seq.{length-take-le}
 use Rattle.printing.proofs.Printed.{place_inside, front_says}
 use Rattle.outcome_lines.specs.Printed.{LINES}
-use Rattle.varmityep.proofs.varmityep_answer.Lts as lts
 use Rattle.varmityep.proofs.varmityep_answer.Goals as goal
 
 pub slice_bounds-printed-end : goal.slice_bounds-printed-end

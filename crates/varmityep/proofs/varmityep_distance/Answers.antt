@@ -3,7 +3,6 @@
 use mathlib.Core.Path.{◌≡◌}
 use Rattle.numbers.proofs.Bits.{back}
 use borrow.Author.Rules.{rules}
-use Rattle.varmityep.proofs.varmityep_distance.Lts as lts
 use Rattle.varmityep.proofs.varmityep_distance.Goals as goal
 
 pub returns : goal.returns

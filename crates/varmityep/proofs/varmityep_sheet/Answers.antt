@@ -2,7 +2,6 @@
 -- Assumes nothing.
 use mathlib.Core.Path.{refl}
 use Rattle.varmityep.proofs.Handed.{kept}
-use Rattle.varmityep.proofs.varmityep_sheet.Lts as lts
 use Rattle.varmityep.proofs.varmityep_sheet.Goals as goal
 
 pub returns-then-sheet-ne0 : goal.returns-then-sheet-ne0

@@ -18,7 +18,6 @@ use Rattle.verdicts.specs.Cells.{strong}
 use Rattle.verdicts.specs.Rows.{Ready}
 use Rattle.verdicts.specs.Answer.{verdict_refusal}
 use Rattle.verdicts.proofs.Entry.{refused_early, refused_room, refused_late, refused_outcome, accepted_outcome, cells_kept, cells_filled, few_cells, root_cell, root_inside}
-use Rattle.verdicts.proofs.verdict.Lts as lts
 use Rattle.recordings.specs.Accepted.{LONGEST_STEP, LARGEST_DRIFT}
 use Rattle.verdicts.proofs.verdict.Goals as goal
 use Rattle.verdicts.proofs.verdict.Goals.{Else-early-ne0, Else-late-ne0}

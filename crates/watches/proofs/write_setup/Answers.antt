@@ -1,4 +1,3 @@
-use Rattle.watches.proofs.write_setup.Lts as lts
 use Rattle.watches.proofs.write_setup.Goals as goal
 
 -- src/lib.rt:119:1
