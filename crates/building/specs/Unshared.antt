@@ -4,7 +4,7 @@ use Rattle.std.specs.Prelude.{ℕ, ◌-◌}
 use Rattle.tables.specs.declared.Node.{Node}
 use Rattle.tables.specs.declared.Table.{Table}
 use Rattle.tables.specs.Kind.{operator}
-use Rattle.tables.specs.Tree.{node_at, meaning, span}
+use Rattle.tables.specs.Tree.{node_at, meaning}
 use Rattle.tables.specs.Rules.{Use, child, number, unused, left_use, right_use}
 use Rattle.grammar.specs.Tree.{Tree, truth, predicate, one, two}
 

@@ -1,7 +1,6 @@
 -- The front of the array is the numbers of the first k nodes.
 -- Assumes nothing.
 use mathlib.Core.Path.{refl}
-use Prim.Native.Nat.{◌-◌}
 use Rattle.building.proofs.Laid.{laid_start, laid_next, laid_over}
 use borrow.Author.Rules.{rules}
 use Rattle.building.proofs.cells_of.Goals as goal

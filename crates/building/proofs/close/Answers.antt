@@ -1,7 +1,6 @@
 -- `building::close` meets its contract: each branch of the code is a case of the definition.
 -- Assumes nothing.
 use mathlib.Core.Path.{sym, ◌∙◌}
-use Rattle.building.proofs.close.Lts as lts
 use Rattle.building.proofs.close.Goals as goal
 
 pub returns-in_default-read_mark : goal.returns-in_default-read_mark

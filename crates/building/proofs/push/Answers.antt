@@ -5,7 +5,6 @@ use borrow.Author.Tests.{le-leb, lt-leb}
 use Rattle.tables.specs.Tree.{NODES}
 use Rattle.building.specs.Storing.{WIDTH}
 use Rattle.building.proofs.Cells.{sets_node}
-use Rattle.building.proofs.push.Lts as lts
 use Rattle.building.proofs.push.Goals as goal
 
 pub returns-then-free-ge-NODES : goal.returns-then-free-ge-NODES

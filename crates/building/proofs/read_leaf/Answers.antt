@@ -2,19 +2,19 @@
 -- Assumes nothing.
 use mathlib.Core.Path.{sym, ◌∙◌}
 use Rattle.building.proofs.Stores.{true_stored, predicate_stored, leaf_refused}
-use Rattle.building.proofs.read_leaf.Lts as lts
 use Rattle.building.proofs.read_leaf.Goals as goal
 
 pub returns-in-Next : goal.returns-in-Next
 returns-in-Next c =
-    true_stored _ _ _ _ _ _ _ (sym c.read_letter.ensures ∙ c.in-Next.is) c.push.ensures.step (rw c.leaf.ensures at c.push.ensures.cells)
+    let t = true_stored c.args.free c.args.s.now c.args.at _ _ _ _ (sym c.read_letter.ensures ∙ c.in-Next.is) c.push.ensures.step (rw c.leaf.ensures at c.push.ensures.cells) in
+    record { step = t.0; cells = t.1 }
 
 pub returns-in_default-read_field : goal.returns-in_default-read_field
 returns-in_default-read_field c =
-    leaf_refused _ _ _ _ (sym c.read_letter.ensures ∙ c.in_default.is)
-    (sym c.read_field.ensures ∙ c.in_default-read_field.is)
+    let t = leaf_refused c.args.free c.args.s.now c.args.at c.args.cells.now (sym c.read_letter.ensures ∙ c.in_default.is) (sym c.read_field.ensures ∙ c.in_default-read_field.is) in
+    record { step = t.0; cells = t.1 }
 
 pub returns : goal.returns
 returns c =
-    predicate_stored _ _ _ _ _ _ _ _ (sym c.read_letter.ensures ∙ c.in_default.is)
-    (sym c.read_field.ensures ∙ c.in-Number.is) c.push-2.ensures.step (rw c.leaf-2.ensures at c.push-2.ensures.cells)
+    let t = predicate_stored c.args.free c.args.s.now c.args.at _ _ _ _ _ (sym c.read_letter.ensures ∙ c.in_default.is) (sym c.read_field.ensures ∙ c.in-Number.is) c.push-2.ensures.step (rw c.leaf-2.ensures at c.push-2.ensures.cells) in
+    record { step = t.0; cells = t.1 }

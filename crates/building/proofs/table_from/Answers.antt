@@ -1,6 +1,5 @@
 -- `building::table_from` meets its contract: after k turns the nodes are `nodes_from` at k.
 -- Assumes nothing.
-use Prim.Native.Nat.{◌-◌}
 use mathlib.Core.Path.{◌≡◌, ap, ◌∙◌}
 use mathlib.Core.List.{List}
 use Rattle.tables.specs.declared.Node.{Node}
@@ -11,7 +10,6 @@ use borrow.Author.Tests.{le-leb, lt-leb}
 use borrow.Author.Rules.{rules}
 use Rattle.tables.specs.Tree.{NODES}
 use Rattle.building.specs.Storing.{nodes_from}
-use Rattle.building.proofs.table_from.Lts as lts
 use Rattle.building.proofs.table_from.Goals as goal
 
 pub returns-then-count-gt-NODES : goal.returns-then-count-gt-NODES

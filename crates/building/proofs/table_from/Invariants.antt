@@ -3,7 +3,6 @@
 use Prim.Native.Nat.{◌-◌, ◌≤◌}
 use mathlib.Core.Path.{◌≡◌}
 use Rattle.building.specs.Storing.{nodes_from}
-use Rattle.building.proofs.table_from.Lts as lts
 use Rattle.building.proofs.table_from.Given as goal
 
 abbrev pub invariant-loop-k : goal.invariant-loop-k

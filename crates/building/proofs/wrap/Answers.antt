@@ -1,6 +1,5 @@
 -- `building::wrap` meets its contract: each branch of the code is a case of the definition.
 -- Assumes nothing.
-use Rattle.building.proofs.wrap.Lts as lts
 use Rattle.building.proofs.wrap.Goals as goal
 
 pub returns : goal.returns
