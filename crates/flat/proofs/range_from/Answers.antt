@@ -6,6 +6,10 @@ use Rattle.flat.specs.Predicates.{range_from}
 use Rattle.flat.proofs.Laid.{no_range}
 use Rattle.flat.proofs.range_from.Goals as goal
 
+pub returns-in-1 : goal.returns-in-1
+unfolding range_from
+returns-in-1 c = rw c.in-1.is (search rules)
+
 pub returns-in-2 : goal.returns-in-2
 unfolding range_from
 returns-in-2 c = rw c.in-2.is (search rules)
