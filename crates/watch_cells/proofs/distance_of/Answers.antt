@@ -6,12 +6,14 @@ use borrow.Author.Tests.{not-true, not-false}
 use Prim.Native.Nat.{ℕ, ◌+◌, ◌*◌, ◌%◌}
 use lib.Dec.{T}
 use lib.ListN.{get_or}
-use lib.IntN.{pos}
+use lib.IntN.{ℤ, pos}
+use mathlib.Core.List.{List}
 use Rattle.numbers.proofs.Bits.{back, back_ok, back_is}
 use Rattle.numbers.proofs.Parts.{holds}
 use Rattle.points.proofs.Fits.{fit, in_back}
 use Rattle.recordings.specs.declared.Predicate.{Predicate}
 use Rattle.recordings.specs.declared.Range.{Range}
+use Rattle.tables.specs.declared.Node.{Node}
 use Rattle.predicates.specs.Predicates.{range_obeys}
 use Rattle.predicates.proofs.Predicates.{range_ends, ends_pass}
 use Rattle.refusals.proofs.First.{answers}
@@ -20,37 +22,35 @@ use Rattle.watch_cells.specs.State.{predicate_in}
 use Rattle.watch_cells.specs.Taking.{LeafAsks}
 use Rattle.watch_cells.proofs.Points.{clash, distance_same}
 use Rattle.watch_cells.proofs.distance_of.Goals as goal
-use Rattle.watch_cells.proofs.distance_of.Goals.{After-range_from-range, Start}
+use Rattle.watch_cells.proofs.distance_of.Goals.{After-range_from-range}
 
 -- what a predicate's node reads
-abbrev Asks : Start → Predicate → ℕ → Type 0
-Asks c p k = LeafAsks c.args.numbers.now c.args.cells.now c.args.values.now c.args.node p k
+module _ {numbers : List ℕ} {cells values : List ℤ} {node : Node} {p : Predicate} {k : ℕ} (a : LeafAsks numbers cells values node p k) where
+  named : node.left % 16 ≡ node.left
+  named = omega (arith, a.numbered)
 
-named : (c : Start) {p : Predicate} {k : ℕ} → Asks c.AS.Start p k → c.args.node.left % 16 ≡ c.args.node.left
-named c a = omega (arith, a.numbered)
+  predicate : predicate_in numbers cells (node.left % 16) ≡ p
+  predicate = ap (predicate_in numbers cells) named ∙ a.predicate_is
 
-predicate : (c : Start) {p : Predicate} {k : ℕ} → Asks c.AS.Start p k → predicate_in c.args.numbers.now c.args.cells.now (c.args.node.left % 16) ≡ p
-predicate c a = ap (predicate_in c.args.numbers.now c.args.cells.now) (named c.AS.Start a) ∙ a.predicate_is
+  channel : get_or numbers (13 + 2 * (node.left % 16) + 1) 0 ≡ p.channel
+  channel = ap (λ (q : Predicate). q.channel) predicate
 
-channel : (c : Start) {p : Predicate} {k : ℕ} → Asks c.AS.Start p k → get_or c.args.numbers.now (13 + 2 * (c.args.node.left % 16) + 1) 0 ≡ p.channel
-channel c a = ap (λ (q : Predicate). q.channel) (predicate c.AS.Start a)
+  scale : get_or numbers (5 + get_or numbers (13 + 2 * (node.left % 16) + 1) 0 % 8) 0 ≡ k
+  scale =
+      let e : p.channel % 8 ≡ p.channel = omega (arith, a.known) in
+      ap (λ (n : ℕ). get_or numbers (5 + n % 8) 0) channel ∙ ap (λ (n : ℕ). get_or numbers (5 + n) 0) e ∙ a.scale_is
 
-scale : (c : Start) {p : Predicate} {k : ℕ} → Asks c.AS.Start p k → get_or c.args.numbers.now (5 + get_or c.args.numbers.now (13 + 2 * (c.args.node.left % 16) + 1) 0 % 8) 0 ≡ k
-scale c {p} a =
-    let e : p.channel % 8 ≡ p.channel = omega (arith, a.known) in
-    ap (λ (n : ℕ). get_or c.args.numbers.now (5 + n % 8) 0) (channel c.AS.Start a) ∙ ap (λ (n : ℕ). get_or c.args.numbers.now (5 + n) 0) e ∙ a.scale_is
-
-range : (c : After-range_from-range) {p : Predicate} {k : ℕ} → Asks c.AS.Start p k → c.range_from-range.result ≡ p.range
+range : (c : After-range_from-range) {p : Predicate} {k : ℕ} → LeafAsks c.args.numbers.now c.args.cells.now c.args.values.now c.args.node p k → c.range_from-range.result ≡ p.range
 range c a =
     c.range_from-range.ensures
     ∙ ap₂ (range_from (get_or c.args.numbers.now (13 + 2 * (c.args.node.left % 16)) 0)) (back_ok _ c.range_from-arg-1.given) (back_ok _ c.range_from-arg-2-1.given)
-    ∙ ap (λ (q : Predicate). q.range) (predicate c.AS.Start a)
+    ∙ ap (λ (q : Predicate). q.range) (predicate a)
 
 pub returns-then-values-channel : goal.returns-then-values-channel
-returns-then-values-channel c = λ p k a. absurd (omega (arith, a.here, channel (goal.at.returns-then-values-channel c).Start a, c.if-values-channel.true))
+returns-then-values-channel c = λ p k a. absurd (omega (arith, a.here, channel a, c.if-values-channel.true))
 
 pub returns-then-scale-gt-MOST_SCALE : goal.returns-then-scale-gt-MOST_SCALE
-returns-then-scale-gt-MOST_SCALE c = λ p k a. absurd (omega (arith, a.scaled.most, scale (goal.at.returns-then-scale-gt-MOST_SCALE c).Start a, c.if-scale-gt-MOST_SCALE.true))
+returns-then-scale-gt-MOST_SCALE c = λ p k a. absurd (omega (arith, a.scaled.most, scale a, c.if-scale-gt-MOST_SCALE.true))
 
 pub returns-then-not-range_obeys : goal.returns-then-not-range_obeys
 returns-then-not-range_obeys c = λ p k a. absurd (clash (answers (subst (λ (r : Range). T (range_obeys r)) (sym (range (goal.at.returns-then-not-range_obeys c).After-range_from-range a)) (ends_pass p.range a.proper.ends))) (sym c.range_obeys.ensures ∙ not-true c.range_obeys.result c.if-not-range_obeys.true-raw))
@@ -63,4 +63,4 @@ pub returns : goal.returns
 returns c =
     λ p k a.
     let z = c.scaled_distance in
-    back_ok z.result z.type_inv ∙ z.ensures ∙ distance_same (scale (goal.at.returns c).Start a) (range (goal.at.returns c).After-range_from-range a) (ap back (ap (λ (n : ℕ). get_or c.args.values.now n (pos 0)) (channel (goal.at.returns c).Start a)) ∙ back_is (fit a.in_range))
+    back_ok z.result z.type_inv ∙ z.ensures ∙ distance_same (scale a) (range (goal.at.returns c).After-range_from-range a) (ap back (ap (λ (n : ℕ). get_or c.args.values.now n (pos 0)) (channel a)) ∙ back_is (fit a.in_range))

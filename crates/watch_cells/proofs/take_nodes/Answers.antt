@@ -25,7 +25,7 @@ loop-k-preserved c =
     let k : suc l.k ≡ l.k + 1 = omega arith in (
       omega arith,
       record { same = λ i h. c.take_node.ensures.beyond.same i h ∙ l.invariant.1.same i h },
-      c.take_node.auto.1.0 ∙ l.invariant.2,
+      c.take_node.auto.cells ∙ l.invariant.2,
       λ t d r A e K. rw k at (c.take_node.ensures.taken t d r A (omega (arith, e, c.loop-k-test.true)) (l.invariant.3 t d r A e K)),
     )
 
@@ -33,6 +33,9 @@ pub shape_of-cells : goal.shape_of-cells
 shape_of-cells c = c.loop-k.invariant.2
 
 pub returns : goal.returns
-returns c = record { taken = λ t k r A e K.
+returns c = record {
+  taken = λ t k r A e K.
       let n : c.loop-k.k ≡ c.args.count = omega arith in
-      rw n at (c.loop-k.invariant.3 t k r A e K); beyond = c.loop-k.invariant.1 }
+      rw n at (c.loop-k.invariant.3 t k r A e K);
+  beyond = c.loop-k.invariant.1;
+}

@@ -17,7 +17,10 @@ returns c =
     let k = c.args.k in
     let x = c.args.newest in
     let y = c.args.margin in
-    let O = two_only l k x y in record { taken = λ numbers values opening since n n-is hx hy t d r A small K.
+    let O = two_only l k x y in record {
+      taken = λ numbers values opening since n n-is hx hy t d r A small K.
           let m = room A small (n-is ∙ K.planned.nodes k c.requires.1) K in
           rw (back_is c.ranges.newest, back_is c.ranges.margin)
-          (point_taken A small (n-is ∙ K.planned.nodes k c.requires.1) K x y hx hy O (two_first l k x y (m 0 (omega arith))) (two_second l k x y (m 1 (omega arith))) (two_third l k x y)); beyond = rw (back_is c.ranges.newest, back_is c.ranges.margin) (beyond_kept O c.requires.1) }
+          (point_taken A small (n-is ∙ K.planned.nodes k c.requires.1) K x y hx hy O (two_first l k x y (m 0 (omega arith))) (two_second l k x y (m 1 (omega arith))) (two_third l k x y));
+      beyond = rw (back_is c.ranges.newest, back_is c.ranges.margin) (beyond_kept O c.requires.1);
+    }

@@ -36,8 +36,11 @@ returns c =
     let hv : back v.result ≡ newest_of c.args.node e c.args.right = back_ok v.result v.type_inv ∙ v.ensures ∙ rw (back_is c.ranges.right) in
     let hy : back y.result ≡ margin_after e m.result x.result c.args.right w.result = back_ok y.result y.type_inv ∙ y.ensures ∙ rw (back_ok m.result m.type_inv, bx, back_is c.ranges.right) in
     let hz : back z.result ≡ margin_extreme (dual e) x.result c.args.left = back_ok z.result z.type_inv ∙ z.ensures ∙ rw (bx, back_is c.ranges.left, other) in
-    let O = three_only l k _ _ _ in record { taken = λ numbers values n-is a t d r A small K.
+    let O = three_only l k _ _ _ in record {
+      taken = λ numbers values n-is a t d r A small K.
           let at = n-is ∙ K.planned.nodes k c.requires.1 in
           let i = room A small at K in
           timed_taken A small at K a m.result x.result w.result (m.ensures ∙ rw (back_ok o.result o.type_inv, o.ensures)) (x.ensures ∙ rw (back_ok p.result p.type_inv, p.ensures, other)) w.ensures
-          O (three_first l k _ _ _ (i 0 (omega arith)) ∙ hv) (three_second l k _ _ _ (i 1 (omega arith)) ∙ hy) (three_third l k _ _ _ (i 2 (omega arith)) ∙ hz); beyond = beyond_kept O c.requires.1 }
+          O (three_first l k _ _ _ (i 0 (omega arith)) ∙ hv) (three_second l k _ _ _ (i 1 (omega arith)) ∙ hy) (three_third l k _ _ _ (i 2 (omega arith)) ∙ hz);
+      beyond = beyond_kept O c.requires.1;
+    }
