@@ -292,7 +292,7 @@ pub extern "C" fn varmityep_watch_fresh(
     cells: &mut [i64],
 ) -> u64
     ensures number { result ≡ first (lent_checks (watch_setup_from ranges.now ends.now scales.now) (table_from nodes.now count) (length numbers.old) (length cells.old)) }
-    ensures watch { Roomy (length numbers.old) (length cells.old) → Watching (lent numbers.exit cells.exit) (table_from nodes.now count) (no_rows (watch_setup_from ranges.now ends.now scales.now)) }
+    ensures watch { Roomy (length numbers.old) (length cells.old) → Watching (lent numbers.new cells.new) (table_from nodes.now count) (no_rows (watch_setup_from ranges.now ends.now scales.now)) }
     ensures short { (Roomy (length numbers.old) (length cells.old) → ⊥) → (numbers.new ≡ numbers.old) × (cells.new ≡ cells.old) }
     ensures behind { SameBehind NUMBERS 0 numbers.old numbers.new × SameBehind CELLS (pos 0) cells.old cells.new }
 {
@@ -310,7 +310,7 @@ pub extern "C" fn varmityep_watch_row(
     time: u64,
     values: &[i64],
 ) -> u64
-    ensures row { Took (lent numbers.entry cells.entry) (record { time = time; values = values.now }) (record { number = result; watch = lent numbers.exit cells.exit }) }
+    ensures row { Took (lent numbers.old cells.old) (record { time = time; values = values.now }) (record { number = result; watch = lent numbers.new cells.new }) }
     ensures short { (Roomy (length numbers.old) (length cells.old) → ⊥) → result ≡ 8 }
     ensures behind { SameBehind NUMBERS 0 numbers.old numbers.new × SameBehind CELLS (pos 0) cells.old cells.new }
 {
@@ -320,8 +320,8 @@ pub extern "C" fn varmityep_watch_row(
 // The margin of the rows that a watch has accepted.
 #[unsafe(no_mangle)]
 pub extern "C" fn varmityep_watch_margin(numbers: &[u64], cells: &[i64], res: &mut [i64]) -> u64
-    ensures number { (t : Table) (c : Card) → Watching (lent numbers.entry cells.entry) t c → result ≡ (margin_so_far c t).number }
-    ensures res { (t : Table) (c : Card) → Watching (lent numbers.entry cells.entry) t c → res.new ≡ margin_handed (margin_so_far c t) res.old }
+    ensures number { (t : Table) (c : Card) → Watching (lent numbers.now cells.now) t c → result ≡ (margin_so_far c t).number }
+    ensures res { (t : Table) (c : Card) → Watching (lent numbers.now cells.now) t c → res.new ≡ margin_handed (margin_so_far c t) res.old }
     ensures refused { (result ≡ 0 → ⊥) → res.new ≡ res.old }
     ensures short { (Roomy (length numbers.now) (length cells.now) → ⊥) → result ≡ 8 }
 {

@@ -1,7 +1,6 @@
 -- What a watch answers while rows are offered to it, one after the other: each row goes to the watch that the row before handed back.
 -- Assumes nothing.
 use Rattle.std.specs.Prelude.{◌≡◌, List, [], ◌∷◌, ℕ, ℤ}
-use Rattle.std.specs.Borrow.{Bor}
 use Rattle.recordings.specs.Card.{Card}
 use Rattle.tables.specs.declared.Table.{Table}
 use Rattle.margins.specs.declared.Answer.{Answer}
@@ -12,8 +11,8 @@ use Rattle.watches.specs.declared.Taken.{Taken}
 use Rattle.watches.specs.Watches.{Watches}
 
 -- a watch that is lent as two slices, as they are at a call's entry or exit
-abbrev pub lent : Bor (List ℕ) → Bor (List ℤ) → Watch
-lent numbers cells = record { numbers = numbers.now; cells = cells.now }
+abbrev pub lent : List ℕ → List ℤ → Watch
+lent numbers cells = record { numbers = numbers; cells = cells }
 
 -- w has taken the rows of c
 abbrev pub Watching : Watch → Table → Card → Type 0

@@ -196,7 +196,7 @@ pub fn make(
     cells: &mut [i64],
 ) -> u64
     ensures number { result ≡ first (lent_checks (watch_setup predicates scales) table (length numbers.old) (length cells.old)) }
-    ensures watch { Roomy (length numbers.old) (length cells.old) → Watching (lent numbers.exit cells.exit) table (no_rows (watch_setup predicates scales)) }
+    ensures watch { Roomy (length numbers.old) (length cells.old) → Watching (lent numbers.new cells.new) table (no_rows (watch_setup predicates scales)) }
     ensures short { (Roomy (length numbers.old) (length cells.old) → ⊥) → (numbers.new ≡ numbers.old) × (cells.new ≡ cells.old) }
     ensures behind { SameBehind NUMBERS 0 numbers.old numbers.new × SameBehind CELLS (pos 0) cells.old cells.new }
 {
@@ -275,7 +275,7 @@ fn take_row(numbers: &mut [u64], cells: &mut [i64], time: u64, values: &[i64])
 
 // One row more, in a watch that is lent. A refused one leaves it as it is.
 pub fn take(numbers: &mut [u64], cells: &mut [i64], time: u64, values: &[i64]) -> u64
-    ensures row { Took (lent numbers.entry cells.entry) (record { time = time; values = values.now }) (record { number = result; watch = lent numbers.exit cells.exit }) }
+    ensures row { Took (lent numbers.old cells.old) (record { time = time; values = values.now }) (record { number = result; watch = lent numbers.new cells.new }) }
     ensures short { (Roomy (length numbers.old) (length cells.old) → ⊥) → result ≡ 8 }
     ensures behind { SameBehind NUMBERS 0 numbers.old numbers.new × SameBehind CELLS (pos 0) cells.old cells.new }
 {
@@ -308,7 +308,7 @@ fn root_margin(numbers: &[u64], cells: &[i64]) -> i64
 
 // The margin of the rows accepted so far, of a watch that is lent.
 pub fn tell(numbers: &[u64], cells: &[i64]) -> Answer
-    ensures margin { Told (lent numbers.entry cells.entry) result }
+    ensures margin { Told (lent numbers.now cells.now) result }
     ensures short { (Roomy (length numbers.now) (length cells.now) → ⊥) → (margin_outcome result).number ≡ 8 }
 {
     if !is_roomy(numbers.len(), cells.len()) {

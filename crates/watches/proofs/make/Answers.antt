@@ -1,6 +1,7 @@
 -- A watch is written whatever its making was refused by, where there is room for one.
 -- Assumes nothing.
 use mathlib.Core.Path.{refl, sym, ◌∙◌}
+use mathlib.Core.List.{[]}
 use borrow.Author.Tests.{not-true, not-false}
 use lib.ListN.{length}
 use Rattle.refusals.proofs.First.{first_stays, first_here}
@@ -38,5 +39,5 @@ returns c =
     let m = c.making_refusal-number.ensures in
     let f = c.write_fresh.ensures in
     let o = room (goal.at.returns c).Else-not-is_roomy in
-    let n = f.1.1.0 in
-    let p = f.1.1.1 in record { number = m ∙ sym (lent_first (watch_setup s.predicates s.scales) s.table _ _ o); watch = λ z. rw (f.0, f.1.0) (fresh_watches c.making_refusal-number.result s.table s.predicates s.scales s.numbers.now s.cells.now n p o.long o.wide m); short = λ z. absurd (z o); behind = (rw f.0 (fresh_behind c.making_refusal-number.result s.table s.predicates s.scales s.numbers.now s.cells.now n p o.long o.wide), rw f.1.0 (cells_behind c.making_refusal-number.result s.table s.predicates s.scales s.numbers.now s.cells.now n p o.long o.wide)) }
+    let n = f.arrays.0 in
+    let p = f.arrays.1 in record { number = m ∙ sym (lent_first (watch_setup s.predicates s.scales) s.table _ _ o); watch = λ z. rw (f.numbers, f.cells) (fresh_watches c.making_refusal-number.result s.table s.predicates s.scales s.numbers.now s.cells.now n p o.long o.wide m); short = λ z. absurd (z o); behind = (rw f.numbers (fresh_behind c.making_refusal-number.result s.table s.predicates s.scales s.numbers.now s.cells.now n p o.long o.wide), rw f.cells (cells_behind c.making_refusal-number.result s.table s.predicates s.scales s.numbers.now s.cells.now n p o.long o.wide)) }

@@ -6,17 +6,15 @@ use Rattle.watches.proofs.Answers.{making_first, kept_now, row_first}
 use Rattle.watches.proofs.offer_refusal.Goals as goal
 use Rattle.watches.proofs.offer_refusal.Goals.{Start}
 
-abbrev row_of : Start → Row
-row_of c = record { time = c.args.time; values = c.args.values.now }
-
 pub returns-then-refusal-ne0 : goal.returns-then-refusal-ne0
-returns-then-refusal-ne0 c = record { number = λ cells t k W. making_first W (row_checks k (row_of (goal.at.returns-then-refusal-ne0 c).Start)) c.if-refusal-ne0.true; early = λ z. absurd (c.if-refusal-ne0.true z); values = λ z. absurd (c.if-refusal-ne0.true z) }
+returns-then-refusal-ne0 c = record { number = λ cells t k W. making_first W (row_checks k (record { time = c.args.time; values = c.args.values.now })) c.if-refusal-ne0.true; early = λ z. absurd (c.if-refusal-ne0.true z); values = λ z. absurd (c.if-refusal-ne0.true z) }
 
 pub returns : goal.returns
-returns c = (
-  λ cells t k W.
+returns c = record {
+  number = λ cells t k W.
       let e = c.if-refusal-ne0.false in
       let K = kept_now W e in
-      c.row_refusal.ensures.number k K.planned.channels K.clock.next ∙ row_first W (row_of (goal.at.returns c).Start) e,
-  c.row_refusal.ensures.early,
-)
+      c.row_refusal.ensures.number k K.planned.channels K.clock.next ∙ row_first W (record { time = c.args.time; values = c.args.values.now }) e;
+  early = c.row_refusal.ensures.early;
+  values = c.row_refusal.ensures.values;
+}

@@ -12,13 +12,10 @@ use Rattle.watches.proofs.Answers.{roomy, cramped, watch_roomy, refused_watches}
 use Rattle.watches.proofs.take.Goals as goal
 use Rattle.watches.proofs.take.Goals.{Else-not-is_roomy, Else-number-ne0, Start}
 
-abbrev row_of : Start → Row
-row_of c = record { time = c.args.time; values = c.args.values.now }
-
 room : (c : Else-not-is_roomy) → Roomy (length c.args.numbers.now) (length c.args.cells.now)
 room c = roomy _ _ (sym c.is_roomy.ensures ∙ not-false _ c.if-not-is_roomy.false-raw)
 
-none : (c : Else-number-ne0) (t : Table) (k : Card) → Watches c.args.numbers.now c.args.cells.now t k → offer_refusal k t (row_of c.AS.Start) ≡ 0
+none : (c : Else-number-ne0) (t : Table) (k : Card) → Watches c.args.numbers.now c.args.cells.now t k → offer_refusal k t (record { time = c.args.time; values = c.args.values.now }) ≡ 0
 none c t k W = sym (c.offer_refusal-number.ensures.number c.args.cells.now t k W) ∙ c.if-number-ne0.false
 
 pub returns-then-not-is_roomy : goal.returns-then-not-is_roomy
@@ -32,12 +29,12 @@ offer_refusal-number-requires c = (room (goal.at.offer_refusal-number-requires c
 pub returns-then-number-ne0 : goal.returns-then-number-ne0
 returns-then-number-ne0 c =
     let o = c.offer_refusal-number.ensures.number in
-    record { row = record { equal = λ z. refl; number = o c.args.cells.now; watch = λ t k W. refused_watches W (row_of (goal.at.returns-then-number-ne0 c).Start) (λ z. c.if-number-ne0.true (o c.args.cells.now t k W ∙ z)) }; short = λ z. absurd (z (room (goal.at.returns-then-number-ne0 c).Else-not-is_roomy)); behind = (record { same = λ i h. refl }, record { same = λ i h. refl }) }
+    record { row = record { equal = λ z. refl; number = o c.args.cells.now; watch = λ t k W. refused_watches W (record { time = c.args.time; values = c.args.values.now }) (λ z. c.if-number-ne0.true (o c.args.cells.now t k W ∙ z)) }; short = λ z. absurd (z (room (goal.at.returns-then-number-ne0 c).Else-not-is_roomy)); behind = (record { same = λ i h. refl }, record { same = λ i h. refl }) }
 
 pub take_row-requires : goal.take_row-requires
-take_row-requires c = let m = room (goal.at.take_row-requires c).Else-not-is_roomy in let o = c.offer_refusal-number.ensures.early in let n = c.if-number-ne0.false in (m.long, m.wide, o.0 n, o.1 n)
+take_row-requires c = let m = room (goal.at.take_row-requires c).Else-not-is_roomy in let o = c.offer_refusal-number.ensures in let n = c.if-number-ne0.false in (m.long, m.wide, o.early n, o.values n)
 
 pub returns : goal.returns
 returns c =
     let t3 = c.take_row.ensures in
-    record { row = record { equal = λ z. absurd (z refl); number = λ t k W. sym (none (goal.at.returns c).Else-number-ne0 t k W); watch = λ t k W. subst (Watches _ _ t) (sym (unless_none (with_row k (row_of (goal.at.returns c).Start)) k (none (goal.at.returns c).Else-number-ne0 t k W))) (t3.0 t k W (none (goal.at.returns c).Else-number-ne0 t k W)) }; short = λ z. absurd (z (room (goal.at.returns c).Else-not-is_roomy)); behind = t3.1 }
+    record { row = record { equal = λ z. absurd (z refl); number = λ t k W. sym (none (goal.at.returns c).Else-number-ne0 t k W); watch = λ t k W. subst (Watches _ _ t) (sym (unless_none (with_row k (record { time = c.args.time; values = c.args.values.now })) k (none (goal.at.returns c).Else-number-ne0 t k W))) (t3.watch t k W (none (goal.at.returns c).Else-number-ne0 t k W)) }; short = λ z. absurd (z (room (goal.at.returns c).Else-not-is_roomy)); behind = t3.behind }

@@ -13,16 +13,16 @@ use Rattle.watches.proofs.Longer.{begun_other, counted, arriving, untaken, longe
 use Rattle.watches.proofs.take_row.Goals as goal
 use Rattle.watches.proofs.take_row.Goals.{Start}
 
-abbrev row_of : Start → Row
-row_of c = record { time = c.args.time; values = c.args.values.now }
-
 pub returns : goal.returns
 returns c =
     let bg = c.begin-opening.ensures in
     let se = c.seconds-since.ensures in
     let nc = c.node_count-count.ensures in
-    let tn = c.take_nodes.ensures in record { watch = λ t k W e.
-          let r = row_of (goal.at.returns c).Start in
-          let count = nc ∙ ap (λ (l : List ℕ). min (get_or l 1 0) NODES) bg.1 ∙ counted r W e in
-          let D = tn.0 t k r (rw (bg.0, se, bg.1) (arriving r W e)) count (rw bg.1 (untaken r W e)) in
-          rw bg.1 (longer_watches r W e (c.args.time + 1) refl (rw (bg.1, count) at D) tn.1); behind = (rw bg.1 (record { same = λ i h. get_or-set_other (begun c.args.time c.args.numbers.now) 3 i (c.args.time + 1) 0 (λ (z : i ≡ 3). omega arith) ∙ begun_other c.args.numbers.now c.args.time i (λ (z : i ≡ 2). omega arith) }), record { same = λ i h. tn.1.same i (λ x y. omega arith) }) }
+    let tn = c.take_nodes.ensures in record {
+      watch = λ t k W e.
+          let r : Row = record { time = c.args.time; values = c.args.values.now } in
+          let count = nc ∙ ap (λ (l : List ℕ). min (get_or l 1 0) NODES) bg.numbers ∙ counted r W e in
+          let D = tn.taken t k r (rw (bg.first, se, bg.numbers) (arriving r W e)) count (rw bg.numbers (untaken r W e)) in
+          rw bg.numbers (longer_watches r W e (c.args.time + 1) refl (rw (bg.numbers, count) at D) tn.beyond);
+      behind = (rw bg.numbers (record { same = λ i h. get_or-set_other (begun c.args.time c.args.numbers.now) 3 i (c.args.time + 1) 0 (λ (z : i ≡ 3). omega arith) ∙ begun_other c.args.numbers.now c.args.time i (λ (z : i ≡ 2). omega arith) }), record { same = λ i h. tn.beyond.same i (λ x y. omega arith) });
+    }

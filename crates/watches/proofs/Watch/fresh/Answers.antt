@@ -4,4 +4,4 @@ use borrow.Author.Rules.{rules}
 use Rattle.watches.proofs.Watch.fresh.Goals as goal
 
 pub returns : goal.returns
-returns c = c.make.ensures.watch.0 (record { long = search rules; wide = search rules })
+returns c = c.make.ensures.watch (record { long = search rules; wide = search rules })
