@@ -30,7 +30,7 @@ pub struct Counted {
 const ENCLOSINGS: usize = 32;
 
 // unary = `!` unary, `G` or `F` window unary, `T`, `p` with 0 to 15, or a parenthesised alternative.
-#[cycle(read_alternative_read_bind_read_conjunction_read_unary)]
+#[cycle(readers)]
 fn read_unary(
     s: &[u8],
     at: usize,
@@ -59,7 +59,7 @@ fn read_unary(
 }
 
 // bind = unary, optionally followed by `U` or `R`, a window and a unary.
-#[cycle(read_alternative_read_bind_read_conjunction_read_unary)]
+#[cycle(readers)]
 fn read_bind(
     s: &[u8],
     at: usize,
@@ -87,7 +87,7 @@ fn read_bind(
 }
 
 // conjunction = bind, then any count of `&` bind, grouped to the left.
-#[cycle(read_alternative_read_bind_read_conjunction_read_unary)]
+#[cycle(readers)]
 fn read_conjunction(
     s: &[u8],
     at: usize,
@@ -121,7 +121,7 @@ fn read_conjunction(
 }
 
 // alternative = conjunction, then any count of `|` conjunction, grouped to the left.
-#[cycle(read_alternative_read_bind_read_conjunction_read_unary)]
+#[cycle(readers)]
 fn read_alternative(
     s: &[u8],
     at: usize,

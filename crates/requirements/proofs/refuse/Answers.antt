@@ -1,6 +1,5 @@
 -- `requirements::refuse` meets its contract: each branch of the code is a case of the definition.
 -- Assumes nothing.
-use Rattle.requirements.proofs.refuse.Lts as lts
 use Rattle.requirements.proofs.refuse.Goals as goal
 
 pub returns : goal.returns
