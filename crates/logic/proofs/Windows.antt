@@ -37,7 +37,7 @@ expansion_spread s w = record { spread = λ c d t n. let p = inside_says w c t i
 
 regained : (s : ℕ) (e : Stop) (c : ℕ) → T (reaches (sooner s e) c) → later s (sooner s e) ≡ e
 regained s Endless c t = refl
-regained s (Before e) c t = ap Before (omega (arith, ltb→lt c (e - s) t))
+regained s (Before e) c t = ap Before (omega (arith, ltb→lt _ _ t))
 
 resumed : (s lo : ℕ) → delayed s lo - s ≡ lo
 resumed s zero = omega arith
