@@ -1,6 +1,6 @@
 -- `sheet_rows::store_rows` meets its contract: with the rows that are left behind it, each slice is what it will be at the end.
 -- Assumes nothing.
-use Prim.Native.Nat.{◌-◌, ◌<◌}
+use Prim.Native.Nat.{◌<◌}
 use native.Mathlib.Omega.{arith}
 use lib.ListN.{length}
 use Rattle.sheet_rows.proofs.Storing.{fill_start, fill_over, fill_bad, fill_filled, fill_past, fill_row, fill_room, fill_storable, fill_measured}
@@ -13,7 +13,7 @@ pub offset_bounds-times-rows : goal.offset_bounds-times-rows
 offset_bounds-times-rows c =
     let h : c.loop-at.rows < length c.loop-at.times = fill_row _ _ _ _ _ _ _ _ c.loop-at.invariant _ c.loop-at-test.true c.read_row.ensures _ _ _ c.in-Measured.is in
     let g = c.loop-at.invariant.t_long in
-    let r = c.well-formed.1.1.0 in
+    let r = c.well_formed.1.1.0 in
     omega (arith, r)
 
 pub bounds-times-rows : goal.bounds-times-rows
@@ -24,7 +24,7 @@ pub overflow_mul-rows : goal.overflow_mul-rows
 overflow_mul-rows c =
     let h = fill_room _ _ _ _ _ _ _ _ c.loop-at.invariant _ c.loop-at-test.true c.read_row.ensures _ _ _ c.in-Measured.is in
     let g = c.loop-at.invariant.v_long in
-    let r = c.well-formed.1.1.1.0 in
+    let r = c.well_formed.1.1.1.0 in
     omega (arith, r)
 
 pub store_values-requires : goal.store_values-requires
@@ -35,7 +35,7 @@ pub overflow_add-rows : goal.overflow_add-rows
 overflow_add-rows c =
     let h : c.loop-at.rows < length c.loop-at.times = fill_row _ _ _ _ _ _ _ _ c.loop-at.invariant _ c.loop-at-test.true c.read_row.ensures _ _ _ c.in-Measured.is in
     let g = c.loop-at.invariant.t_long in
-    let r = c.well-formed.1.1.0 in
+    let r = c.well_formed.1.1.0 in
     omega (arith, r)
 
 pub loop-at-smaller-in-Measured : goal.loop-at-smaller-in-Measured
@@ -71,4 +71,4 @@ pub shape_of-values : goal.shape_of-values
 shape_of-values c = c.loop-at.invariant.v_long
 
 pub returns : goal.returns
-returns c = fill_over _ _ _ _ _ _ _ _ c.loop-at.invariant c.loop-at-test.false
+returns c = let e = fill_over _ _ _ _ _ _ _ _ c.loop-at.invariant c.loop-at-test.false in record { times = e.0; values = e.1 }

@@ -4,7 +4,6 @@ use mir.Syntax.{w64}
 use mir.Val.{to_z, of_z}
 use borrow.Author.Rules.{rules}
 use mathlib.Core.Path.{◌≡◌, sym, ◌∙◌}
-use Prim.Native.Nat.{◌-◌}
 use native.Mathlib.Omega.{arith}
 use Rattle.sheet_rows.proofs.Storing.{store_start, store_over, store_bad, store_next}
 use Rattle.sheet_rows.proofs.store_values.Goals as goal

@@ -2,7 +2,6 @@
 -- Assumes nothing.
 use borrow.Author.Tests.{not-true, not-false}
 use Rattle.sheets.proofs.Chain.{lines_broken, lines_missing, lines_there}
-use Rattle.sheets.proofs.keeps_lines.Lts as lts
 use Rattle.sheets.proofs.keeps_lines.Goals as goal
 
 pub returns-then-not-found : goal.returns-then-not-found

@@ -4,7 +4,6 @@ use mathlib.Core.Path.{ap, ◌∙◌}
 use mathlib.Core.Bool.{Bool}
 use Rattle.sheets.specs.Sheets.{sheet_refusal}
 use Rattle.sheets.proofs.Chain.{behind_refused, behind_read}
-use Rattle.sheets.proofs.read_behind.Lts as lts
 use Rattle.sheets.proofs.read_behind.Goals as goal
 
 pub returns-then-number-ne0 : goal.returns-then-number-ne0

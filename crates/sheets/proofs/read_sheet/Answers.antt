@@ -5,7 +5,6 @@ use mathlib.Core.Path.{sym, ap, ◌∙◌}
 use Rattle.heads.specs.declared.HeadLines.{HeadLines}
 use Rattle.sheets.proofs.Chain.{sheet_long, sheet_headless, sheet_behind}
 use Rattle.sheets.proofs.Exact.{requirements_inside}
-use Rattle.sheets.proofs.read_sheet.Lts as lts
 use Rattle.sheets.proofs.read_sheet.Goals as goal
 
 pub returns-then-s-gt-LIMIT : goal.returns-then-s-gt-LIMIT

@@ -1,7 +1,6 @@
 -- A refused text has the blank sheet.
 -- Assumes nothing.
 use mathlib.Core.Path.{refl}
-use Rattle.sheets.proofs.refused.Lts as lts
 use Rattle.sheets.proofs.refused.Goals as goal
 
 pub returns : goal.returns

@@ -16,7 +16,7 @@ use Rattle.writing.proofs.write_numbered.Goals as goal
 use Rattle.writing.proofs.write_numbered.Goals.{Else-not-obeys}
 
 obeys : (c : Else-not-obeys) → table_obeys c.args.table ≡ true
-obeys c = sym c.table_obeys-obeys.ensures ∙ not-false _ c.if-not-obeys.false-raw
+obeys c = sym c.table_obeys-obeys.ensures ∙ c.if-not-obeys.false
 
 -- the test of a measure
 abbrev over : Measure → Bool
@@ -25,7 +25,7 @@ over m = leb (suc NODES) m.nodes || leb (suc ENCLOSINGS) m.enclosings
 pub returns-then-not-obeys : goal.returns-then-not-obeys
 returns-then-not-obeys c =
     let a = c.args in
-    let e = is_three a.table (length a.text.now) (sym c.table_obeys-obeys.ensures ∙ not-true c.table_obeys-obeys.result c.if-not-obeys.true-raw) in
+    let e = is_three a.table (length a.text.now) (sym c.table_obeys-obeys.ensures ∙ c.if-not-obeys.true) in
     record { answer = rw e c.refuse.ensures; text = rw e }
 
 pub last_measure-measure-requires : goal.last_measure-measure-requires
