@@ -21,11 +21,11 @@ slice_bounds-read_rows-start c = let p = c.requires in omega (arith, p.behind)
 pub loop-k-init : goal.loop-k-init
 loop-k-init c =
     let r = c.read_rows-read in
-    let m : length r.new.1.1.0 ≡ ROWS = search rules in
-    let n : length r.new.1.1.1.0 ≡ VALUES = search rules in (
+    let m : length r.new.times ≡ ROWS = search rules in
+    let n : length r.new.values ≡ VALUES = search rules in (
       omega arith,
       c.requires,
-      stored c.args.text.now c.args.sheet c.requires.checked _ (whole_behind c.args.text.now c.args.sheet.rows) r.result r.ensures.answer _ _ r.ensures.times.0 m _ _ r.ensures.times.1 n,
+      stored c.args.text.now c.args.sheet c.requires.checked _ (whole_behind c.args.text.now c.args.sheet.rows) r.result r.ensures.answer _ _ r.ensures.times m _ _ r.ensures.values n,
       rw c.refused-none.ensures (fill_none 0 _ no_entries),
     )
 

@@ -4,7 +4,6 @@ use mathlib.Core.Path.{◌≡◌}
 use Prim.Native.Nat.{◌-◌, ◌≤◌}
 use Rattle.lists.specs.Fill.{fill}
 use Rattle.answers.specs.Answers.{listing, requirement_part, answer_for, no_entries, Placed, Stored}
-use Rattle.answers.proofs.answer_all.Lts as lts
 use Rattle.answers.proofs.answer_all.Given as goal
 
 abbrev pub invariant-loop-k : goal.invariant-loop-k

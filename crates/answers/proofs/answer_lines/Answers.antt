@@ -6,4 +6,4 @@ pub returns : goal.returns
 returns c =
     let e = c.answers.ensures in
     let p = c.lines.ensures in
-    record { result_value = rw e at p.0; room = rw e at p.1 }
+    record { result_value = rw e at p.result_value; room = rw e at p.room }

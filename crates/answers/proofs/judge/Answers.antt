@@ -13,25 +13,22 @@ use borrow.Author.Rules.{rules}
 use Rattle.answers.proofs.judge.Goals as goal
 use Rattle.answers.proofs.judge.Goals.{Start}
 
-abbrev card-of : Start → Card
-card-of c = card c.args.setup c.args.times.now c.args.values.now
-
 pub returns-in-Refused : goal.returns-in-Refused
 returns-in-Refused c =
-    let v : verdict_outcome c.verdict-answer.result ≡ verdict_judged (card-of (goal.at.returns-in-Refused c).Start) c.args.table c.args.step c.args.drift CELLS = c.verdict-answer.ensures.answer in
+    let v : verdict_outcome c.verdict-answer.result ≡ verdict_judged (card c.args.setup c.args.times.now c.args.values.now) c.args.table c.args.step c.args.drift CELLS = c.verdict-answer.ensures.answer in
     let e = rw c.in-Refused.is at v in
-    c.refused.ensures ∙ judge_refused (card-of (goal.at.returns-in-Refused c).Start) c.args.table c.args.step c.args.drift c.args.filled _ (ap (λ (o : VerdictOutcome). o.number) e) (refused_some (card-of (goal.at.returns-in-Refused c).Start) c.args.table c.args.step c.args.drift CELLS e)
+    c.refused.ensures ∙ judge_refused (card c.args.setup c.args.times.now c.args.values.now) c.args.table c.args.step c.args.drift c.args.filled _ (ap (λ (o : VerdictOutcome). o.number) e) (refused_some (card c.args.setup c.args.times.now c.args.values.now) c.args.table c.args.step c.args.drift CELLS e)
 
 pub returns-in-Judged : goal.returns-in-Judged
 returns-in-Judged c =
     let j = c.in-Judged.judged in
-    let v : verdict_outcome c.verdict-answer.result ≡ verdict_judged (card-of (goal.at.returns-in-Judged c).Start) c.args.table c.args.step c.args.drift CELLS = c.verdict-answer.ensures.answer in
+    let v : verdict_outcome c.verdict-answer.result ≡ verdict_judged (card c.args.setup c.args.times.now c.args.values.now) c.args.table c.args.step c.args.drift CELLS = c.verdict-answer.ensures.answer in
     let e = rw c.in-Judged.is at v in
-    let l : length c.verdict-answer.new.1.1.1.1.1.1.0 ≡ CELLS = search rules in
-    let m : margin_outcome c.margin-plain.result ≡ margin_judged (card-of (goal.at.returns-in-Judged c).Start) c.args.table CELLS = c.margin-plain.ensures.answer ∙ ap (margin_judged (card-of (goal.at.returns-in-Judged c).Start) c.args.table) l in
+    let l : length c.verdict-answer.new.work ≡ CELLS = search rules in
+    let m : margin_outcome c.margin-plain.result ≡ margin_judged (card c.args.setup c.args.times.now c.args.values.now) c.args.table CELLS = c.margin-plain.ensures.answer ∙ ap (margin_judged (card c.args.setup c.args.times.now c.args.values.now) c.args.table) l in
     let h : back j.hold ≡ j.hold = search rules in
     let f : back j.fail ≡ j.fail = search rules in
-    judge_accepted (card-of (goal.at.returns-in-Judged c).Start) c.args.table c.args.step c.args.drift c.args.filled (sym (ap (λ (o : VerdictOutcome). o.number) e)) _ _ _ _
+    judge_accepted (card c.args.setup c.args.times.now c.args.values.now) c.args.table c.args.step c.args.drift c.args.filled (sym (ap (λ (o : VerdictOutcome). o.number) e)) _ _ _ _
     (back_ok _ c.margin_of.type_inv ∙ (c.margin_of.ensures ∙ ap (λ (o : MarginOutcome). o.margin) m))
     (h ∙ ap (λ (o : VerdictOutcome). o.hold) e)
     (f ∙ ap (λ (o : VerdictOutcome). o.fail) e)
