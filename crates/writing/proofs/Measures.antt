@@ -11,7 +11,7 @@ use lib.Seq.{get_or-set_same, get_or-set_other}
 use Rattle.text.proofs.Tests.{false_true}
 use Rattle.tables.specs.declared.Node.{Node}
 use Rattle.tables.specs.Kind.{operator}
-use Rattle.tables.specs.Tree.{NODES, span}
+use Rattle.tables.specs.Tree.{NODES}
 use Rattle.tables.specs.Rules.{Use, child, number, unused, is_child, left_use, right_use, NodeRules}
 use Rattle.tables.proofs.Rules.{child_before, named_small}
 use Rattle.tables.specs.declared.Span.{Span}

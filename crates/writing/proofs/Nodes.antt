@@ -16,7 +16,6 @@ use Rattle.tables.proofs.Rules.{child_before}
 use Rattle.tables.proofs.EveryKind.{left_is}
 use Rattle.grammar.specs.declared.Part.{Part}
 use Rattle.grammar.specs.declared.Part.TheVariants.{Unary as unary}
-use Rattle.tables.specs.Tree.{span}
 use Rattle.building.specs.Unshared.{node_tree, unshared}
 use Rattle.building.proofs.Unshared.{unshared_node}
 use Rattle.spelling.specs.Text.{part_of, left_part, right_part, sign, text_as}

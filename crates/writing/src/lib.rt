@@ -189,7 +189,7 @@ fn refuse(number: u64) -> Written
 fn write_table(cells: &[u64; CELLS], table: Table, text: &mut [u8]) -> Written
     requires holds_nodes { HoldsNodes cells.now table }
     requires table_rules { TableRules table }
-    requires fact { Requires (table_text table) (tree_of table) }
+    requires limits { Requires (table_text table) (tree_of table) }
     ensures answer { result ≡ written_of table (length text.old) }
     ensures text { text.new ≡ text_slice table text.old }
 {

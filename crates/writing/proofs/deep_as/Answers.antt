@@ -1,7 +1,6 @@
 -- The branch's test says whether a pair of parentheses stands around the child.
 -- Assumes nothing.
 use mathlib.Core.Path.{sym, ◌∙◌}
-use Rattle.writing.proofs.deep_as.Lts as lts
 use Rattle.writing.proofs.deep_as.Goals as goal
 
 pub returns-then-stands_as : goal.returns-then-stands_as

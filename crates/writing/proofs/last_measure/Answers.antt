@@ -1,10 +1,8 @@
 -- Before node k the measures of all earlier nodes stand in their places, and its children are among them.
 -- Assumes nothing.
-use Prim.Native.Nat.{◌-◌}
 use native.Mathlib.Omega.{arith}
 use Rattle.writing.proofs.Measures.{places, measured_next}
 use borrow.Author.Rules.{rules}
-use Rattle.writing.proofs.last_measure.Lts as lts
 use Rattle.writing.proofs.last_measure.Goals as goal
 
 pub loop-k-init : goal.loop-k-init

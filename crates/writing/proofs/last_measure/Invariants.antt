@@ -3,7 +3,6 @@
 use Prim.Native.Nat.{◌-◌}
 use Rattle.tables.specs.Tree.{node_at}
 use Rattle.writing.proofs.Measures.{Measured}
-use Rattle.writing.proofs.last_measure.Lts as lts
 use Rattle.writing.proofs.last_measure.Given as goal
 
 abbrev pub invariant-loop-k : goal.invariant-loop-k

@@ -8,7 +8,6 @@ use Rattle.spelling.specs.Text.{part_of}
 use Rattle.writing.specs.Measures.{two_measure}
 use Rattle.writing.proofs.Measures.{no_child}
 use Rattle.writing.proofs.Nodes.{two_uses, one_uses}
-use Rattle.writing.proofs.node_measure.Lts as lts
 use Rattle.writing.proofs.node_measure.Goals as goal
 
 pub returns-then-has_right : goal.returns-then-has_right

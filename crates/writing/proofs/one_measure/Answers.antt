@@ -6,7 +6,6 @@ use Rattle.grammar.specs.declared.Part.TheVariants.{Unary as unary}
 use Rattle.grammar.specs.Grammar.{ENCLOSINGS}
 use Rattle.writing.specs.Measures.{deep_as}
 use Rattle.writing.proofs.Measures.{alike, cut_one}
-use Rattle.writing.proofs.one_measure.Lts as lts
 use Rattle.writing.proofs.one_measure.Goals as goal
 
 pub returns : goal.returns

@@ -8,7 +8,6 @@ use Rattle.grammar.specs.Grammar.{ENCLOSINGS}
 use Rattle.spelling.specs.Text.{left_part, right_part}
 use Rattle.writing.specs.Measures.{deep_as}
 use Rattle.writing.proofs.Measures.{alike, cut_one, cut_max}
-use Rattle.writing.proofs.two_measure.Lts as lts
 use Rattle.writing.proofs.two_measure.Goals as goal
 
 pub returns : goal.returns

@@ -1,7 +1,6 @@
 -- The branch's test says which leaf it is.
 -- Assumes nothing.
 use borrow.Author.Tests.{eq-eqb, ne_eqb}
-use Rattle.writing.proofs.write_leaf.Lts as lts
 use Rattle.writing.proofs.write_leaf.Goals as goal
 
 pub returns-then-node-eq-PREDICATE : goal.returns-then-node-eq-PREDICATE

@@ -45,4 +45,4 @@ write_table-requires c =
     let a = c.args in
     let r = obeys_rules a.table (obeys (goal.at.write_table-requires c).Else-not-obeys) in
     let m = sym (past_limits a.table) ∙ (ap over (sym c.last_measure-measure.ensures) ∙ c.if-measure.false) in
-    (c.requires, (r, limits_required a.table r (not-false _ m)))
+    record { holds_nodes = c.requires; table_rules = r; limits = limits_required a.table r (not-false _ m) }

@@ -14,12 +14,12 @@ use borrow.Author.Rules.{rules}
 use Rattle.writing.proofs.write_table.Goals as goal
 
 pub write_node-end-requires : goal.write_node-end-requires
-write_node-end-requires c = laid_ruled c.args.table c.args.cells.now c.requires.holds_nodes c.requires.table_rules.0
+write_node-end-requires c = laid_ruled c.args.table c.args.cells.now c.requires.holds_nodes c.requires.table_rules
 
 pub returns-then-text-end : goal.returns-then-text-end
 returns-then-text-end c =
-    let w = text_printed c.args.table c.args.cells.now c.requires.holds_nodes c.requires.table_rules.0 c.requires.table_rules.1 c.write_node-end.ensures in
-    let e = is_fifteen c.args.table (length c.args.text.now) c.requires.table_rules.0 c.requires.table_rules.1 (rw w.0 at c.if-text-end.true) in
+    let w = text_printed c.args.table c.args.cells.now c.requires.holds_nodes c.requires.table_rules c.requires.limits c.write_node-end.ensures in
+    let e = is_fifteen c.args.table (length c.args.text.now) c.requires.table_rules c.requires.limits (rw w.0 at c.if-text-end.true) in
     record { answer = rw e c.refuse.ensures; text = rw e }
 
 pub slice_bounds-bytes-end : goal.slice_bounds-bytes-end
@@ -30,7 +30,7 @@ slice_bounds-write_bytes-end c = let l = place_inside _ _ c.write_node-end.ensur
 
 pub returns : goal.returns
 returns c =
-    let w = text_printed c.args.table c.args.cells.now c.requires.holds_nodes c.requires.table_rules.0 c.requires.table_rules.1 c.write_node-end.ensures in
+    let w = text_printed c.args.table c.args.cells.now c.requires.holds_nodes c.requires.table_rules c.requires.limits c.write_node-end.ensures in
     let h : length (table_text c.args.table) ≤ length c.args.text.now = rw w.0 at c.if-text-end.false in
-    let e = is_none c.args.table (length c.args.text.now) c.requires.table_rules.0 c.requires.table_rules.1 h in
+    let e = is_none c.args.table (length c.args.text.now) c.requires.table_rules c.requires.limits h in
     record { answer = rw (e, w.0); text = rw e ((rw w.1 at c.write_bytes.ensures) ∙ written_in_front (table_text c.args.table) c.args.text.now h) }
