@@ -9,7 +9,7 @@ use Rattle.varmityep.proofs.hand_margin.Goals as goal
 pub returns-in-Margin : goal.returns-in-Margin
 returns-in-Margin c =
     let z : to_z w64 (of_z w64 c.in-Margin.margin) ≡ c.in-Margin.margin = search rules in
-    rw c.in-Margin.is (c.hand.ensures.number, rw z at c.hand.ensures.res)
+    rw c.in-Margin.is (record { number = c.hand.ensures.number; res = rw z at c.hand.ensures.res })
 
 pub returns-in-Refused : goal.returns-in-Refused
-returns-in-Refused c = rw c.in-Refused.is (c.hand-in-Refused.ensures.number, c.hand-in-Refused.ensures.res)
+returns-in-Refused c = rw c.in-Refused.is (record { number = c.hand-in-Refused.ensures.number; res = c.hand-in-Refused.ensures.res })

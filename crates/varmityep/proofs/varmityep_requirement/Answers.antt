@@ -18,4 +18,4 @@ pub returns : goal.returns
 returns c =
     let n = c.read_numbers-read.ensures in
     let z = c.if-read-ne0.false in
-    rw (sym n.refusal ∙ z) (refl, (rw (n.numbers z) at c.write_numbers.ensures, rw (n.count z) at c.write_numbers-2.ensures))
+    rw (sym n.refusal ∙ z) (record { number = refl; nodes = rw (n.numbers z) at c.write_numbers.ensures; count = rw (n.count z) at c.write_numbers-2.ensures })

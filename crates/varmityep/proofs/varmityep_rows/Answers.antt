@@ -7,10 +7,10 @@ use Rattle.varmityep.proofs.varmityep_rows.Goals as goal
 pub returns-then-answer-ne0 : goal.returns-then-answer-ne0
 returns-then-answer-ne0 c =
     let a = c.read_rows-answer.ensures in
-    record { number = rw a.0; times = a.1.0; values = a.1.1; counts = kept _ _ _ c.if-answer-ne0.true }
+    record { number = rw a.answer; times = a.times; values = a.values; counts = kept _ _ _ c.if-answer-ne0.true }
 
 pub returns : goal.returns
 returns c =
     let a = c.read_rows-answer.ensures in
     let e = c.if-answer-ne0.false in
-    record { number = rw a.0 at (sym e); times = rw e at a.1.0; values = rw e at a.1.1; counts = rw a.0 at c.write_numbers.ensures }
+    record { number = rw a.answer at (sym e); times = rw e at a.times; values = rw e at a.values; counts = rw a.answer at c.write_numbers.ensures }

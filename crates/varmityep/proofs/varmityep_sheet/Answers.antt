@@ -13,4 +13,11 @@ returns-then-sheet-ne0 c =
 pub returns : goal.returns
 returns c =
     let s = c.read_sheet-sheet.ensures in
-    rw (rw s at c.if-sheet-ne0.false) (refl, (rw s at c.write_numbers.ensures, (rw (c.places_of-stand.ensures, s) at c.write_numbers-2.ensures, (rw s at c.write_scales.ensures, (rw s at c.write_predicates.ensures.ranges, rw s at c.write_predicates.ensures.ends)))))
+    rw (rw s at c.if-sheet-ne0.false) (record {
+      number = refl;
+      numbers = rw s at c.write_numbers.ensures;
+      places = rw (c.places_of-stand.ensures, s) at c.write_numbers-2.ensures;
+      scales = rw s at c.write_scales.ensures;
+      ranges = rw s at c.write_predicates.ensures.ranges;
+      ends = rw s at c.write_predicates.ensures.ends;
+    })

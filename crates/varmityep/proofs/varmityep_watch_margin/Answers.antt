@@ -11,4 +11,4 @@ returns c =
     let m = c.tell-answer.ensures in
     let h = c.hand_margin.ensures in
     let a = margin_outcome c.tell-answer.result in
-    let old = c.args.res.now in record { number = λ t k W. h.0 ∙ ap (λ (o : MarginOutcome). o.number) (m.0 t k W); res = λ t k W. h.1 ∙ ap (λ (o : MarginOutcome). margin_handed o old) (m.0 t k W); refused = λ z. h.1 ∙ unless_some a.number _ old (λ e. z (h.0 ∙ e)); short = λ z. h.0 ∙ m.1 z }
+    let old = c.args.res.now in record { number = λ t k W. h.number ∙ ap (λ (o : MarginOutcome). o.number) (m.margin t k W); res = λ t k W. h.res ∙ ap (λ (o : MarginOutcome). margin_handed o old) (m.margin t k W); refused = λ z. h.res ∙ unless_some a.number _ old (λ e. z (h.number ∙ e)); short = λ z. h.number ∙ m.short z }

@@ -7,7 +7,7 @@ use Rattle.writing.proofs.Tables.{from_hold}
 use Rattle.varmityep.proofs.varmityep_write.Goals as goal
 
 pub write_numbered-requires : goal.write_numbered-requires
-write_numbered-requires c = rw c.table_from-table.ensures (from_hold c.write_numbers.new.1.0 c.args.count)
+write_numbered-requires c = rw c.table_from-table.ensures (from_hold c.write_numbers.new.out c.args.count)
 
 pub returns : goal.returns
 returns c =
