@@ -20,8 +20,8 @@ use Rattle.answers.proofs.answer_for.Goals.{Else-read-ne0}
 few_rows : (c : Else-read-ne0) → c.args.read.rows ≤ ROWS
 few_rows c = rows_few (rows_part c.args.text.now c.args.sheet) c.args.sheet.head c.requires.1.checked c.args.read c.requires.2.answer c.if-read-ne0.false
 
-few-values : (c : Else-read-ne0) → c.args.read.rows * c.args.sheet.head.setup.channels ≤ VALUES
-few-values c = values_few (rows_part c.args.text.now c.args.sheet) c.args.sheet.head c.requires.1.checked c.args.read c.requires.2.answer c.if-read-ne0.false
+few_values : (c : Else-read-ne0) → c.args.read.rows * c.args.sheet.head.setup.channels ≤ VALUES
+few_values c = values_few (rows_part c.args.text.now c.args.sheet) c.args.sheet.head c.requires.1.checked c.args.read c.requires.2.answer c.if-read-ne0.false
 
 pub slice_bounds-read_requirement-count : goal.slice_bounds-read_requirement-count
 slice_bounds-read_requirement-count c = c.requires.1.ordered _ c.requires.0
@@ -47,13 +47,13 @@ returns-then-read-ne0 c =
     ∙ table_read h l (requirement_part c.args.text.now c.args.sheet c.args.k) c.read_requirement-requirement.result c.read_requirement-requirement.ensures c.if-requirement-ne0.false))
 
 pub overflow_mul-wide : goal.overflow_mul-wide
-overflow_mul-wide c = search (rules, few-values (goal.at.overflow_mul-wide c).Else-read-ne0)
+overflow_mul-wide c = search (rules, few_values (goal.at.overflow_mul-wide c).Else-read-ne0)
 
 pub slice_bounds-judge-end : goal.slice_bounds-judge-end
 slice_bounds-judge-end c = sym (length-take-le _ _ (omega (arith, few_rows (goal.at.slice_bounds-judge-end c).Else-read-ne0, c.requires.2.times_long)))
 
 pub slice_bounds-judge-end-2 : goal.slice_bounds-judge-end-2
-slice_bounds-judge-end-2 c = sym (length-take-le _ _ (omega (arith, few-values (goal.at.slice_bounds-judge-end-2 c).Else-read-ne0, c.requires.2.values_long)))
+slice_bounds-judge-end-2 c = sym (length-take-le _ _ (omega (arith, few_values (goal.at.slice_bounds-judge-end-2 c).Else-read-ne0, c.requires.2.values_long)))
 
 pub returns : goal.returns
 returns c =

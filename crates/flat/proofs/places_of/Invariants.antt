@@ -2,7 +2,6 @@
 -- Assumes nothing.
 use Prim.Native.Nat.{◌-◌}
 use Rattle.flat.proofs.Laid.{Paired}
-use Rattle.flat.proofs.places_of.Lts as lts
 use Rattle.flat.proofs.places_of.Given as goal
 
 abbrev pub invariant-loop-k : goal.invariant-loop-k

@@ -22,14 +22,14 @@ table_none c = sym (table_same c.args.setup c.args.times.now c.args.values.now c
 behind : (c : Else-earlier-ne0) → first (checks (card c.args.setup c.args.times.now c.args.values.now) c.args.table) ≡ first (sample_checks (card c.args.setup c.args.times.now c.args.values.now))
 behind c = first_append (table_checks (card c.args.setup c.args.times.now c.args.values.now) c.args.table) (sample_checks (card c.args.setup c.args.times.now c.args.values.now)) tt (table_none c)
 
-passed-5 : (c : Else-not-five) → lengths_obey c.args.setup.scales.count c.args.setup.channels (length c.args.times.now) (length c.args.values.now) ≡ true
-passed-5 c = sym c.lengths_obey-five.ensures ∙ not-false _ c.if-not-five.false-raw
+passed_5 : (c : Else-not-five) → lengths_obey c.args.setup.scales.count c.args.setup.channels (length c.args.times.now) (length c.args.values.now) ≡ true
+passed_5 c = sym c.lengths_obey-five.ensures ∙ not-false _ c.if-not-five.false-raw
 
-passed-6 : (c : Else-not-six) → times_obey c.args.times.now ≡ true
-passed-6 c = sym c.times_obey-six.ensures ∙ not-false _ c.if-not-six.false-raw
+passed_6 : (c : Else-not-six) → times_obey c.args.times.now ≡ true
+passed_6 c = sym c.times_obey-six.ensures ∙ not-false _ c.if-not-six.false-raw
 
-passed-7 : (c : Else-not-seven) → values_obey c.args.values.now ≡ true
-passed-7 c = sym c.values_obey-seven.ensures ∙ not-false _ c.if-not-seven.false-raw
+passed_7 : (c : Else-not-seven) → values_obey c.args.values.now ≡ true
+passed_7 c = sym c.values_obey-seven.ensures ∙ not-false _ c.if-not-seven.false-raw
 
 pub returns-then-earlier-ne0 : goal.returns-then-earlier-ne0
 returns-then-earlier-ne0 c =
@@ -44,16 +44,16 @@ unfolding first
 returns-then-not-five c = sym (behind (goal.at.returns-then-not-five c).Else-earlier-ne0 ∙ rw (sym c.lengths_obey-five.ensures ∙ not-true c.lengths_obey-five.result c.if-not-five.true-raw))
 
 pub times_obey-six-requires : goal.times_obey-six-requires
-times_obey-six-requires c = some_row _ _ _ _ (passed-5 (goal.at.times_obey-six-requires c).Else-not-five)
+times_obey-six-requires c = some_row _ _ _ _ (passed_5 (goal.at.times_obey-six-requires c).Else-not-five)
 
 pub returns-then-not-six : goal.returns-then-not-six
 unfolding first
-returns-then-not-six c = sym (behind (goal.at.returns-then-not-six c).Else-earlier-ne0 ∙ rw (passed-5 (goal.at.returns-then-not-six c).Else-not-five, sym c.times_obey-six.ensures ∙ not-true c.times_obey-six.result c.if-not-six.true-raw))
+returns-then-not-six c = sym (behind (goal.at.returns-then-not-six c).Else-earlier-ne0 ∙ rw (passed_5 (goal.at.returns-then-not-six c).Else-not-five, sym c.times_obey-six.ensures ∙ not-true c.times_obey-six.result c.if-not-six.true-raw))
 
 pub returns-then-not-seven : goal.returns-then-not-seven
 unfolding first
-returns-then-not-seven c = sym (behind (goal.at.returns-then-not-seven c).Else-earlier-ne0 ∙ rw (passed-5 (goal.at.returns-then-not-seven c).Else-not-five, passed-6 (goal.at.returns-then-not-seven c).Else-not-six, sym c.values_obey-seven.ensures ∙ not-true c.values_obey-seven.result c.if-not-seven.true-raw))
+returns-then-not-seven c = sym (behind (goal.at.returns-then-not-seven c).Else-earlier-ne0 ∙ rw (passed_5 (goal.at.returns-then-not-seven c).Else-not-five, passed_6 (goal.at.returns-then-not-seven c).Else-not-six, sym c.values_obey-seven.ensures ∙ not-true c.values_obey-seven.result c.if-not-seven.true-raw))
 
 pub returns : goal.returns
 unfolding first
-returns c = sym (behind (goal.at.returns c).Else-earlier-ne0 ∙ rw (passed-5 (goal.at.returns c).Else-not-five, passed-6 (goal.at.returns c).Else-not-six, passed-7 (goal.at.returns c).Else-not-seven))
+returns c = sym (behind (goal.at.returns c).Else-earlier-ne0 ∙ rw (passed_5 (goal.at.returns c).Else-not-five, passed_6 (goal.at.returns c).Else-not-six, passed_7 (goal.at.returns c).Else-not-seven))

@@ -19,16 +19,16 @@ use Rattle.temporal.proofs.bound_at.Goals as goal
 use Rattle.temporal.proofs.bound_at.Goals.{After-extreme-run}
 
 -- what a turn leaves
-turned-best : (c : After-extreme-run) → back c.extreme-best.result ≡ best c.args.first c.args.end c.args.e (cell c.args.cells.now c.args.rows c.args.left) (cell c.args.cells.now c.args.rows c.args.right) c.args.i (c.loop-j.j + 1)
-turned-best c =
+turned_best : (c : After-extreme-run) → back c.extreme-best.result ≡ best c.args.first c.args.end c.args.e (cell c.args.cells.now c.args.rows c.args.left) (cell c.args.cells.now c.args.rows c.args.right) c.args.i (c.loop-j.j + 1)
+turned_best c =
     let h = c.loop-j.invariant in
     let x = c.cell_at-r in
     let u = c.extreme in
     let v = c.extreme-best in
     turn_best c.args.first c.args.end c.args.e (cell c.args.cells.now c.args.rows c.args.left) (cell c.args.cells.now c.args.rows c.args.right) c.args.i c.loop-j.j c.dual-other.ensures h.0 h.1 c.loop-j-test.true h.2 h.3 (back_ok x.result x.type_inv ∙ x.ensures) u.ensures (back_ok u.result u.type_inv) v.ensures (back_ok v.result v.type_inv)
 
-turned-run : (c : After-extreme-run) → back c.extreme-run.result ≡ (over (dual c.args.e) (cell c.args.cells.now c.args.rows c.args.left) c.args.i (c.loop-j.j + 1))
-turned-run c =
+turned_run : (c : After-extreme-run) → back c.extreme-run.result ≡ (over (dual c.args.e) (cell c.args.cells.now c.args.rows c.args.left) c.args.i (c.loop-j.j + 1))
+turned_run c =
     let h = c.loop-j.invariant in
     let x = c.cell_at-l in
     joined_next (dual c.args.e) (margin_nothing TOP (dual c.args.e)) (cell c.args.cells.now c.args.rows c.args.left) c.args.i c.loop-j.j h.0 h.3 (back_ok x.result x.type_inv ∙ x.ensures) (rw c.dual-other.ensures at c.extreme-run.ensures) (back_ok c.extreme-run.result c.extreme-run.type_inv)
@@ -50,8 +50,8 @@ overflow_add-j c = omega arith
 pub returns-then-settled : goal.returns-then-settled
 returns-then-settled c =
     let h = c.loop-j.invariant in
-    let p = turned-best (goal.at.returns-then-settled c).After-extreme-run in
-    let q = turned-run (goal.at.returns-then-settled c).After-extreme-run in
+    let p = turned_best (goal.at.returns-then-settled c).After-extreme-run in
+    let q = turned_run (goal.at.returns-then-settled c).After-extreme-run in
     p
     ∙ sym (best_settled c.args.first c.args.end c.args.e (cell c.args.cells.now c.args.rows c.args.left) (cell c.args.cells.now c.args.rows c.args.right) c.args.i (c.loop-j.j + 1) c.args.rows (omega arith) (omega (arith, c.requires.place_asks.0.end_inside))
     (sym (ap₂ (margin_extreme c.args.e) p q) ∙ c.settled.ensures c.if-settled.true ∙ p))
@@ -60,7 +60,7 @@ pub loop-j-smaller : goal.loop-j-smaller
 loop-j-smaller c = omega arith
 
 pub loop-j-preserved : goal.loop-j-preserved
-loop-j-preserved c = (omega arith, omega arith, turned-best (goal.at.loop-j-preserved c).After-extreme-run, turned-run (goal.at.loop-j-preserved c).After-extreme-run)
+loop-j-preserved c = (omega arith, omega arith, turned_best (goal.at.loop-j-preserved c).After-extreme-run, turned_run (goal.at.loop-j-preserved c).After-extreme-run)
 
 pub returns : goal.returns
 returns c =
