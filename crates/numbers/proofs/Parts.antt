@@ -6,7 +6,7 @@ use mathlib.Core.Bool.{Bool, true, false, not, cond}
 use Prim.Native.Nat.{ℕ, zero, suc, ◌+◌, ◌-◌, ◌*◌, ◌^◌, ◌≤◌, ◌<◌, min, max}
 use native.Mathlib.Omega.{arith}
 use native.Mathlib.Nat.{mul-add, mul-le-mul_left, mul-le-mul_right}
-use lib.Dec.{T, not_T, ltb, leb, ltb→lt, lt→ltb, leb→le, le→leb, nltb→le, nleb→lt}
+use lib.Dec.{T, not_T, ltb, ltb→lt, lt→ltb, leb→le, le→leb, nltb→le, nleb→lt}
 use lib.IntN.{ℤ, pos, negsuc, neg_ℤ, suc_ℤ, ◌-ℤ◌, ◌+ℤ◌, ◌*ℤ◌, sub_ℕ, nat_abs}
 use lib.Signed.{lt_z, le_z, mag}
 use mir.Syntax.{w64}

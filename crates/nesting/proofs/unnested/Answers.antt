@@ -1,6 +1,5 @@
 -- The walk keeps `Noted`: behind the last node its test is that of the whole table.
 -- Assumes nothing.
-use Prim.Native.Nat.{◌-◌}
 use native.Mathlib.Omega.{arith}
 use borrow.Author.Rules.{rules}
 use Rattle.lists.proofs.Below.{tested_none, tested_all}

@@ -1,7 +1,6 @@
 -- `ok` says of the predicates before p whether every one obeys; the sixteen are the whole list.
 -- Assumes nothing.
 use mathlib.Core.Path.{◌≡◌}
-use Prim.Native.Nat.{◌-◌}
 use native.Mathlib.Omega.{arith}
 use lib.ListN.{length}
 use borrow.Author.Rules.{rules}

@@ -5,7 +5,7 @@ use borrow.Author.Rules.{rules}
 use mir.Syntax.{w64}
 use mir.Val.{SFits}
 use Rattle.numbers.proofs.Bits.{back_is}
-use Rattle.predicates.specs.Predicates.{value_obeys, range_obeys}
+use Rattle.predicates.specs.Predicates.{range_obeys}
 use Rattle.predicates.proofs.range_obeys.Goals as goal
 
 pub returns-in-AtLeast : goal.returns-in-AtLeast

@@ -1,6 +1,5 @@
 -- A table that obeys has at most NODES nodes, so its names are safe to look up; `ok` says of the nodes before k whether each names what is set.
 -- Assumes nothing.
-use Prim.Native.Nat.{◌-◌}
 use mathlib.Core.Path.{◌≡◌, sym, subst, ◌∙◌}
 use mathlib.Core.Bool.{true}
 use lib.Dec.{T}

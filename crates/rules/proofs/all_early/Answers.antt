@@ -1,7 +1,6 @@
 -- `ok` says of the times before place i whether every one is small enough.
 -- Assumes nothing.
 use mathlib.Core.Path.{refl}
-use Prim.Native.Nat.{◌-◌}
 use native.Mathlib.Omega.{arith}
 use Rattle.lists.proofs.Below.{tested_none, tested_next, tested_all}
 use Rattle.rules.specs.Recording.{all_early}

@@ -1,7 +1,6 @@
 -- `ok` says of the first i times whether each is below the next.
 -- Assumes nothing.
 use mathlib.Core.Path.{refl}
-use Prim.Native.Nat.{◌-◌}
 use native.Mathlib.Omega.{arith}
 use native.Mathlib.Numerals.{add-one}
 use Rattle.lists.proofs.Below.{tested_none, tested_next, tested_all}

@@ -7,7 +7,7 @@ use lib.ListN.{length}
 use borrow.Author.Tests.{not-true, not-false}
 use Rattle.refusals.specs.First.{first}
 use Rattle.refusals.proofs.First.{first_append, first_stays}
-use Rattle.recordings.specs.Card.{Card, card}
+use Rattle.recordings.specs.Card.{card}
 use Rattle.rules.specs.Recording.{lengths_obey, times_obey, values_obey}
 use Rattle.rules.specs.Refusals.{table_checks, sample_checks, checks}
 use Rattle.rules.proofs.Recording.{some_row}

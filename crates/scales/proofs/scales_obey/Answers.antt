@@ -1,6 +1,5 @@
 -- `ok` says of the scales before a channel whether every one that was passed obeys; the eight are the whole list.
 -- Assumes nothing.
-use Prim.Native.Nat.{◌-◌}
 use native.Mathlib.Omega.{arith}
 use Rattle.lists.proofs.Below.{tested_none, tested_next, tested_all}
 use Rattle.scales.specs.Scales.{scales_obey}

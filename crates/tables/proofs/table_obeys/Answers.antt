@@ -1,6 +1,5 @@
 -- No count but 1 to NODES passes the first tests, so the walk is safe; `each` says of the nodes before k whether each obeys.
 -- Assumes nothing.
-use Prim.Native.Nat.{◌-◌}
 use native.Mathlib.Omega.{arith}
 use borrow.Author.Tests.{le-leb, lt-leb}
 use Rattle.lists.proofs.Below.{tested_none, tested_next, tested_all}
