@@ -1,12 +1,9 @@
 -- `text::starts_with` meets its contract: what is left to compare decides.
 -- Assumes nothing.
 use borrow.Author.Rules.{rules}
-use mathlib.Core.Path.{refl, ◌∙◌}
+use mathlib.Core.Path.{◌∙◌}
 use Rattle.text.proofs.Marks.{prefix_step, prefix_differ, prefix_short, prefix_end}
 use Rattle.text.proofs.starts_with.Goals as goal
-
-pub loop-i-init : goal.loop-i-init
-loop-i-init c = (search rules, refl)
 
 pub returns-then-s-i : goal.returns-then-s-i
 returns-then-s-i c = prefix_short _ _ _ c.loop-i-test.true c.if-s-i.true ∙ c.loop-i.invariant.1
