@@ -1,6 +1,6 @@
 // The answer to the sheet on standard input.
 #![tactic(auto)]
 
-fn main() {
-    program::answer_from(libc::STDIN_FILENO);
+fn main(rt: HostRuntime) {
+    program::answer_from(&mut rt.stdin(), &mut rt.stdout());
 }

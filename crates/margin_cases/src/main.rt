@@ -1,21 +1,30 @@
 // The answer to each sheet that an argument names, so that one stored run shows every refusal of the program, 1 to 13, and every verdict.
 #![tactic(auto)]
 
-fn answer_file(i: usize) {
-    let mut path = io::buffer();
-    let length = os::arg(i, &mut path);
-    let fd = os::open_read(&path[..length]);
-    if fd < 0 {
-        os::fail(&path[..length]);
-        return;
+use std::env::Env;
+use std::fs::File;
+use std::str;
+
+// A path of the system has at most 4,095 bytes.
+const PATH: usize = 4096;
+
+fn answer_file(rt: &HostRuntime, path: &str) {
+    match File::open(rt, path) {
+        Ok(mut file) => program::answer_from(&mut file, &mut rt.stdout()),
+        Err(error) => {
+            let _ = eprintln!(rt; "{path}: {error}");
+        }
     }
-    program::answer_from(fd);
-    libc::close(fd);
 }
 
-fn main() {
-    let count = os::arg_count();
-    for i in 1..count {
-        answer_file(i);
+fn main(rt: HostRuntime) {
+    let mut path = [0u8; PATH];
+    for i in 1..usize::MAX {
+        let Ok(length) = rt.arg(i, &mut path) else {
+            break;
+        };
+        if let Ok(path) = str::from_utf8(&path[..length]) {
+            answer_file(&rt, path);
+        }
     }
 }
