@@ -1,16 +1,19 @@
 // The answer to each sheet that an argument names, so that one stored run shows every refusal of the program, 1 to 13, and every verdict.
 #![tactic(auto)]
 
-use std::env::Env;
+use std::env::{Env, FillError};
 use std::fs::File;
 use std::str;
 
 // A path of the system has at most 4,095 bytes.
 const PATH: usize = 4096;
 
-fn answer_file(rt: &HostRuntime, path: &str) {
-    match File::open(rt, path) {
-        Ok(mut file) => program::answer_from(&mut file, &mut rt.stdout()),
+// A sheet that cannot be opened is named on standard error.
+fn answer_file(rt: HostRuntime, path: &str) {
+    match File::open(&rt, path) {
+        Ok(mut file) => {
+            let _ = program::answer_from(&mut file, &mut rt.stdout());
+        }
         Err(error) => {
             let _ = eprintln!(rt; "{path}: {error}");
         }
@@ -18,13 +21,19 @@ fn answer_file(rt: &HostRuntime, path: &str) {
 }
 
 fn main(rt: HostRuntime) {
-    let mut path = [0u8; PATH];
+    let mut bytes = [0u8; PATH];
     for i in 1..usize::MAX {
-        let Ok(length) = rt.arg(i, &mut path) else {
-            break;
-        };
-        if let Ok(path) = str::from_utf8(&path[..length]) {
-            answer_file(&rt, path);
+        match rt.arg(i, &mut bytes) {
+            Ok(length) => match str::from_utf8(&bytes[..length]) {
+                Ok(path) => answer_file(rt, path),
+                Err(error) => {
+                    let _ = eprintln!(rt; "argument {i}: {error}");
+                }
+            },
+            Err(FillError::TooLong) => {
+                let _ = eprintln!(rt; "argument {i} is too long for a path");
+            }
+            Err(FillError::NotPresent) => return,
         }
     }
 }
