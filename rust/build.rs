@@ -1,10 +1,10 @@
 //! Links the proved static library: the file that PROVED_LIBRARY names, or the one that
-//! `rt staticlib varmityep` writes.
+//! `rt lib` writes in `../crates/varmityep`.
 
 use std::env;
 use std::path::{Path, PathBuf};
 
-const BUILT: &str = "../target/staticlib/libvarmityep.a";
+const BUILT: &str = "../crates/varmityep/out/libvarmityep.a";
 
 fn main() {
     println!("cargo:rerun-if-env-changed=PROVED_LIBRARY");
@@ -17,7 +17,9 @@ fn main() {
             println!("cargo:rustc-link-lib=static={name}");
         }
         // Checking and documenting need no library, so this is left to the linker to refuse.
-        None => println!("cargo:warning=no library {}: rt staticlib varmityep", file.display()),
+        None => {
+            println!("cargo:warning=no library {}: rt lib, in crates/varmityep", file.display())
+        }
     }
 }
 

@@ -3,7 +3,7 @@
  * each measured row. A row that is refused is as if it had not come. Given watch.sheet, it prints the
  * lines that stand in watch.printed.
  *
- *   cc -std=c11 -Iinclude examples/c/watch.c target/staticlib/libvarmityep.a -o target/watch
+ *   cc -std=c11 -Iinclude examples/c/watch.c crates/varmityep/out/libvarmityep.a -o target/watch
  *   target/watch <examples/c/watch.sheet
  */
 #include "varmityep.h"

@@ -2,7 +2,7 @@
  * Builds requirement tables as a form would, prints each as text for a `req=` line, and reads the
  * text back. Prints the lines that stand in write.printed.
  *
- *   cc -std=c11 -Iinclude examples/c/write.c target/staticlib/libvarmityep.a -o target/write
+ *   cc -std=c11 -Iinclude examples/c/write.c crates/varmityep/out/libvarmityep.a -o target/write
  *   target/write
  */
 #include "varmityep.h"

@@ -1,2 +1,2 @@
--- What is known of the bytes that were read (`Input`).
+-- What is known of the bytes that were read and of those that were written (`Input`).
 pub mod Input

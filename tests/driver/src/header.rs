@@ -113,8 +113,13 @@ fn proved_source(own: &str) -> Option<&'static str> {
 /// that it is taken from, or there.
 fn path_of(name: &str, own: &str, source: &str) -> String {
     let (before, last) = name.rsplit_once("::").unwrap_or(("", name));
-    let ending = format!("::{last};");
-    let taken = || source.lines().find_map(|line| line.strip_prefix("use ")?.strip_suffix(&ending));
+    let taken = || {
+        source.split("\nuse ").skip(1).find_map(|rest| {
+            let (from, names) = rest.split_once(';')?.0.rsplit_once("::")?;
+            let mut names = names.trim_matches(['{', '}']).split(',');
+            names.any(|name| name.trim() == last).then_some(from)
+        })
+    };
     let there = proved_source(before).map(|_| before).or_else(taken).unwrap_or(own);
     format!("{there}::{last}")
 }

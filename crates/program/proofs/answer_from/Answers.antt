@@ -1,19 +1,45 @@
--- The bytes that were read lie in the buffer, and the line's end in the line.
+-- What is written are the lines for the bytes that were read.
 -- Assumes nothing.
-use mathlib.Core.Path.{sym}
-use native.Mathlib.Omega.{arith}
-use lib.Seq.{length-take-le}
-use Rattle.printing.proofs.Printed.{place_inside}
+use Rattle.std.proofs.Common.{◌≡◌, ℕ, ◌≤◌, List, length, take, arith, sym, ap, ◌∙◌, subst, length-take-le}
+use Rattle.std.specs.Prelude.{Option, Result, Ok, Err, IfSome, OnOk, None, Some}
+use Rattle.printing.specs.Output.{printed}
+use Rattle.printing.proofs.Printed.{front_says, place_inside}
+use Rattle.answers.specs.Answers.{answers_of}
+use Rattle.outcome_lines.specs.Printed.{lines_of}
+use Rattle.std.specs.Io.KnownBytes.{Appends}
+use Rattle.program.specs.Input.{AppendsFront}
+use Rattle.program.proofs.Cut.{answers_cut}
 use Rattle.program.proofs.answer_from.Goals as goal
 
-pub slice_bounds-text-end : goal.slice_bounds-text-end
-slice_bounds-text-end c = rw c.in-Whole.is at c.read_text.ensures
+-- what is said of the bytes that were written is said of the lines for all that the reader had
+lines_for : (known : Option (List ℕ)) (P : List ℕ → Type 0) (text lines₀ : List ℕ) (count : ℕ) {lines : List ℕ} {end : ℕ} → length text ≡ 65_537
+    → IfSome known (λ xs. take count text ≡ take (length text) xs)
+    → record { bytes = lines; end = end } ≡ printed (record { bytes = lines₀; end = 0 }) (lines_of (answers_of (take count text)))
+    → length (lines_of (answers_of (take count text))) ≤ length lines₀ → P (take end lines) → IfSome known (λ xs. P (lines_of (answers_of xs)))
+lines_for None P text lines₀ count long read is room put = tt
+lines_for (Some xs) P text lines₀ count long read is room put =
+    let same = ap (λ l. lines_of (answers_of l)) (read ∙ ap (λ n. take n xs) long) ∙ ap lines_of (answers_cut xs) in
+    subst P ((front_says lines₀ _ is room).1 ∙ same) put
 
-pub slice_bounds-answer_lines-end : goal.slice_bounds-answer_lines-end
-slice_bounds-answer_lines-end c = sym (length-take-le _ _ (rw c.in-Whole.is at c.read_text.ensures))
+on_ok : {T E A B : Type 0} (r : Result T E) → (A → B) → OnOk r A → OnOk r B
+on_ok (Ok x) f a = f a
+on_ok (Err e) f a = tt
 
 pub slice_bounds-lines-end : goal.slice_bounds-lines-end
-slice_bounds-lines-end c = place_inside _ _ c.answer_lines-len.ensures.result_value (omega arith)
+slice_bounds-lines-end g c = place_inside _ _ c.answer_lines-len.ensures.result_value (omega arith)
 
 pub slice_bounds-write_lines-end : goal.slice_bounds-write_lines-end
-slice_bounds-write_lines-end c = sym (length-take-le _ _ (place_inside _ _ c.answer_lines-len.ensures.result_value (omega arith)))
+slice_bounds-write_lines-end g c = sym (length-take-le _ _ (place_inside _ _ c.answer_lines-len.ensures.result_value (omega arith)))
+
+pub returns-clause-whole : goal.returns-clause-whole
+returns-clause-whole g c =
+    let wrote = λ (bs : List ℕ). Appends (g.W.Write.contents c.args.writer.now) (g.W.Write.contents c.write_lines.new.writer) bs in
+    let printed_lines = c.answer_lines-len.ensures in
+    on_ok c.write_lines.result (lines_for _ wrote _ _ _ c.read_text.auto.text c.in_ok-count.ensures.bytes printed_lines.result_value printed_lines.room)
+    c.write_lines.ensures.whole
+
+pub returns-clause-front : goal.returns-clause-front
+returns-clause-front g c =
+    let wrote = λ (bs : List ℕ). AppendsFront (g.W.Write.contents c.args.writer.now) (g.W.Write.contents c.write_lines.new.writer) bs in
+    let printed_lines = c.answer_lines-len.ensures in
+    lines_for _ wrote _ _ _ c.read_text.auto.text c.in_ok-count.ensures.bytes printed_lines.result_value printed_lines.room c.write_lines.ensures.front

@@ -1,13 +1,12 @@
--- What was read lies in the buffer, whose length no read changes.
+-- What was read lies in the buffer, whose length no read changes, and is what the reader lost.
 -- Assumes nothing.
-use mathlib.Core.Path.{◌≡◌}
-use Prim.Native.Nat.{◌≤◌}
-use lib.ListN.{length}
-use Rattle.program.proofs.read_text.Lts as lts
+use Rattle.std.proofs.Common.{◌≡◌, ◌≤◌, length, take}
+use Rattle.std.specs.Io.KnownBytes.{Consumes}
 use Rattle.program.proofs.read_text.Given as goal
 
-abbrev pub invariant-loop-turns : goal.invariant-loop-turns
-invariant-loop-turns l = (l.done ≤ length l.text) × (length l.text ≡ length l.initial.text)
-
-abbrev pub decreases-loop-turns : goal.decreases-loop-turns
-decreases-loop-turns l = l.turns
+abbrev pub invariant-loop : goal.invariant-loop
+invariant-loop g l = record {
+  long : length l.text ≡ length l.initial.text;
+  inside : l.done ≤ length l.text;
+  read : Consumes (g.R.Read.remaining l.initial.reader) (g.R.Read.remaining l.reader) (take l.done l.text);
+}

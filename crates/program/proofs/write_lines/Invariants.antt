@@ -1,12 +1,11 @@
--- What was written lies in the line.
+-- What was written is the front of the lines.
 -- Assumes nothing.
-use Prim.Native.Nat.{◌≤◌}
-use lib.ListN.{length}
-use Rattle.program.proofs.write_lines.Lts as lts
+use Rattle.std.proofs.Common.{◌≤◌, length, take}
+use Rattle.std.specs.Io.KnownBytes.{Appends}
 use Rattle.program.proofs.write_lines.Given as goal
 
-abbrev pub invariant-loop-turns : goal.invariant-loop-turns
-invariant-loop-turns l = l.done ≤ length l.lines
-
-abbrev pub decreases-loop-turns : goal.decreases-loop-turns
-decreases-loop-turns l = l.turns
+abbrev pub invariant-loop : goal.invariant-loop
+invariant-loop g l = record {
+  inside : l.done ≤ length l.lines;
+  put : Appends (g.W.Write.contents l.initial.writer) (g.W.Write.contents l.writer) (take l.done l.lines);
+}

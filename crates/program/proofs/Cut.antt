@@ -1,0 +1,20 @@
+-- One byte more than a text may have shows that it is too long, so that its first 65,537 bytes get the answers of all of it.
+-- Assumes nothing.
+use Rattle.std.proofs.Common.{◌≡◌, ◌<◌, List, ℕ, length, take, arith, sym, ap, ◌∙◌, take_all, length-take-le, lt-ltb}
+use native.Mathlib.Decide.{dec_lt}
+use Rattle.row_lines.specs.Reading.{limit}
+use Rattle.sheets.specs.declared.Sheet.{Sheet}
+use Rattle.sheets.specs.Form.{blank}
+use Rattle.sheets.proofs.Chain.{sheet_long}
+use Rattle.refusals.specs.First.{unless_refused}
+use Rattle.answers.specs.Answers.{answers_of, all_answered, none_answered}
+
+too_long : (xs : List ℕ) → limit < length xs → answers_of xs ≡ none_answered 1
+unfolding answers_of
+too_long xs h = ap (λ (x : Sheet). unless_refused x.number (all_answered xs x) (none_answered x.number)) (sym (sheet_long xs (lt-ltb limit (length xs) h)))
+
+pub answers_cut : (xs : List ℕ) → answers_of (take 65_537 xs) ≡ answers_of xs
+answers_cut xs = elim (dec_lt limit (length xs)) [
+  | yes h ↦ too_long (take 65_537 xs) (rw (length-take-le 65_537 xs h) (omega arith)) ∙ sym (too_long xs h)
+  | no h ↦ ap answers_of (take_all 65_537 xs (omega arith))
+]
