@@ -23,9 +23,9 @@ use Rattle.tables.specs.Tree.{root}
 use Rattle.refusals.specs.First.{Check, first, Exact, AllExact, Refused, Passed}
 use Rattle.rules.specs.Refusals.{table_checks, sample_checks}
 use Rattle.refusals.proofs.First.{first_passes, first_fails, passed, none_fails, refused, first_is, first_append, first_of_whole, exact_append, exact_parts, unless_none}
-use Rattle.sampling.specs.Sampling.{checks as sampling-checks}
+use Rattle.sampling.specs.Sampling.{checks as sampling_checks}
 use Rattle.verdicts.specs.Answer.{verdict_room, verdict_refusal, verdict_judged}
-use Rattle.verdicts.proofs.Promises.{exact_checks, verdict_is, holds as verdict-holds, fails as verdict-fails}
+use Rattle.verdicts.proofs.Promises.{exact_checks, verdict_is, holds as verdict_holds, fails as verdict_fails}
 use Rattle.requirements.specs.declared.Requirement.{Requirement}
 use Rattle.requirements.specs.Requirement.{requirement_of}
 use Rattle.requirements.proofs.Answers.{answer_sound, answer_complete}
@@ -164,7 +164,7 @@ requirement_check_exact r = record {
 
 table_run_exact : (c : Card) (t : Table) (step drift : ℕ) → AllExact (table_run c t step drift)
 table_run_exact c t step drift =
-    let rest : List Check = sample_checks c ++ (verdict_room c t CELLS ∷ sampling-checks c step drift) in
+    let rest : List Check = sample_checks c ++ (verdict_room c t CELLS ∷ sampling_checks c step drift) in
     let p = exact_parts (table_checks c t) rest (exact_checks c t step drift CELLS) in
     exact_append (table_checks c t) (rows_check c ∷ rest) p.0 (λ q. (record { sound = leb→le (rows c) ROWS; complete = le→leb (rows c) ROWS }, λ _. p.1 q))
 
@@ -219,7 +219,7 @@ module _ (s : List ℕ) (k : ℕ) where
   verdict_accepts : (answer_to s k).number ≡ 0 → (verdict_judged recording table head.step head.drift CELLS).number ≡ 0
   unfolding verdict_judged verdict_refusal
   verdict_accepts e =
-      let rest : List Check = sample_checks recording ++ (verdict_room recording table CELLS ∷ sampling-checks recording head.step head.drift) in
+      let rest : List Check = sample_checks recording ++ (verdict_room recording table CELLS ∷ sampling_checks recording head.step head.drift) in
       let a = first_of_whole (sheet_check s ∷ crowd_check s ∷ requirement_check (requirement_in s k) ∷ []) (table_checks recording table ++ (rows_check recording ∷ rest)) tt (sym (order s k) ∙ e) in
       let b = first_of_whole (table_checks recording table) (rows_check recording ∷ rest) tt a.1 in
       let c = first_of_whole (rows_check recording ∷ []) rest tt b.1 in
@@ -229,10 +229,10 @@ module _ (s : List ℕ) (k : ℕ) where
   verdict_of_answer e = ap (λ (o : Outcome). o.verdict) (figures_are e) ∙ sym (verdict_is recording table head.step head.drift CELLS (verdict_accepts e))
 
   pub holds : (answer_to s k).number ≡ 0 → (answer_to s k).verdict ≡ Holds → Shown recording head.step head.drift true (root table)
-  holds e v = verdict-holds recording table head.step head.drift CELLS (verdict_accepts e) (sym (verdict_of_answer e) ∙ v)
+  holds e v = verdict_holds recording table head.step head.drift CELLS (verdict_accepts e) (sym (verdict_of_answer e) ∙ v)
 
   pub fails : (answer_to s k).number ≡ 0 → (answer_to s k).verdict ≡ Fails → Shown recording head.step head.drift false (root table)
-  fails e v = verdict-fails recording table head.step head.drift CELLS (verdict_accepts e) (sym (verdict_of_answer e) ∙ v)
+  fails e v = verdict_fails recording table head.step head.drift CELLS (verdict_accepts e) (sym (verdict_of_answer e) ∙ v)
 
 -- ---- each answer is what its requirement alone would get
 

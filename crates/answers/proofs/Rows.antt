@@ -29,7 +29,7 @@ use Rattle.sheet_rows.proofs.Storing.{length_times, length_values}
 use Rattle.sheet_rows.proofs.Numbers.{channels_are, room_for, for_room}
 use Rattle.heads.specs.declared.Head.{Head}
 use Rattle.sheets.specs.declared.Sheet.{Sheet}
-use Rattle.answers.specs.Answers.{ROWS, VALUES, CELLS, rows_part, measured, table_run, refused_by, answered as outcome-by, table_answer, Checked, Stored}
+use Rattle.answers.specs.Answers.{ROWS, VALUES, CELLS, rows_part, measured, table_run, refused_by, answered as outcome_by, table_answer, Checked, Stored}
 use Rattle.answers.proofs.Figures.{only_number}
 use Rattle.answers.proofs.Runs.{run_fits, run_wide, run_many, none_refused}
 
@@ -131,7 +131,7 @@ module _ (s : List ℕ) (h : Head) (p : Checked s h.setup.channels) where
       let e : first (checks (card h.setup [] []) t) ≡ first (table_run c t h.step h.drift) =
       ⊎_elim (λ w. run_wide c t h.step h.drift w) (λ m. run_many c t h.step h.drift (rw (times_long (rows_of h.setup.channels s)) m)) (rows_refused q) in
       only_number _ c t h.step h.drift (filled_of (rows_of h.setup.channels s)) (none_refused c t h.step h.drift)
-      ∙ ap (λ (n : ℕ). outcome-by n c t h.step h.drift (filled_of (rows_of h.setup.channels s))) e
+      ∙ ap (λ (n : ℕ). outcome_by n c t h.step h.drift (filled_of (rows_of h.setup.channels s))) e
 
   module _ (a : Answer) (e : a ≡ answer) (z : a.number ≡ 0) where
     read : Read h (rows_of h.setup.channels s) a
@@ -152,7 +152,7 @@ module _ (s : List ℕ) (h : Head) (p : Checked s h.setup.channels) where
     values_taken values values₀ g = rw (g, z) (front_taken (values_of (rows_of h.setup.channels s)) values₀ (a.rows * h.setup.channels) (ap (λ (n : ℕ). n * h.setup.channels) read.counted ∙ sym (values_long h.setup.channels s)))
 
     pub rows_judged : (times : List ℕ) (values : List ℤ) → take a.rows times ≡ times_of (rows_of h.setup.channels s) → take (a.rows * h.setup.channels) values ≡ values_of (rows_of h.setup.channels s) → (t : Table)
-        → outcome-by (verdict_refusal (card h.setup (take a.rows times) (take (a.rows * h.setup.channels) values)) t h.step h.drift CELLS) (card h.setup (take a.rows times) (take (a.rows * h.setup.channels) values)) t h.step h.drift a.filled
+        → outcome_by (verdict_refusal (card h.setup (take a.rows times) (take (a.rows * h.setup.channels) values)) t h.step h.drift CELLS) (card h.setup (take a.rows times) (take (a.rows * h.setup.channels) values)) t h.step h.drift a.filled
         ≡ table_answer h (rows_of h.setup.channels s) t
     rows_judged times values f g t =
         let c : Card = measured h (rows_of h.setup.channels s) in

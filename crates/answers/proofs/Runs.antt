@@ -15,7 +15,7 @@ use Rattle.refusals.specs.First.{Check, first}
 use Rattle.rules.specs.Recording.{samples_obey, lengths_obey}
 use Rattle.rules.specs.Refusals.{table_checks, sample_checks, checks}
 use Rattle.refusals.proofs.First.{first_passes}
-use Rattle.sampling.specs.Sampling.{checks as sampling-checks}
+use Rattle.sampling.specs.Sampling.{checks as sampling_checks}
 use Rattle.verdicts.specs.Answer.{verdict_room, verdict_refusal}
 use Rattle.answers.specs.Answers.{ROWS, CELLS, rows_check, table_run}
 
@@ -45,7 +45,7 @@ module _ (c : Card) (t : Table) (step drift : ℕ) where
   -- measured rows that there is room for are judged as any recording
   pub run_fits : rows c ≤ ROWS → first (table_run c t step drift) ≡ verdict_refusal c t step drift CELLS
   unfolding verdict_refusal
-  run_fits h = first_without (table_checks c t) (rows_check c) (sample_checks c ++ (verdict_room c t CELLS ∷ sampling-checks c step drift)) (le-leb (rows c) ROWS h)
+  run_fits h = first_without (table_checks c t) (rows_check c) (sample_checks c ++ (verdict_room c t CELLS ∷ sampling_checks c step drift)) (le-leb (rows c) ROWS h)
 
   -- without the rows, the table, the channels, the predicates and the scales are judged as with them; and no sample is 5 too
   pub run_wide : channels_obey c.setup.predicates c.setup.channels ≡ false → first (checks (card c.setup [] []) t) ≡ first (table_run c t step drift)

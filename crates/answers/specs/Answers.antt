@@ -4,13 +4,13 @@ use Rattle.std.specs.Prelude.{List, ◌∷◌, ◌++◌, ◌≡◌, true, false,
 use Rattle.lists.specs.Fill.{fill}
 use Rattle.recordings.specs.declared.Verdict.TheVariants.{NotShown}
 use Rattle.recordings.specs.Card.{Card, rows, card}
-use Rattle.recordings.specs.Margin.{margin as margin-at}
-use Rattle.recordings.specs.Verdict.{hold as hold-of, fail as fail-of, verdict as verdict_of}
+use Rattle.recordings.specs.Margin.{margin as margin_at}
+use Rattle.recordings.specs.Verdict.{hold as hold_of, fail as fail_of, verdict as verdict_of}
 use Rattle.tables.specs.declared.Table.{Table}
 use Rattle.tables.specs.Tree.{root}
 use Rattle.refusals.specs.First.{Check, first, unless_refused}
 use Rattle.rules.specs.Refusals.{table_checks, sample_checks}
-use Rattle.sampling.specs.Sampling.{checks as sampling-checks}
+use Rattle.sampling.specs.Sampling.{checks as sampling_checks}
 use Rattle.verdicts.specs.Answer.{verdict_room}
 use Rattle.grammar.specs.Tree.{Tree}
 use Rattle.grammar.specs.Grammar.{Requires}
@@ -77,7 +77,7 @@ rows_check c = record { number = 5; sentence = rows c ≤ ROWS; passes = leb (ro
 
 -- refusals 3 to 11 of a table
 abbrev pub table_run : Card → Table → ℕ → ℕ → List Check
-table_run c t step drift = table_checks c t ++ (rows_check c ∷ (sample_checks c ++ (verdict_room c t CELLS ∷ sampling-checks c step drift)))
+table_run c t step drift = table_checks c t ++ (rows_check c ∷ (sample_checks c ++ (verdict_room c t CELLS ∷ sampling_checks c step drift)))
 
 -- refusals 2 to 11 of a requirement's bytes
 abbrev pub requirement_run : Head → Listing → List ℕ → List Check
@@ -93,9 +93,9 @@ figures c t step drift filled = record {
   number = 0;
   rows = rows c;
   filled = filled;
-  margin = margin-at c (root t) 0;
-  hold = hold-of c step (root t);
-  fail = fail-of c step (root t);
+  margin = margin_at c (root t) 0;
+  hold = hold_of c step (root t);
+  fail = fail_of c step (root t);
   verdict = verdict_of c step drift (root t);
 }
 

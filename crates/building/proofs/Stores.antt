@@ -14,7 +14,7 @@ use Rattle.text.specs.Mark.{mark_at, after_mark}
 use Rattle.text.specs.Number.{field_at}
 use Rattle.text.specs.declared.Mark.{Mark}
 use Rattle.text.specs.declared.Mark.TheVariants.{Next, Bad as Mark_as_Bad}
-use Rattle.text.specs.declared.Field.TheVariants.{Number, Bad as Field-as-Bad}
+use Rattle.text.specs.declared.Field.TheVariants.{Number, Bad as Field_as_Bad}
 use Rattle.text.proofs.Tests.{by_le}
 use Rattle.tables.specs.declared.Node.{Node}
 use Rattle.tables.specs.Tree.{NODES, no_span}
@@ -236,6 +236,6 @@ module _ (o : ℕ) (s : List ℕ) (at : ℕ) (r : Step) (before after : List ℕ
   predicate_stored v n e f p q = rw (e, f) (node_stored o (predicate v) (node predicate_kind v 0 no_span) n r before after refl refl p q)
 
 module _ (o : ℕ) (s : List ℕ) (at : ℕ) (cells : List ℕ) where
-  pub leaf_refused : mark_at (letter true_kind) s at ≡ Mark_as_Bad → field_at (letter predicate_kind) s at 15 ≡ Field-as-Bad → (Refused ≡ step_of o (leaf_at s at)) × (cells ≡ leaf_cells o (leaf_at s at) cells)
+  pub leaf_refused : mark_at (letter true_kind) s at ≡ Mark_as_Bad → field_at (letter predicate_kind) s at 15 ≡ Field_as_Bad → (Refused ≡ step_of o (leaf_at s at)) × (cells ≡ leaf_cells o (leaf_at s at) cells)
   unfolding leaf_at step_of leaf_cells
   leaf_refused e f = rw (e, f) (refl, refl)

@@ -8,7 +8,7 @@ use native.Mathlib.Decide.{dec_lt, dec_le}
 use lib.ListN.{length, get_or, take, drop, replicate, length-take, length-replicate, get_or-replicate, get_or-append, get_or-eq_default}
 use lib.Seq.{take_all, get_or-take, get_or-drop, get_or-append-add}
 use borrow.Author.Tests.{lt-leb}
-use Rattle.building.specs.Storing.{WIDTH, CELLS, node_from, nodes_from, table_from as table-in}
+use Rattle.building.specs.Storing.{WIDTH, CELLS, node_from, nodes_from, table_from as table_in}
 use Rattle.building.proofs.Cells.{read_alike}
 use Rattle.lists.specs.Front.{written}
 use Rattle.flat.specs.Tables.{table_from}
@@ -32,10 +32,10 @@ padded_at ns room j h = rw length-replicate (go (dec_lt j (length ns)))
         let e : j ≡ length ns + (j - length ns) = omega arith in
         rw (take_all room ns (omega arith), get_or-eq_default ns 0 {n = j} (omega arith), e, get_or-append-add, get_or-drop, ← e) (get_or-replicate room j 0 0 h)
 
-pub padded_table : (ns : List ℕ) (count : ℕ) → table-in (written ns (replicate CELLS 0)) count ≡ table_from ns count
+pub padded_table : (ns : List ℕ) (count : ℕ) → table_in (written ns (replicate CELLS 0)) count ≡ table_from ns count
 unfolding table_from
 padded_table ns count = go (dec_le count 64)
   where
-    go : Dec (count ≤ 64) → table-in (written ns (replicate CELLS 0)) count ≡ table_from ns count
+    go : Dec (count ≤ 64) → table_in (written ns (replicate CELLS 0)) count ≡ table_from ns count
     go (yes p) = rw (same_nodes (written ns (replicate CELLS 0)) ns CELLS (padded_at ns CELLS) count (omega arith))
     go (no p) = rw (lt-leb count 64 (omega arith))

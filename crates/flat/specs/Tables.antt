@@ -2,8 +2,8 @@
 -- Assumes nothing.
 use Rattle.std.specs.Prelude.{List, ℕ}
 use Rattle.tables.specs.declared.Table.{Table}
-use Rattle.building.specs.Storing.{table_from as table-in}
+use Rattle.building.specs.Storing.{table_from as table_in}
 
 -- a place that a slice doesn't have reads as 0; a count above 64 gives the empty table, which is refused alike
 unfoldable pub table_from : List ℕ → ℕ → Table
-table_from numbers count = table-in numbers count
+table_from numbers count = table_in numbers count

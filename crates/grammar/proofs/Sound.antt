@@ -14,7 +14,7 @@ use Rattle.text.proofs.Places.{Between, between_both}
 use Rattle.text.proofs.Answers.{mark_is, field_is, past_mark, past_number}
 use Rattle.tables.specs.declared.Span.{Span}
 use Rattle.grammar.specs.declared.Operator.{Operator}
-use Rattle.grammar.specs.declared.Operator.TheVariants.{Absent, Over, Bad as Operator-as-Bad}
+use Rattle.grammar.specs.declared.Operator.TheVariants.{Absent, Over, Bad as Operator_as_Bad}
 use Rattle.tables.specs.Kind.{true_kind, predicate_kind, not_kind, and_kind, or_kind}
 use Rattle.grammar.specs.Operators.{letter, binders, prefixes}
 use Rattle.tables.specs.Tree.{no_span}
@@ -137,7 +137,7 @@ module _ (d : ℕ) (part : Reads) (sound : Sound unary d part) where
       go b m l (Over k r i) e g =
           let x = got_taken a n (part s i) _ g in
           stands_as x.3 (second b m l k r i (timed_is binders s m k r i e) x.0 x.1 x.2)
-      go b m l Operator-as-Bad e g = absurd (none_got g)
+      go b m l Operator_as_Bad e g = absurd (none_got g)
 
   conjunction_sound : Sound conjunction d (conjunction_of part)
   conjunction_sound s at a n h =
@@ -186,7 +186,7 @@ module _ (d : ℕ) (part : Reads) (sound : Sound unary d part) where
       timed (Over k r m) e g =
           let o = timed_is prefixes s at k r m e in
           over k r m (letter k ++ o.word) o.between (λ v b t. unary_timed o.among o.window t) g
-      timed Operator-as-Bad e g = absurd (none_got g)
+      timed Operator_as_Bad e g = absurd (none_got g)
 
       prefix : (m : Mark) → mark_at (letter not_kind) s at ≡ m
           → unary_by part s at (after_mark m (λ i. Over not_kind no_span i) (timed_among prefixes s at)) ≡ got a n → Stands unary (suc d) s at a n

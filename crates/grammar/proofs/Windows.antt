@@ -13,7 +13,7 @@ use borrow.Author.Tests.{ltb-true, leb-true, le-leb, ne_eqb, eqb-true, eq-eqb, n
 use Rattle.text.specs.Bytes.{bytes}
 use Rattle.text.specs.Numeral.{Numeral}
 use Rattle.text.specs.Mark.{mark_at, after_mark}
-use Rattle.text.specs.declared.Field.TheVariants.{Number, Bad as Field-as-Bad}
+use Rattle.text.specs.declared.Field.TheVariants.{Number, Bad as Field_as_Bad}
 use Rattle.text.specs.Number.{is_digit, number_at, after_number}
 use Rattle.text.specs.declared.Mark.{Mark}
 use Rattle.text.specs.declared.Mark.TheVariants.{Next, Bad as Mark_as_Bad}
@@ -54,7 +54,7 @@ bracket_is : (bracket : Bool → List ℕ) (s : List ℕ) (at m n : ℕ) → bra
 unfolding bracket_at
 bracket_is bracket s at m n h = go (mark_at (bracket false) s at) refl (mark_at (bracket true) s at) refl h
   where
-    go : (x : Mark) → mark_at (bracket false) s at ≡ x → (y : Mark) → mark_at (bracket true) s at ≡ y → after_mark x (λ k. Number 0 k) (after_mark y (λ k. Number 1 k) Field-as-Bad) ≡ Number m n → BracketIs bracket s at m n
+    go : (x : Mark) → mark_at (bracket false) s at ≡ x → (y : Mark) → mark_at (bracket true) s at ≡ y → after_mark x (λ k. Number 0 k) (after_mark y (λ k. Number 1 k) Field_as_Bad) ≡ Number m n → BracketIs bracket s at m n
     go (Next k) e y f h =
         let a : 0 ≡ m = cc in
         let b : k ≡ n = cc in
@@ -70,7 +70,7 @@ pub bracket_small : (counted excluded s : List ℕ) (at : ℕ) {m n : ℕ} → b
 unfolding bracket_at
 bracket_small counted excluded s at {m} {n} h = go (mark_at counted s at) (mark_at excluded s at) h
   where
-    go : (x y : Mark) → after_mark x (λ k. Number 0 k) (after_mark y (λ k. Number 1 k) Field-as-Bad) ≡ Number m n → m ≤ 1
+    go : (x y : Mark) → after_mark x (λ k. Number 0 k) (after_mark y (λ k. Number 1 k) Field_as_Bad) ≡ Number m n → m ≤ 1
     go (Next k) y h = let a : 0 ≡ m = cc in omega arith
     go Mark_as_Bad (Next k) h = let a : 1 ≡ m = cc in omega arith
     go Mark_as_Bad Mark_as_Bad h = let z : ◌≡◌ {A = ℕ} 0 1 = cc in absurd (omega arith)

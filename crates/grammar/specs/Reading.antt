@@ -3,12 +3,12 @@ use Rattle.std.specs.Prelude.{ℕ, zero, suc, ◌+◌, List, [], ◌∷◌, true
 use Rattle.text.specs.Bytes.{bytes}
 use Rattle.text.specs.Mark.{mark_at, after_mark}
 use Rattle.text.specs.declared.Field.{Field}
-use Rattle.text.specs.declared.Field.TheVariants.{Number, Bad as Field-as-Bad}
+use Rattle.text.specs.declared.Field.TheVariants.{Number, Bad as Field_as_Bad}
 use Rattle.text.specs.Number.{number_at, field_at, after_number}
 use Rattle.grammar.specs.declared.Window.{Window}
 use Rattle.grammar.specs.declared.Window.TheVariants.{Ends, Bad as Window_as_Bad}
 use Rattle.grammar.specs.declared.Operator.{Operator}
-use Rattle.grammar.specs.declared.Operator.TheVariants.{Absent, Over, Bad as Operator-as-Bad}
+use Rattle.grammar.specs.declared.Operator.TheVariants.{Absent, Over, Bad as Operator_as_Bad}
 use Rattle.tables.specs.Kind.{true_kind, predicate_kind, not_kind, and_kind, or_kind}
 use Rattle.grammar.specs.Operators.{letter, binders, prefixes}
 use Rattle.tables.specs.Tree.{NODES, LONGEST, NO_END, marked, no_span}
@@ -17,7 +17,7 @@ use Rattle.grammar.specs.Tree.{opens, closes, Tree, truth, predicate, one, two, 
 
 -- the bracket at an end of a window, and the mark that it stands for: 0 where the end is counted, 1 where it is excluded
 unfoldable pub bracket_at : List ℕ → List ℕ → List ℕ → ℕ → Field
-bracket_at counted excluded s at = after_mark (mark_at counted s at) (λ n. Number 0 n) (after_mark (mark_at excluded s at) (λ n. Number 1 n) Field-as-Bad)
+bracket_at counted excluded s at = after_mark (mark_at counted s at) (λ n. Number 0 n) (after_mark (mark_at excluded s at) (λ n. Number 1 n) Field_as_Bad)
 
 -- the high end of a window, after its comma: `*]`, or a number and its bracket
 unfoldable pub high_end_at : ℕ → ℕ → List ℕ → ℕ → Window
@@ -42,7 +42,7 @@ window_at s at =
 -- a kind over a window
 abbrev pub over_window : ℕ → Window → Operator
 over_window k (Ends r n) = Over k r n
-over_window k Window_as_Bad = Operator-as-Bad
+over_window k Window_as_Bad = Operator_as_Bad
 
 -- the letter of a kind, and its window
 unfoldable pub timed_at : ℕ → List ℕ → ℕ → Operator
@@ -52,7 +52,7 @@ timed_at k s at = after_mark (mark_at (letter k) s at) (λ n. over_window k (win
 abbrev pub or_else : Operator → Operator → Operator
 or_else Absent y = y
 or_else (Over k r n) y = Over k r n
-or_else Operator-as-Bad y = Operator-as-Bad
+or_else Operator_as_Bad y = Operator_as_Bad
 
 -- whichever of some kinds with a window stands at a place
 unfoldable pub timed_among : List ℕ → List ℕ → ℕ → Operator
@@ -100,7 +100,7 @@ more part k s x = more_turns (length s) part k s x
 unfoldable pub bind_by : Reads → List ℕ → Tree → ℕ → Operator → Reading
 bind_by part s a n Absent = got a n
 bind_by part s a n (Over k r m) = on_got (part s m) (λ b e. got (two k r a b) e)
-bind_by part s a n Operator-as-Bad = none
+bind_by part s a n Operator_as_Bad = none
 
 abbrev pub bind_of : Reads → Reads
 bind_of part s at = on_got (part s at) (λ a n. bind_by part s a n (binder_at s n))
@@ -119,7 +119,7 @@ closing s x = on_got x (λ a n. after_mark (mark_at (bytes ")") s n) (λ m. got 
 unfoldable pub unary_by : Reads → List ℕ → ℕ → Operator → Reading
 unary_by deeper s at Absent = leaf_at s at
 unary_by deeper s at (Over k r n) = on_got (deeper s n) (λ a e. got (one k r a) e)
-unary_by deeper s at Operator-as-Bad = none
+unary_by deeper s at Operator_as_Bad = none
 
 abbrev pub enclosing : Reads → Reads
 enclosing deeper s at = after_mark (mark_at (bytes "(") s at) (λ n. closing s (alternative_of deeper s n)) (unary_by deeper s at (prefix_at s at))

@@ -5,7 +5,7 @@ use mathlib.Core.List.{List}
 use mathlib.Core.Bool.{true, false}
 use Prim.Native.Nat.{ℕ}
 use Rattle.text.specs.Bytes.{bytes}
-use Rattle.text.specs.declared.Field.TheVariants.{Number, Bad as Field-as-Bad}
+use Rattle.text.specs.declared.Field.TheVariants.{Number, Bad as Field_as_Bad}
 use Rattle.recordings.specs.declared.Scales.{Scales}
 use Rattle.number_lines.specs.Reading.{number_line_at}
 use Rattle.scale_lines.specs.declared.ChannelScales.{ChannelScales}
@@ -21,12 +21,12 @@ module _ (s : List ℕ) (ch : ℕ) (scales : Scales) (ps : Predicates) where
   chain_predicates o = rw o
 
   module _ (o : ps.ok ≡ true) where
-    pub chain_step : number_line_at (bytes "step=") s ps.next ≡ Field-as-Bad → broken_head ≡ behind_scales s ch scales ps
+    pub chain_step : number_line_at (bytes "step=") s ps.next ≡ Field_as_Bad → broken_head ≡ behind_scales s ch scales ps
     unfolding behind_scales
     chain_step f = rw (o, f)
 
     module _ (step c : ℕ) (f : number_line_at (bytes "step=") s ps.next ≡ Number step c) where
-      pub chain_drift : number_line_at (bytes "drift=") s c ≡ Field-as-Bad → broken_head ≡ behind_scales s ch scales ps
+      pub chain_drift : number_line_at (bytes "drift=") s c ≡ Field_as_Bad → broken_head ≡ behind_scales s ch scales ps
       unfolding behind_scales
       chain_drift h = rw (o, f, h)
 
@@ -36,7 +36,7 @@ module _ (s : List ℕ) (ch : ℕ) (scales : Scales) (ps : Predicates) where
       chain_read drift d h = rw (o, f, h)
 
 module _ (s : List ℕ) where
-  pub chain_channels : number_line_at (bytes "chan=") s 0 ≡ Field-as-Bad → broken_head ≡ head_of s
+  pub chain_channels : number_line_at (bytes "chan=") s 0 ≡ Field_as_Bad → broken_head ≡ head_of s
   unfolding head_of
   chain_channels e = rw e
 

@@ -9,7 +9,7 @@ use Rattle.text.specs.Bytes.{bytes}
 use Rattle.text.specs.Mark.{mark_at}
 use Rattle.text.specs.Number.{largest, field_at}
 use Rattle.text.specs.declared.Field.{Field}
-use Rattle.text.specs.declared.Field.TheVariants.{Number, Bad as Field-as-Bad}
+use Rattle.text.specs.declared.Field.TheVariants.{Number, Bad as Field_as_Bad}
 use Rattle.text.proofs.Places.{Between, between_both, place_inside, place_after}
 use Rattle.text.proofs.Answers.{mark_is, field_is}
 use Rattle.text.proofs.Fields.{mark_case, number_case, mark_taken, field_taken}
@@ -21,7 +21,7 @@ use Rattle.number_lines.specs.Reading.{number_line_at}
 
 abbrev NumberHere : List ℕ → List ℕ → ℕ → Field → Type 0
 NumberHere key s at (Number v n) = (l : List ℕ) × Between s at n l × NumberLine key l v
-NumberHere key s at Field-as-Bad = Unit
+NumberHere key s at Field_as_Bad = Unit
 
 number_here : (key s : List ℕ) (at : ℕ) → NumberHere key s at (number_line_at key s at)
 unfolding number_line_at

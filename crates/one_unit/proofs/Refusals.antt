@@ -22,7 +22,7 @@ use Rattle.rules.specs.Recording.{samples_obey, lengths_obey}
 use Rattle.rules.proofs.Recording.{samples_are, samples_pass, times_are, times_pass, values_are, values_pass}
 use Rattle.rules.proofs.Refusals.{exact}
 use Rattle.sampling.specs.Sampling.{values_near}
-use Rattle.sampling.proofs.Sampling.{bounded_at, at_bounded, steady, steady_passes, exact as sampling-exact}
+use Rattle.sampling.proofs.Sampling.{bounded_at, at_bounded, steady, steady_passes, exact as sampling_exact}
 use Rattle.margins.specs.Answers.{margin_room, margin_refusal}
 use Rattle.verdicts.specs.Answer.{verdict_room, verdict_refusal}
 use Rattle.one_unit.specs.Before.{OneUnit, LengthsBefore, SteadyBefore, near_before, checks_before, sampling_before, margin_checks_before, verdict_checks_before}
@@ -75,7 +75,7 @@ module _ (c : Card) (t : Table) where
 
   pub verdict_exact : (step drift size : ℕ) → AllExact (verdict_checks_before c t step drift size)
   verdict_exact step drift size =
-      let e = sampling-exact c step drift in
+      let e = sampling_exact c step drift in
       exact_append (checks_before c t) (verdict_room c t size ∷ sampling_before c step drift) checks_exact
       (λ _. (record { sound = leb→le _ _; complete = le→leb _ _ }, λ _. (e.0, λ p. ((e.1 p).0, λ _. (record { sound = near_is c drift; complete = near_passes c drift }, λ _. tt)))))
 

@@ -15,7 +15,7 @@ use Rattle.tables.specs.declared.Table.{Table}
 use Rattle.refusals.specs.First.{Check}
 use Rattle.rules.specs.Recording.{samples_obey}
 use Rattle.rules.specs.Refusals.{table_checks, sample_checks}
-use Rattle.sampling.specs.Sampling.{checks as sampling-checks}
+use Rattle.sampling.specs.Sampling.{checks as sampling_checks}
 use Rattle.margins.specs.Answers.{margin_room}
 use Rattle.verdicts.specs.Answer.{verdict_room}
 
@@ -66,7 +66,7 @@ checks_before c t =
     ++ (record { number = 5; sentence = LengthsBefore c; passes = samples_obey c.setup.channels (rows c) (length c.values) } ∷ drop 1 (sample_checks c))
 
 abbrev pub sampling_before : Card → ℕ → ℕ → List Check
-sampling_before c step drift = take 2 (sampling-checks c step drift) ++ (record { number = 11; sentence = SteadyBefore c drift; passes = near_before c drift } ∷ [])
+sampling_before c step drift = take 2 (sampling_checks c step drift) ++ (record { number = 11; sentence = SteadyBefore c drift; passes = near_before c drift } ∷ [])
 
 abbrev pub margin_checks_before : Card → Table → ℕ → List Check
 margin_checks_before c t cells = checks_before c t ++ (margin_room c t cells ∷ [])

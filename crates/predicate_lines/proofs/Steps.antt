@@ -7,31 +7,31 @@ use Rattle.text.specs.Bytes.{bytes}
 use Rattle.text.specs.Mark.{mark_at}
 use Rattle.text.specs.Number.{largest, field_at}
 use Rattle.text.specs.declared.Mark.TheVariants.{Next, Bad as Mark_as_Bad}
-use Rattle.text.specs.declared.Field.TheVariants.{Number, Bad as Field-as-Bad}
+use Rattle.text.specs.declared.Field.TheVariants.{Number, Bad as Field_as_Bad}
 use Rattle.recordings.specs.declared.Range.{Range}
 use Rattle.predicate_lines.specs.declared.Bound.{Bound}
-use Rattle.predicate_lines.specs.declared.End.TheVariants.{Read, Bad as End-as-Bad}
+use Rattle.predicate_lines.specs.declared.End.TheVariants.{Read, Bad as End_as_Bad}
 use Rattle.predicate_lines.specs.declared.Line.TheVariants.{Bad}
 use Rattle.predicate_lines.specs.Form.{range_of}
 use Rattle.predicate_lines.specs.Reading.{end_at, set_line, line_at}
 
 module _ (s : List ℕ) (at : ℕ) where
-  pub line_number : field_at (bytes "p=") s at 15 ≡ Field-as-Bad → Bad ≡ line_at s at
+  pub line_number : field_at (bytes "p=") s at 15 ≡ Field_as_Bad → Bad ≡ line_at s at
   unfolding line_at
   line_number e = rw e
 
   module _ (k a : ℕ) (e : field_at (bytes "p=") s at 15 ≡ Number k a) where
-    pub line_channel : field_at (bytes " ch=") s a largest ≡ Field-as-Bad → Bad ≡ line_at s at
+    pub line_channel : field_at (bytes " ch=") s a largest ≡ Field_as_Bad → Bad ≡ line_at s at
     unfolding line_at
     line_channel f = rw (e, f)
 
     module _ (ch b : ℕ) (f : field_at (bytes " ch=") s a largest ≡ Number ch b) where
-      pub line_low : end_at (bytes " lo=") s b ≡ End-as-Bad → Bad ≡ line_at s at
+      pub line_low : end_at (bytes " lo=") s b ≡ End_as_Bad → Bad ≡ line_at s at
       unfolding line_at
       line_low g = rw (e, f, g)
 
       module _ (lo : Bound) (c : ℕ) (g : end_at (bytes " lo=") s b ≡ Read lo c) where
-        pub line_high : end_at (bytes " hi=") s c ≡ End-as-Bad → Bad ≡ line_at s at
+        pub line_high : end_at (bytes " hi=") s c ≡ End_as_Bad → Bad ≡ line_at s at
         unfolding line_at
         line_high h = rw (e, f, g, h)
 

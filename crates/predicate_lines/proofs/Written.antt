@@ -19,7 +19,7 @@ use Rattle.lines.proofs.Lines.{Fed}
 use Rattle.recordings.specs.declared.Predicate.{Predicate}
 use Rattle.predicate_lines.specs.declared.Bound.{Bound}
 use Rattle.predicate_lines.specs.declared.End.{End}
-use Rattle.predicate_lines.specs.declared.End.TheVariants.{Read, Bad as End-as-Bad}
+use Rattle.predicate_lines.specs.declared.End.TheVariants.{Read, Bad as End_as_Bad}
 use Rattle.predicate_lines.specs.declared.Line.{Line}
 use Rattle.predicate_lines.specs.declared.Line.TheVariants.{Set, Bad}
 use Rattle.predicate_lines.specs.Form.{EndText, star, number, range_of, PredicateLine}
@@ -30,7 +30,7 @@ use Rattle.predicate_lines.proofs.Steps.{line_set}
 
 abbrev EndHere : List ℕ → List ℕ → ℕ → End → Type 0
 EndHere key s at (Read b n) = (w : List ℕ) × Between s at n (key ++ w) × EndText w b
-EndHere key s at End-as-Bad = Unit
+EndHere key s at End_as_Bad = Unit
 
 end_here : (key s : List ℕ) (at : ℕ) → EndHere key s at (end_at key s at)
 unfolding end_at
@@ -45,7 +45,7 @@ end_here key s at =
 
 end_case : {A : Type 0} (P : A → Type 0) (x : End) (f : Bound → ℕ → A) (a : A) → ((b : Bound) (n : ℕ) → x ≡ Read b n → P (f b n)) → P a → P (after_end x f a)
 end_case P (Read b n) f a h k = h b n refl
-end_case P End-as-Bad f a h k = k
+end_case P End_as_Bad f a h k = k
 
 end_is : (key s : List ℕ) (at : ℕ) (b : Bound) (n : ℕ) → end_at key s at ≡ Read b n → (w : List ℕ) × Between s at n (key ++ w) × EndText w b
 end_is key s at b n h = rw h at (end_here key s at)

@@ -8,7 +8,7 @@ use Rattle.recordings.specs.declared.Predicate.{Predicate}
 use Rattle.predicate_lines.specs.declared.Bound.{Bound}
 use Rattle.predicate_lines.specs.declared.Bound.TheVariants.{Missing, At}
 use Rattle.predicate_lines.specs.declared.End.{End}
-use Rattle.predicate_lines.specs.declared.End.TheVariants.{Read, Bad as End-as-Bad}
+use Rattle.predicate_lines.specs.declared.End.TheVariants.{Read, Bad as End_as_Bad}
 use Rattle.predicate_lines.specs.declared.Line.{Line}
 use Rattle.predicate_lines.specs.declared.Line.TheVariants.{Set, Bad}
 use Rattle.predicate_lines.specs.declared.Predicates.{Predicates}
@@ -18,12 +18,12 @@ use Rattle.predicate_lines.specs.Form.{range_of, unset}
 unfoldable pub end_at : List ℕ → List ℕ → ℕ → End
 end_at key s at =
     after_mark (mark_at key s at)
-    (λ b. after_mark (mark_at (bytes "*") s b) (λ n. Read Missing n) (after_signed (signed_at s b) (λ v n. Read (At v) n) End-as-Bad))
-    End-as-Bad
+    (λ b. after_mark (mark_at (bytes "*") s b) (λ n. Read Missing n) (after_signed (signed_at s b) (λ v n. Read (At v) n) End_as_Bad))
+    End_as_Bad
 
 abbrev pub after_end : {A : Type 0} → End → (Bound → ℕ → A) → A → A
 after_end (Read b n) f x = f b n
-after_end End-as-Bad f x = x
+after_end End_as_Bad f x = x
 
 abbrev pub set_line : ℕ → Predicate → ℕ → Line
 set_line k p n = Set (record { number = k; predicate = p; next = n })

@@ -13,7 +13,7 @@ use Rattle.text.proofs.Answers.{mark_is}
 use Rattle.tables.specs.Tree.{NODES, no_span}
 use Rattle.tables.specs.declared.Span.{Span}
 use Rattle.grammar.specs.declared.Operator.{Operator}
-use Rattle.grammar.specs.declared.Operator.TheVariants.{Absent, Over, Bad as Operator-as-Bad}
+use Rattle.grammar.specs.declared.Operator.TheVariants.{Absent, Over, Bad as Operator_as_Bad}
 use Rattle.tables.specs.Kind.{not_kind}
 use Rattle.grammar.specs.Operators.{letter, binders, prefixes}
 use Rattle.grammar.specs.Tree.{Tree, two, size}
@@ -74,7 +74,7 @@ bind_big o part s a n h (Over k r m) = go (part s m)
     go : (y : Reading) → step_of o (on_got y (λ b e. got (two k r a b) e)) ≡ Refused
     go (got b e) = step_big o (two k r a b) e (omega arith)
     go none = step_none o
-bind_big o part s a n h Operator-as-Bad = step_none o
+bind_big o part s a n h Operator_as_Bad = step_none o
 
 module _ (o d : ℕ) (s : List ℕ) (at : ℕ) (p : Step) (before mid : List ℕ) (u : Done o (unary_at d s at) p before mid) where
   pub bind_refused : (after : List ℕ) → p ≡ Refused → Done o (bind_at d s at) Refused before after
@@ -95,9 +95,9 @@ module _ (o d : ℕ) (s : List ℕ) (at : ℕ) (p : Step) (before mid : List ℕ
     unfolding bind_by
     bind_alone g = rw q at (done_as o (unary_at d s at) (bind_at d s at) p before mid (left_is.reading ∙ bound_by Absent g) u)
 
-    pub bind_bad : (after : List ℕ) → binder_at s e ≡ Operator-as-Bad → Done o (bind_at d s at) Refused before after
+    pub bind_bad : (after : List ℕ) → binder_at s e ≡ Operator_as_Bad → Done o (bind_at d s at) Refused before after
     unfolding bind_by
-    bind_bad after g = done_as o none (bind_at d s at) Refused before after (bound_by Operator-as-Bad g) (refused_done o none before after (step_none o))
+    bind_bad after g = done_as o none (bind_at d s at) Refused before after (bound_by Operator_as_Bad g) (refused_done o none before after (step_none o))
 
     module _ (k : ℕ) (w : Span) (m : ℕ) (g : binder_at s e ≡ Over k w m) where
       pub bind_past : at ≤ m

@@ -9,7 +9,7 @@ use lib.ListN.{length}
 use Rattle.row_lines.specs.declared.RowLine.{RowLine}
 use Rattle.row_lines.specs.declared.RowLine.TheVariants.{Filled, Bad}
 use Rattle.row_lines.specs.declared.Counts.{Counts}
-use Rattle.row_lines.specs.declared.Counts.TheVariants.{Found, Bad as Counts-as-Bad}
+use Rattle.row_lines.specs.declared.Counts.TheVariants.{Found, Bad as Counts_as_Bad}
 use Rattle.row_lines.specs.Form.{Sample}
 use Rattle.row_lines.specs.Reading.{measured_row, row_at, Listing, listed, broken, also_measured, also_filled, sample_at, rows_from, rows_of, counts}
 use Rattle.row_lines.proofs.Exact.{row_past, rows_over, rows_turn}
@@ -17,7 +17,7 @@ use Rattle.row_lines.proofs.Exact.{row_past, rows_over, rows_turn}
 -- the counts after m measured and k filled rows
 abbrev tally : ℕ → ℕ → Listing → Counts
 tally m k (listed xs f) = Found (m + length xs) (k + f)
-tally m k broken = Counts-as-Bad
+tally m k broken = Counts_as_Bad
 
 tally_none : (x : Listing) → tally 0 0 x ≡ counts x
 tally_none (listed xs f) = simp zero-add
@@ -48,7 +48,7 @@ module _ (ch : ℕ) (s : List ℕ) (at m k : ℕ) (i : Counting ch s at m k) whe
       simp add-zero at e
 
   module _ (x : RowLine) (l : at < length s) (e : x ≡ row_at s at ch) where
-    pub count_bad : x ≡ Bad → Counts-as-Bad ≡ counts (rows_of ch s)
+    pub count_bad : x ≡ Bad → Counts_as_Bad ≡ counts (rows_of ch s)
     count_bad h = rw (rows_turn i.fuel ch s at Bad i.enough l (sym h ∙ e)) at i.same
 
     pub count_measured : (t a n : ℕ) → x ≡ measured_row t a n → (at < n) × Counting ch s n (m + 1) k

@@ -16,7 +16,7 @@ use Rattle.text.specs.Numeral.{Numeral, Signed}
 use Rattle.text.specs.declared.Mark.TheVariants.{Next, Bad as Mark_as_Bad}
 use Rattle.text.specs.declared.Field.TheVariants.{Number}
 use Rattle.text.specs.declared.signed.Field.{Field as SignedField}
-use Rattle.text.specs.declared.signed.Field.TheVariants.{Number as Signed-as-Number, Bad as Signed-as-Bad}
+use Rattle.text.specs.declared.signed.Field.TheVariants.{Number as Signed_as_Number, Bad as Signed_as_Bad}
 use Rattle.text.proofs.Tests.{test_case}
 use Rattle.text.proofs.Places.{Between, between_both}
 use Rattle.text.proofs.Answers.{mark_is, mark_missing, field_is}
@@ -37,12 +37,12 @@ pub record ValueIs (s : List ℕ) (at c : ℕ) (v : ℤ) (n : ℕ) : Type 0 wher
   pub signed : Signed worth v
 
 abbrev ValueHere : List ℕ → ℕ → ℕ → SignedField → Type 0
-ValueHere s at c (Signed-as-Number v n) = ValueIs s at c v n
-ValueHere s at c Signed-as-Bad = Unit
+ValueHere s at c (Signed_as_Number v n) = ValueIs s at c v n
+ValueHere s at c Signed_as_Bad = Unit
 
 value_of : (s : List ℕ) (at c k n : ℕ) → field_at (bytes " v") s at largest ≡ Number k n → k ≡ c
     → (x : SignedField) → signed_field_at (bytes "=") s n ≡ x → ValueHere s at c x
-value_of s at c k n e z (Signed-as-Number v m) h =
+value_of s at c k n e z (Signed_as_Number v m) h =
     let a = field_is (bytes " v") s at largest c n (rw z at e) in
     let b = signed_field_bytes (bytes "=") s n v m h in
     let f = between_both a.1 a.2.between in
@@ -54,7 +54,7 @@ value_of s at c k n e z (Signed-as-Number v m) h =
       channel = a.2.numeral;
       signed = b.2;
     }
-value_of s at c k n e z Signed-as-Bad h = tt
+value_of s at c k n e z Signed_as_Bad h = tt
 
 value_here : (s : List ℕ) (at c : ℕ) → ValueHere s at c (value_at s at c)
 unfolding value_at
@@ -63,11 +63,11 @@ value_here s at c =
     (λ k n e. test_case (ValueHere s at c) (eqb k c) _ _ (λ t. value_of s at c k n e (eqb-true k c t) (signed_field_at (bytes "=") s n) refl) (λ t. tt))
     (λ e. tt)
 
-pub value_is : (s : List ℕ) (at c : ℕ) (v : ℤ) (n : ℕ) → value_at s at c ≡ Signed-as-Number v n → ValueIs s at c v n
+pub value_is : (s : List ℕ) (at c : ℕ) (v : ℤ) (n : ℕ) → value_at s at c ≡ Signed_as_Number v n → ValueIs s at c v n
 value_is s at c v n h = rw h at (value_here s at c)
 
 value_taken : (s : List ℕ) (at c : ℕ) (r : List ℕ) → is_digit (get_or r 0 0) ≡ false → {m w : List ℕ} {v : ℤ} → drop at s ≡ bytes " v" ++ m ++ bytes "=" ++ w ++ r
-    → c ≤ largest → Numeral m c → Signed w v → (n : ℕ) × (value_at s at c ≡ Signed-as-Number v n) × (drop n s ≡ r)
+    → c ≤ largest → Numeral m c → Signed w v → (n : ℕ) × (value_at s at c ≡ Signed_as_Number v n) × (drop n s ≡ r)
 unfolding value_at
 value_taken s at c r stop {m} {w} {v} e l num sg =
     let f : drop at s ≡ bytes " v" ++ (m ++ (bytes "=" ++ (w ++ r))) = simp append_assoc at e in

@@ -7,12 +7,12 @@ use Rattle.text.specs.Number.{largest, field_at, signed_field_at, after_number, 
 use Rattle.text.specs.declared.Mark.{Mark}
 use Rattle.text.specs.declared.Mark.TheVariants.{Next, Bad as Mark_as_Bad}
 use Rattle.text.specs.declared.signed.Field.{Field as Signed}
-use Rattle.text.specs.declared.signed.Field.TheVariants.{Bad as Signed-as-Bad}
+use Rattle.text.specs.declared.signed.Field.TheVariants.{Bad as Signed_as_Bad}
 use Rattle.recordings.specs.Accepted.{MOST_CHANNELS}
 use Rattle.row_lines.specs.declared.RowLine.{RowLine}
 use Rattle.row_lines.specs.declared.RowLine.TheVariants.{Measured, Filled, Bad}
 use Rattle.row_lines.specs.declared.Counts.{Counts}
-use Rattle.row_lines.specs.declared.Counts.TheVariants.{Found, Bad as Counts-as-Bad}
+use Rattle.row_lines.specs.declared.Counts.TheVariants.{Found, Bad as Counts_as_Bad}
 use Rattle.row_lines.specs.Form.{Sample}
 
 -- a text longer than this is refused
@@ -26,7 +26,7 @@ channels_in_range channels = leb 1 channels && leb channels MOST_CHANNELS
 -- the value of channel c at a place
 unfoldable pub value_at : List ℕ → ℕ → ℕ → Signed
 value_at s at c =
-    after_number (field_at (bytes " v") s at largest) (λ k n. cond (eqb k c) (signed_field_at (bytes "=") s n) Signed-as-Bad) Signed-as-Bad
+    after_number (field_at (bytes " v") s at largest) (λ k n. cond (eqb k c) (signed_field_at (bytes "=") s n) Signed_as_Bad) Signed_as_Bad
 
 -- values and the place after them
 pub data ValuesAt : Type 0 where
@@ -111,4 +111,4 @@ rows_of channels s = rows_from (length s) channels s 0
 
 abbrev pub counts : Listing → Counts
 counts (listed xs k) = Found (length xs) k
-counts broken = Counts-as-Bad
+counts broken = Counts_as_Bad

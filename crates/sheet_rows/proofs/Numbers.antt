@@ -13,7 +13,7 @@ use borrow.Author.Tests.{leb-true, le-leb}
 use Rattle.text.proofs.Tests.{both}
 use Rattle.recordings.specs.Accepted.{MOST_ROWS, MOST_CHANNELS}
 use Rattle.refusals.specs.First.{first, unless_refused}
-use Rattle.row_lines.specs.declared.Counts.TheVariants.{Found, Bad as Counts-as-Bad}
+use Rattle.row_lines.specs.declared.Counts.TheVariants.{Found, Bad as Counts_as_Bad}
 use Rattle.row_lines.specs.Form.{Sample, ChannelsInRange}
 use Rattle.row_lines.specs.Reading.{limit, channels_in_range, Listing, listed, broken, rows_of, counts}
 use Rattle.row_lines.specs.Same.{SameButFilled}
@@ -26,7 +26,7 @@ listed_as : (x : Listing) (m k : ℕ) → counts x ≡ Found m k → (xs : List 
 listed_as (listed xs j) m k h = let e : j ≡ k = cc in (xs, rw e, cc)
 listed_as broken m k h = let z : ◌≡◌ {A = ℕ} 0 1 = cc in absurd (omega arith)
 
-uncounted : (x : Listing) → counts x ≡ Counts-as-Bad → x ≡ broken
+uncounted : (x : Listing) → counts x ≡ Counts_as_Bad → x ≡ broken
 uncounted (listed xs k) h = let z : ◌≡◌ {A = ℕ} 0 1 = cc in absurd (omega arith)
 uncounted broken h = refl
 
@@ -60,7 +60,7 @@ module _ (s : List ℕ) (ch nt nv : ℕ) where
     answer_width w = rw (l, w)
 
     module _ (w : channels_in_range ch ≡ true) where
-      pub answer_broken : counts (rows_of ch s) ≡ Counts-as-Bad → no_rows 1 ≡ answer_of s ch nt nv
+      pub answer_broken : counts (rows_of ch s) ≡ Counts_as_Bad → no_rows 1 ≡ answer_of s ch nt nv
       unfolding first
       answer_broken h = rw (l, w, uncounted (rows_of ch s) h)
 

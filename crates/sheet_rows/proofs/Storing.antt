@@ -9,7 +9,7 @@ use native.Mathlib.Omega.{arith}
 use lib.ListN.{length, set, length-set, length-append}
 use lib.Seq.{sets, length-sets}
 use lib.IntN.{ℤ}
-use Rattle.text.specs.declared.signed.Field.TheVariants.{Number as Signed-as-Number, Bad as Signed-as-Bad}
+use Rattle.text.specs.declared.signed.Field.TheVariants.{Number as Signed_as_Number, Bad as Signed_as_Bad}
 use Rattle.row_lines.specs.declared.RowLine.{RowLine}
 use Rattle.row_lines.specs.declared.RowLine.TheVariants.{Filled, Bad}
 use Rattle.row_lines.specs.Form.{Sample, Rows, no_row, measured, filled}
@@ -56,13 +56,13 @@ module _ (s : List ℕ) (at ch place : ℕ) (values₀ values : List ℤ) (next 
       rw f at i.same
 
   module _ (l : c < ch) where
-    pub store_bad : value_at s next c ≡ Signed-as-Bad → ⊥
+    pub store_bad : value_at s next c ≡ Signed_as_Bad → ⊥
     store_bad h =
         let e : read i.rest i.end ≡ missing = sym i.reads ∙ values_none ch c s next l h in
         let z : ◌≡◌ {A = ℕ} 0 1 = cc in
         omega arith
 
-    pub store_next : (v : ℤ) (n : ℕ) → value_at s next c ≡ Signed-as-Number v n → Storing s at ch place values₀ (set values (place + c) v) n (c + 1)
+    pub store_next : (v : ℤ) (n : ℕ) → value_at s next c ≡ Signed_as_Number v n → Storing s at ch place values₀ (set values (place + c) v) n (c + 1)
     store_next v n h =
         let p = also_split v (values_from (ch - (c + 1)) (c + 1) s n) i.rest i.end (sym (values_next ch c s next v n l h) ∙ i.reads) in
         let e : place + (c + 1) ≡ suc (place + c) = omega arith in

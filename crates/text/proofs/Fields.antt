@@ -18,7 +18,7 @@ use Rattle.text.specs.declared.Mark.TheVariants.{Next, Bad as Mark_as_Bad}
 use Rattle.text.specs.declared.Field.{Field}
 use Rattle.text.specs.declared.Field.TheVariants.{Number, Bad}
 use Rattle.text.specs.declared.signed.Field.{Field as SignedField}
-use Rattle.text.specs.declared.signed.Field.TheVariants.{Number as Signed-as-Number, Bad as Signed-as-Bad}
+use Rattle.text.specs.declared.signed.Field.TheVariants.{Number as Signed_as_Number, Bad as Signed_as_Bad}
 use Rattle.text.proofs.Tests.{false_true, test_case, above_zero}
 use Rattle.text.proofs.Places.{Between, between_both, after_bytes}
 use Rattle.text.proofs.Numerals.{number_is, number_made, numeral_begins}
@@ -34,14 +34,14 @@ module _ {A : Type 0} (P : A → Type 0) where
   number_case (Number v n) f a h k = h v n refl
   number_case Bad f a h k = k refl
 
-  pub signed_case : (x : SignedField) (f : ℤ → ℕ → A) (a : A) → ((v : ℤ) (n : ℕ) → x ≡ Signed-as-Number v n → P (f v n)) → (x ≡ Signed-as-Bad → P a) → P (after_signed x f a)
-  signed_case (Signed-as-Number v n) f a h k = h v n refl
-  signed_case Signed-as-Bad f a h k = k refl
+  pub signed_case : (x : SignedField) (f : ℤ → ℕ → A) (a : A) → ((v : ℤ) (n : ℕ) → x ≡ Signed_as_Number v n → P (f v n)) → (x ≡ Signed_as_Bad → P a) → P (after_signed x f a)
+  signed_case (Signed_as_Number v n) f a h k = h v n refl
+  signed_case Signed_as_Bad f a h k = k refl
 
 -- ---- a signed number that is read stands there
 abbrev SignedHere : List ℕ → ℕ → SignedField → Type 0
-SignedHere s at (Signed-as-Number v n) = (w : List ℕ) × Between s at n w × Signed w v
-SignedHere s at Signed-as-Bad = Unit
+SignedHere s at (Signed_as_Number v n) = (w : List ℕ) × Between s at n w × Signed w v
+SignedHere s at Signed_as_Bad = Unit
 
 signed_here : (s : List ℕ) (at : ℕ) → SignedHere s at (signed_at s at)
 unfolding signed_at
@@ -56,15 +56,15 @@ signed_here s at =
     (λ v n f. let a = number_is s at largest_signed v n f in (a.word, a.between, plain a.numeral a.bound))
     (λ f. tt))
 
-pub signed_bytes : (s : List ℕ) (at : ℕ) (v : ℤ) (n : ℕ) → signed_at s at ≡ Signed-as-Number v n → (w : List ℕ) × Between s at n w × Signed w v
+pub signed_bytes : (s : List ℕ) (at : ℕ) (v : ℤ) (n : ℕ) → signed_at s at ≡ Signed_as_Number v n → (w : List ℕ) × Between s at n w × Signed w v
 signed_bytes s at v n h = rw h at (signed_here s at)
 
-pub signed_field_bytes : (key s : List ℕ) (at : ℕ) (v : ℤ) (n : ℕ) → signed_field_at key s at ≡ Signed-as-Number v n
+pub signed_field_bytes : (key s : List ℕ) (at : ℕ) (v : ℤ) (n : ℕ) → signed_field_at key s at ≡ Signed_as_Number v n
     → (w : List ℕ) × Between s at n (key ++ w) × Signed w v
 unfolding signed_field_at
 signed_field_bytes key s at v n h = go (mark_at key s at) refl h
   where
-    go : (m : Mark) → mark_at key s at ≡ m → after_mark m (λ k. signed_at s k) Signed-as-Bad ≡ Signed-as-Number v n → (w : List ℕ) × Between s at n (key ++ w) × Signed w v
+    go : (m : Mark) → mark_at key s at ≡ m → after_mark m (λ k. signed_at s k) Signed_as_Bad ≡ Signed_as_Number v n → (w : List ℕ) × Between s at n (key ++ w) × Signed w v
     go (Next m) e g = let b = signed_bytes s m v n g in (b.0, between_both (mark_is key s at m e) b.1, b.2)
     go Mark_as_Bad e g = let z : ◌≡◌ {A = ℕ} 0 1 = cc in absurd (omega arith)
 
@@ -96,7 +96,7 @@ signed_first c n d r (plain m l) = numeral_first c n r m
 signed_first c n d r (minus m p l) = d
 
 pub signed_taken : (s : List ℕ) (at : ℕ) (r : List ℕ) → is_digit (get_or r 0 0) ≡ false → {w : List ℕ} {v : ℤ} → drop at s ≡ w ++ r → Signed w v
-    → (n : ℕ) × (signed_at s at ≡ Signed-as-Number v n) × (drop n s ≡ r)
+    → (n : ℕ) × (signed_at s at ≡ Signed_as_Number v n) × (drop n s ≡ r)
 unfolding signed_at
 signed_taken s at r stop e (plain {w} {v} m l) =
     let n = number_taken s at r stop largest_signed e m l (omega arith) in
@@ -108,7 +108,7 @@ signed_taken s at r stop e (minus {w} {v} m p l) =
 
 pub signed_field_taken : (s : List ℕ) (at : ℕ) (r : List ℕ) → is_digit (get_or r 0 0) ≡ false → (key : List ℕ) → 0 < length key
     → {w : List ℕ} {v : ℤ} → drop at s ≡ key ++ (w ++ r) → Signed w v
-    → (n : ℕ) × (signed_field_at key s at ≡ Signed-as-Number v n) × (drop n s ≡ r)
+    → (n : ℕ) × (signed_field_at key s at ≡ Signed_as_Number v n) × (drop n s ≡ r)
 unfolding signed_field_at
 signed_field_taken s at r stop key p {w} {v} e m =
     let k = mark_taken s at (w ++ r) key p e in

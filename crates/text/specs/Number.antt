@@ -5,7 +5,7 @@ use Rattle.text.specs.Mark.{mark_at, after_mark}
 use Rattle.text.specs.declared.Field.{Field}
 use Rattle.text.specs.declared.Field.TheVariants.{Number, Bad}
 use Rattle.text.specs.declared.signed.Field.{Field as Signed}
-use Rattle.text.specs.declared.signed.Field.TheVariants.{Number as Signed-as-Number, Bad as Signed-as-Bad}
+use Rattle.text.specs.declared.signed.Field.TheVariants.{Number as Signed_as_Number, Bad as Signed_as_Bad}
 
 -- `0` to `9`
 abbrev pub is_digit : ℕ → Bool
@@ -51,16 +51,16 @@ largest_signed = 2_147_483_647
 
 -- what follows a signed number
 abbrev pub after_signed : {A : Type 0} → Signed → (ℤ → ℕ → A) → A → A
-after_signed (Signed-as-Number v n) f a = f v n
-after_signed Signed-as-Bad f a = a
+after_signed (Signed_as_Number v n) f a = f v n
+after_signed Signed_as_Bad f a = a
 
 -- a number with `-` before it or not, and no `-0`
 unfoldable pub signed_at : List ℕ → ℕ → Signed
 signed_at s at =
     after_mark (mark_at (bytes "-") s at)
-    (λ d. after_number (number_at s d largest_signed) (λ v n. cond (eqb v 0) Signed-as-Bad (Signed-as-Number (neg_ℤ (pos v)) n)) Signed-as-Bad)
-    (after_number (number_at s at largest_signed) (λ v n. Signed-as-Number (pos v) n) Signed-as-Bad)
+    (λ d. after_number (number_at s d largest_signed) (λ v n. cond (eqb v 0) Signed_as_Bad (Signed_as_Number (neg_ℤ (pos v)) n)) Signed_as_Bad)
+    (after_number (number_at s at largest_signed) (λ v n. Signed_as_Number (pos v) n) Signed_as_Bad)
 
 -- a signed number that follows a key
 unfoldable pub signed_field_at : List ℕ → List ℕ → ℕ → Signed
-signed_field_at key s at = after_mark (mark_at key s at) (λ n. signed_at s n) Signed-as-Bad
+signed_field_at key s at = after_mark (mark_at key s at) (λ n. signed_at s n) Signed_as_Bad

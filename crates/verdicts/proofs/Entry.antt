@@ -20,7 +20,7 @@ use Rattle.rows.specs.Cells.{cell}
 use Rattle.refusals.specs.First.{first}
 use Rattle.rules.specs.Refusals.{checks}
 use Rattle.refusals.proofs.First.{first_stays, first_here, first_behind, unless_none, unless_some}
-use Rattle.sampling.specs.Sampling.{checks as sampling-checks}
+use Rattle.sampling.specs.Sampling.{checks as sampling_checks}
 use Rattle.verdicts.specs.declared.Answer.TheVariants.{Judged, Refused}
 use Rattle.verdicts.specs.Cells.{strong, row_value, cells}
 use Rattle.verdicts.specs.Rows.{row_of, Ready}
@@ -30,15 +30,15 @@ use Rattle.verdicts.proofs.Rows.{row_value_of}
 module _ (c : Card) (t : Table) (step drift size : ℕ) where
   pub refused_early : (first (checks c t) ≡ 0 → ⊥) → verdict_refusal c t step drift size ≡ first (checks c t)
   unfolding verdict_refusal
-  refused_early h = first_stays (checks c t) (verdict_room c t size ∷ sampling-checks c step drift) h
+  refused_early h = first_stays (checks c t) (verdict_room c t size ∷ sampling_checks c step drift) h
 
   pub refused_room : first (checks c t) ≡ 0 → size < 2 * t.count * rows c → verdict_refusal c t step drift size ≡ 8
   unfolding verdict_refusal
-  refused_room e h = first_here (checks c t) (verdict_room c t size) (sampling-checks c step drift) tt e (lt-leb _ _ h)
+  refused_room e h = first_here (checks c t) (verdict_room c t size) (sampling_checks c step drift) tt e (lt-leb _ _ h)
 
-  pub refused_late : first (checks c t) ≡ 0 → 2 * t.count * rows c ≤ size → verdict_refusal c t step drift size ≡ first (sampling-checks c step drift)
+  pub refused_late : first (checks c t) ≡ 0 → 2 * t.count * rows c ≤ size → verdict_refusal c t step drift size ≡ first (sampling_checks c step drift)
   unfolding verdict_refusal
-  refused_late e h = first_behind (checks c t) (verdict_room c t size) (sampling-checks c step drift) tt e (le-leb _ _ h)
+  refused_late e h = first_behind (checks c t) (verdict_room c t size) (sampling_checks c step drift) tt e (le-leb _ _ h)
 
   -- ---- the answer: under a number other than 0 that number, and what was lent stays
   pub refused_outcome : (m : ℕ) → verdict_refusal c t step drift size ≡ m → (m ≡ 0 → ⊥) → verdict_outcome (Refused m) ≡ verdict_judged c t step drift size

@@ -24,8 +24,8 @@ use Rattle.refusals.specs.First.{AllExact, Refused}
 use Rattle.rules.specs.Refusals.{checks, Sound}
 use Rattle.refusals.proofs.First.{refused, first_is, parts_none, exact_append, unless_none, unless_some}
 use Rattle.rules.proofs.Refusals.{exact, sound, sound_passes}
-use Rattle.sampling.specs.Sampling.{checks as sampling-checks}
-use Rattle.sampling.proofs.Sampling.{accepted, accepted_passes, exact as sampling-exact}
+use Rattle.sampling.specs.Sampling.{checks as sampling_checks}
+use Rattle.sampling.proofs.Sampling.{accepted, accepted_passes, exact as sampling_exact}
 use Rattle.verdicts.specs.declared.Answer.TheVariants.{Refused as RefusedBy}
 use Rattle.verdicts.specs.Cells.{strong, row_value, cells}
 use Rattle.verdicts.specs.Rows.{row_of}
@@ -38,7 +38,7 @@ module _ (c : Card) (t : Table) (step drift size : ℕ) where
   pub number_none : (verdict_judged c t step drift size).number ≡ 0 → Sound c t × (2 * t.count * rows c ≤ size) × Accepted c step drift
   unfolding verdict_judged verdict_refusal
   number_none e =
-      let p = parts_none (checks c t) (verdict_room c t size) (sampling-checks c step drift) tt tt e in
+      let p = parts_none (checks c t) (verdict_room c t size) (sampling_checks c step drift) tt tt e in
       let s : Sound c t = sound c t p.0 in
       (s, leb→le (2 * t.count * rows c) size p.1, accepted c step drift s.recorded p.2)
 
@@ -74,7 +74,7 @@ module _ (c : Card) (t : Table) (step drift size : ℕ) where
 
   -- a number m is answered exactly when its condition applies and no earlier one does
   pub exact_checks : AllExact (verdict_checks c t step drift size)
-  exact_checks = exact_append (checks c t) (verdict_room c t size ∷ sampling-checks c step drift) (exact c t) (λ _. (record { sound = leb→le _ _; complete = le→leb _ _ }, λ _. sampling-exact c step drift))
+  exact_checks = exact_append (checks c t) (verdict_room c t size ∷ sampling_checks c step drift) (exact c t) (λ _. (record { sound = leb→le _ _; complete = le→leb _ _ }, λ _. sampling_exact c step drift))
 
   pub number_refused : ((verdict_judged c t step drift size).number ≡ 0 → ⊥) → Refused (verdict_checks c t step drift size) (verdict_judged c t step drift size).number
   unfolding verdict_judged verdict_refusal

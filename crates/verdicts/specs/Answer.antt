@@ -9,7 +9,7 @@ use Rattle.tables.specs.declared.Table.{Table}
 use Rattle.tables.specs.Tree.{root}
 use Rattle.refusals.specs.First.{Check, first, unless_refused}
 use Rattle.rules.specs.Refusals.{checks}
-use Rattle.sampling.specs.Sampling.{checks as sampling-checks}
+use Rattle.sampling.specs.Sampling.{checks as sampling_checks}
 use Rattle.verdicts.specs.declared.Answer.{Answer}
 use Rattle.verdicts.specs.declared.Answer.TheVariants.{Judged, Refused}
 use Rattle.verdicts.specs.Cells.{cells}
@@ -31,7 +31,7 @@ verdict_room c t size = record { number = 8; sentence = 2 * t.count * rows c ≤
 
 -- refusals 3 to 11, in the order in which they count
 abbrev pub verdict_checks : Card → Table → ℕ → ℕ → ℕ → List Check
-verdict_checks c t step drift size = checks c t ++ (verdict_room c t size ∷ sampling-checks c step drift)
+verdict_checks c t step drift size = checks c t ++ (verdict_room c t size ∷ sampling_checks c step drift)
 
 unfoldable pub verdict_refusal : Card → Table → ℕ → ℕ → ℕ → ℕ
 verdict_refusal c t step drift size = first (verdict_checks c t step drift size)

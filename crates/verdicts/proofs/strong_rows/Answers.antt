@@ -4,7 +4,7 @@ use mathlib.Core.Path.{refl, ◌∙◌}
 use Prim.Native.Nat.{◌-◌}
 use native.Mathlib.Omega.{arith}
 use Rattle.lists.proofs.Filled.{rows_next, rows_none, rows_to}
-use Rattle.verdicts.proofs.Rows.{same_length as kept-length, so_far}
+use Rattle.verdicts.proofs.Rows.{same_length as kept_length, so_far}
 use Rattle.verdicts.proofs.strong_rows.Goals as goal
 
 pub overflow_mul-end : goal.overflow_mul-end
@@ -33,7 +33,7 @@ loop-row-preserved c =
     (omega (arith, c.loop-row-test.true), c.strong_row.ensures c.args.table (record { filled = so_far _ c.requires _ c.loop-row.invariant.1 c.loop-row-test.true; node_is = refl }) ∙ rows_next _ _ _ _ c.loop-row.invariant.1)
 
 pub shape_of-work : goal.shape_of-work
-shape_of-work c = kept-length _ c.requires _ c.loop-row.invariant.1
+shape_of-work c = kept_length _ c.requires _ c.loop-row.invariant.1
 
 pub returns : goal.returns
 returns c = rows_to _ _ _ (omega (arith, c.loop-row.invariant.0, c.loop-row-test.false)) c.loop-row.invariant.1

@@ -12,7 +12,7 @@ use Rattle.recordings.specs.Verdict.{decide}
 use Rattle.refusals.specs.First.{first}
 use Rattle.rules.specs.Refusals.{checks, Sound}
 use Rattle.rules.proofs.Refusals.{sound}
-use Rattle.sampling.specs.Sampling.{checks as sampling-checks}
+use Rattle.sampling.specs.Sampling.{checks as sampling_checks}
 use Rattle.sampling.proofs.Sampling.{accepted}
 use Rattle.verdicts.specs.Cells.{strong}
 use Rattle.verdicts.specs.Rows.{Ready}
@@ -30,7 +30,7 @@ sound_at : (c : Else-early-ne0) → Sound (card c.args.setup c.args.times.now c.
 sound_at c = sound (card c.args.setup c.args.times.now c.args.values.now) c.args.table (early_zero c)
 
 -- past the third refusals 9 to 11 do not either
-late_zero : (c : Else-late-ne0) → first (sampling-checks (card c.args.setup c.args.times.now c.args.values.now) c.args.step c.args.drift) ≡ 0
+late_zero : (c : Else-late-ne0) → first (sampling_checks (card c.args.setup c.args.times.now c.args.values.now) c.args.step c.args.drift) ≡ 0
 late_zero c = sym c.refusal-late.ensures ∙ c.if-late-ne0.false
 
 small_at : (c : Else-late-ne0) → (c.args.step ≤ LONGEST_STEP) × (c.args.drift ≤ LARGEST_DRIFT)
