@@ -4,7 +4,6 @@ use Rattle.std.proofs.Common.{◌≡◌, ◌<◌, List, ℕ, length, take, arith
 use native.Mathlib.Decide.{dec_lt}
 use Rattle.row_lines.specs.Reading.{limit}
 use Rattle.sheets.specs.declared.Sheet.{Sheet}
-use Rattle.sheets.specs.Form.{blank}
 use Rattle.sheets.proofs.Chain.{sheet_long}
 use Rattle.refusals.specs.First.{unless_refused}
 use Rattle.answers.specs.Answers.{answers_of, all_answered, none_answered}
