@@ -8,7 +8,7 @@ ghost use Rattle.recordings.specs.Accepted.{LATEST, Values};
 ghost use Rattle.arrivals.specs.Arrivals.{no_rows, making_checks, row_checks};
 ghost use Rattle.arrivals.specs.Fits.{next_time, in_time};
 
-use recordings::{LATEST, Setup};
+use recordings::Setup;
 use tables::Table;
 
 // The first of refusals 3, 4, 13 and 16 that applies, 0 where none does.
@@ -30,7 +30,7 @@ pub fn making_refusal(table: Table, setup: Setup) -> u64
 fn in_time(next: u64, time: u64) -> bool
     ensures { result ≡ in_time next time }
 {
-    (next <= time) & (time <= LATEST)
+    (next <= time) & (time <= recordings::LATEST)
 }
 
 // The first of refusals 5 to 7 that applies to a row, 0 where none does. Of the rows before it, it is asked when the next one may come.

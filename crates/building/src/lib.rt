@@ -5,7 +5,7 @@ ghost use Rattle.std.specs.Prelude.{◌≡◌, ◌+◌, ◌≤◌, ◌<◌, leng
 ghost use Rattle.grammar.specs.Reading.{leaf_at};
 ghost use Rattle.tables.specs.Tree.{NODES, no_span};
 ghost use Rattle.building.specs.Nodes.{node, empty_table};
-ghost use Rattle.building.specs.Storing.{cells_of, step_of, leaf_cells, pushed_step, pushed_cells, parent_step, wrap_cells, join_cells, closed_step, WIDTH, CELLS, node_read, node_from, table_from};
+ghost use Rattle.building.specs.Storing.{cells_of, step_of, leaf_cells, pushed_step, pushed_cells, parent_step, wrap_cells, join_cells, closed_step, WIDTH as NODE_WIDTH, CELLS as TABLE_CELLS, node_read, node_from, table_from};
 
 use tables::{Node, Span, Table};
 use text::{Field, Mark};
@@ -141,7 +141,7 @@ pub fn empty_table() -> Table
 
 // The node whose numbers stand from a place on.
 pub fn read_node(numbers: &[u64], at: usize) -> Node
-    requires { at + WIDTH ≤ length numbers.now }
+    requires { at + NODE_WIDTH ≤ length numbers.now }
     ensures { result ≡ node_read numbers.now at }
 {
     Node {
@@ -179,7 +179,7 @@ pub fn cells_of(nodes: [Node; tables::NODES]) -> [u64; CELLS]
 
 // The table of the first `count` nodes; the empty one where there cannot be so many.
 pub fn table_from(cells: &[u64], count: usize) -> Table
-    requires { CELLS ≤ length cells.now }
+    requires { TABLE_CELLS ≤ length cells.now }
     ensures { result ≡ table_from cells.now count }
 {
     if tables::NODES < count {

@@ -1,4 +1,4 @@
--- A table from flat numbers: those of a node stand one after the other, those of the next one after them. Its numbers in turn are `Cells-of` its nodes, in `building`.
+-- A table from flat numbers: those of a node stand one after the other, those of the next one after them. Its numbers in turn are `cells_of` its nodes, in `building`.
 -- Assumes nothing.
 use Rattle.std.specs.Prelude.{List, ℕ}
 use Rattle.tables.specs.declared.Table.{Table}

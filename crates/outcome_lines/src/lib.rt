@@ -5,7 +5,7 @@ ghost use Rattle.std.specs.Prelude.{◌≡◌, ◌++◌, ◌≤◌, ◌<◌, len
 ghost use Rattle.printing.specs.Decimal.{decimal, decimal_signed};
 ghost use Rattle.printing.specs.Output.{output, printed};
 ghost use Rattle.outcomes.specs.Arrangement.{arrangement};
-ghost use Rattle.outcome_lines.specs.Printed.{LINE, NUMBERED, LINES, word_of, figures_line, refusal_line, line_of, numbered_line, lines_in, entry_lines, lines_of};
+ghost use Rattle.outcome_lines.specs.Printed.{LINE, NUMBERED, LINES as ALL_LINES, word_of, figures_line, refusal_line, line_of, numbered_line, lines_in, entry_lines, lines_of};
 
 use outcomes::{Outcome, Outcomes};
 use recordings::Verdict;
@@ -104,7 +104,7 @@ fn numbered_line(out: &mut [u8], at: usize, k: usize, outcome: Outcome) -> usize
 // The numbered lines of the first `count` outcomes, in the order in which they come.
 fn numbered_lines(out: &mut [u8], at: usize, entries: [Outcome; 16], count: usize) -> usize
     ensures result_value { output out.new result ≡ printed (output out.old at) (lines_in (take count entries) (arrangement (take count entries))) }
-    ensures room { length (lines_in (take count entries) (arrangement (take count entries))) ≤ LINES }
+    ensures room { length (lines_in (take count entries) (arrangement (take count entries))) ≤ ALL_LINES }
 {
     let order = outcomes::arrange(entries, count);
     let mut next = at;
@@ -121,7 +121,7 @@ fn numbered_lines(out: &mut [u8], at: usize, entries: [Outcome; 16], count: usiz
 // Lines have their requirements' numbers, except a single one.
 fn entry_lines(out: &mut [u8], at: usize, entries: [Outcome; 16], count: usize) -> usize
     ensures result_value { output out.new result ≡ printed (output out.old at) (entry_lines (take count entries)) }
-    ensures room { length (entry_lines (take count entries)) ≤ LINES }
+    ensures room { length (entry_lines (take count entries)) ≤ ALL_LINES }
 {
     if count != 1 {
         return numbered_lines(out, at, entries, count);
@@ -133,7 +133,7 @@ fn entry_lines(out: &mut [u8], at: usize, entries: [Outcome; 16], count: usize) 
 // All that is printed for a text. With LINES places it is whole.
 pub fn lines(out: &mut [u8], at: usize, all: Outcomes) -> usize
     ensures result_value { output out.new result ≡ printed (output out.old at) (lines_of all) }
-    ensures room { length (lines_of all) ≤ LINES }
+    ensures room { length (lines_of all) ≤ ALL_LINES }
 {
     let number = all.number;
     if number != 0 {

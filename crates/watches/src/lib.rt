@@ -22,7 +22,7 @@ ghost use Rattle.watches.specs.Run.{lent, Watching, Took, Told};
 use margins::Answer;
 use recordings::{Predicate, Scales, Setup};
 use tables::{Node, Table};
-use watch_cells::{HELD_AT, NODES_AT, RANGES_AT, SCALES_AT};
+use watch_cells::{NODES_AT, RANGES_AT, SCALES_AT};
 
 // The numbers in front: what the making was refused by, the count of nodes, the first time, the least time that the next row may have, 0 before the first,
 // and the count of channels.
@@ -132,7 +132,7 @@ fn clear_nodes(cells: &mut [i64])
     requires { CELLS ≤ length cells.old }
     ensures { cells.new ≡ fill HELD_AT (3 * NODES) (λ i. pos 0) cells.old }
 {
-    let from = HELD_AT;
+    let from = watch_cells::HELD_AT;
     rows::fill_same(3 * tables::NODES, 0, &mut cells[from..]);
 }
 
@@ -294,7 +294,7 @@ pub fn take(numbers: &mut [u64], cells: &mut [i64], time: u64, values: &[i64]) -
 fn root_cell(count: u64) -> usize
     ensures { (result < CELLS) × (1 ≤ count → count ≤ NODES → result ≡ HELD_AT + NODES + (count - 1)) }
 {
-    HELD_AT + tables::NODES + (count as usize % tables::NODES + 63) % tables::NODES
+    watch_cells::HELD_AT + tables::NODES + (count as usize % tables::NODES + 63) % tables::NODES
 }
 
 // The root's margin at sample 0.
