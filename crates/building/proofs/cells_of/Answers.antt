@@ -1,7 +1,7 @@
 -- The front of the array is the numbers of the first k nodes.
 -- Assumes nothing.
 use mathlib.Core.Path.{refl}
-use Rattle.building.proofs.Laid.{laid_start, laid_next, laid_over}
+use Rattle.building.proofs.Laid.{laid_start, laid_next}
 use borrow.Author.Rules.{rules}
 use Rattle.building.proofs.cells_of.Goals as goal
 
@@ -10,6 +10,3 @@ loop-k-init c = laid_start _ (search rules) _ refl
 
 pub loop-k-preserved : goal.loop-k-preserved
 loop-k-preserved c = laid_next _ (search rules) _ _ _ _ c.loop-k.invariant c.loop-k-test.true c.push.ensures.cells
-
-pub returns : goal.returns
-returns c = laid_over _ (search rules) _ _ c.loop-k.invariant c.loop-k-test.false

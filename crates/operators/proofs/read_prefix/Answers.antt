@@ -4,8 +4,5 @@ use mathlib.Core.Path.{sym, ◌∙◌}
 use Rattle.operators.proofs.Pieces.{two_kinds}
 use Rattle.operators.proofs.read_prefix.Goals as goal
 
-pub returns-in-Next : goal.returns-in-Next
-returns-in-Next c = rw (sym c.read_letter.ensures ∙ c.in-Next.is, c.no_span.ensures)
-
 pub returns : goal.returns
 returns c = rw (sym c.read_letter.ensures ∙ c.in_default.is) ((rw (c.read_timed.ensures, c.read_timed-2.ensures) at c.or_else.ensures) ∙ two_kinds _ _ _ _)

@@ -1,6 +1,0 @@
--- `building::join` meets its contract: each branch of the code is a case of the definition.
--- Assumes nothing.
-use Rattle.building.proofs.join.Goals as goal
-
-pub returns : goal.returns
-returns c = rw c.in-Read.is c.push.ensures
