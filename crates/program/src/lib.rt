@@ -2,7 +2,7 @@
 // up to a number that no run reaches.
 #![tactic(auto)]
 
-ghost use Rattle.std.specs.Prelude.{◌≤◌, length, OnOk, IfOk, IfSome};
+ghost use Rattle.std.specs.Prelude.{length, OnOk, IfSome};
 ghost use Rattle.std.specs.Io.KnownBytes.{Appends};
 ghost use Rattle.answers.specs.Answers.{answers_of};
 ghost use Rattle.outcome_lines.specs.Printed.{lines_of};
