@@ -11,6 +11,9 @@ ghost use Rattle.program.specs.Input.{Within, Reads, AppendsFront};
 use std::io;
 use std::io::{ErrorKind, Read, Write};
 
+// One byte more than a text may have, which shows that it is too long.
+const ROOM: usize = row_lines::LIMIT + 1;
+
 // Reads until the text is full or the reader ends, and gives the count of bytes.
 fn read_text<R: Read>(reader: &mut R, text: &mut [u8]) -> io::Result<usize>
     ensures within { Within result (length text.new) }
@@ -51,14 +54,14 @@ fn write_lines<W: Write>(writer: &mut W, lines: &[u8]) -> io::Result<()>
     Err(io::Error::from(ErrorKind::Interrupted))
 }
 
-// The answers to the text that a reader gives; nothing where it cannot be read. A buffer of 65,537 bytes is enough: one byte more than a text may have shows that it is too long.
+// The answers to the text that a reader gives; nothing where it cannot be read.
 pub fn answer_from<R: Read, W: Write>(reader: &mut R, writer: &mut W) -> io::Result<()>
     ensures whole { OnOk result (IfSome (R.remaining reader.old)
         (λ xs. Appends (W.contents writer.old) (W.contents writer.new) (lines_of (answers_of xs)))) }
     ensures front { IfSome (R.remaining reader.old)
         (λ xs. AppendsFront (W.contents writer.old) (W.contents writer.new) (lines_of (answers_of xs))) }
 {
-    let mut text = [0u8; 65537];
+    let mut text = [0u8; ROOM];
     let count = read_text(reader, &mut text)?;
     let mut lines = [0u8; outcome_lines::LINES];
     let len = answers::answer_lines(&text[..count], &mut lines);
