@@ -18,8 +18,8 @@ pub enum Operator {
     Bad,
 }
 
-// The parts of the grammar, each made of those after it; a parenthesis makes a unary of an alternative.
-#[derive(Clone, Copy)]
+// The parts of the grammar, each made of those after it, and ordered so; a parenthesis makes a unary of an alternative.
+#[derive(Clone, Copy, PartialEq, Eq, PartialOrd, Ord)]
 pub enum Part {
     Alternative,
     Conjunction,
