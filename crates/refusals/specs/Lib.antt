@@ -1,2 +1,3 @@
--- A refusal is the first of a list of conditions that does not hold (`First`).
+-- A refusal is the first of a list of conditions that does not hold (`First`); the papers' number of each (`Number`).
 pub mod First
+pub mod Number
