@@ -1,6 +1,6 @@
--- Bytes printed into a lent slice, from a place on.
+-- Bytes printed into a slice, from a place on.
 -- Assumes nothing.
-use Rattle.std.specs.Prelude.{cond, List, [], ◌∷◌, ℕ, ◌+◌, ltb, length, set}
+use Rattle.std.specs.Prelude.{cond, List, [], ◌∷◌, ℕ, ◌+◌, ltb, length, set, replicate}
 
 -- what a slice holds, and the place behind the last byte that was printed
 pub record Output : Type 0 where
@@ -9,6 +9,10 @@ pub record Output : Type 0 where
 
 abbrev pub output : List ℕ → ℕ → Output
 output slice end = record { bytes = slice; end = end }
+
+-- n places, and nothing printed in them
+abbrev pub blank : ℕ → Output
+blank n = output (replicate n 0) 0
 
 -- one byte more, where there is a place for it
 abbrev pub one_more : Output → ℕ → Output

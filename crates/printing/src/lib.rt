@@ -1,61 +1,86 @@
-// Prints words and numbers into a lent slice from a place on, and answers the place behind them. A byte that the slice has no place for is left out.
+// Words and numbers, printed one behind the other into a buffer of a fixed length. A byte that has no place is left out.
 #![tactic(auto)]
 
-ghost use Rattle.std.specs.Prelude.{◌≡◌, [], ◌∷◌};
+ghost use Rattle.std.specs.Prelude.{◌≡◌, [], ◌∷◌, take};
 ghost use Rattle.lists.specs.Front.{written};
-ghost use Rattle.printing.specs.Decimal.{digit_of, decimal, decimal_signed};
-ghost use Rattle.printing.specs.Output.{output, printed};
+ghost use Rattle.printing.specs.Decimal.{decimal, decimal_signed};
+ghost use Rattle.printing.specs.Output.{blank, printed};
 
-fn byte(out: &mut [u8], at: usize, b: u8) -> usize
-    ensures { output out.new result ≡ printed (output out.old at) (b ∷ []) }
-{
-    if out.len() <= at {
-        return at;
+use std::marker::Model;
+
+// What is printed: the bytes in front of `end`.
+#[derive(Drop)]
+pub struct Output<const N: usize> {
+    bytes: [u8; N],
+    end: usize,
+}
+
+// Clauses see the record of specs/Output.
+impl<const N: usize> Model for Output<N> {
+    ghost use Rattle.std.specs.Prelude.{◌≤◌};
+    ghost use Rattle.printing.specs.Output.{Output as Printed};
+
+    ghost Value = { Printed };
+
+    ghost view = { λ o. record { bytes = o.bytes; end = o.end } };
+
+    ghost invariant = { λ o. o.end ≤ N };
+}
+
+impl<const N: usize> Output<N> {
+    // Nothing is printed yet.
+    pub fn new() -> Self
+        ensures { result ≡ blank N }
+    {
+        Output {
+            bytes: [0; N],
+            end: 0,
+        }
     }
-    out[at] = b;
-    at + 1
-}
 
-// A fixed word.
-pub fn word(out: &mut [u8], at: usize, word: &[u8]) -> usize
-    ensures { output out.new result ≡ printed (output out.old at) word.now }
-{
-    let mut next = at;
-    let mut i = 0;
-    while i < word.len() {
-        next = byte(out, next, word[i]);
-        i += 1;
+    // The bytes that were printed.
+    pub fn as_slice(&self) -> &[u8]
+        ensures { result.now ≡ take self.now.end self.now.bytes }
+    {
+        &self.bytes[..self.end]
     }
-    next
-}
 
-fn digit(n: u64) -> u8
-    ensures { result ≡ digit_of n }
-{
-    (48 + n % 10) as u8
-}
-
-// A number in decimal digits.
-pub fn number(out: &mut [u8], at: usize, n: u64) -> usize
-    ensures { output out.new result ≡ printed (output out.old at) (decimal n) }
-{
-    if n < 10 {
-        return byte(out, at, digit(n));
+    fn byte(&mut self, b: u8)
+        ensures { self.new ≡ printed self.old (b ∷ []) }
+    {
+        if self.end < N {
+            self.bytes[self.end] = b;
+            self.end += 1;
+        }
     }
-    let last = number(out, at, n / 10);
-    byte(out, last, digit(n))
-}
 
-// A number with its sign, where it is negative.
-pub fn signed(out: &mut [u8], at: usize, v: i64) -> usize
-    ensures { output out.new result ≡ printed (output out.old at) (decimal_signed v) }
-{
-    let size = numbers::magnitude(v);
-    if v < 0 {
-        let digits = word(out, at, b"-");
-        number(out, digits, size)
-    } else {
-        number(out, at, size)
+    // A fixed word.
+    pub fn word(&mut self, word: &[u8])
+        ensures { self.new ≡ printed self.old word.now }
+    {
+        for b in word.iter() {
+            self.byte(*b);
+        }
+    }
+
+    // A number in decimal digits.
+    pub fn number(&mut self, n: u64)
+        ensures { self.new ≡ printed self.old (decimal n) }
+    {
+        if 10 <= n {
+            self.number(n / 10);
+        }
+        self.byte(b'0' + (n % 10) as u8);
+    }
+
+    // A number with its sign, where it is negative.
+    pub fn signed(&mut self, v: i64)
+        ensures { self.new ≡ printed self.old (decimal_signed v) }
+    {
+        if v < 0 {
+            self.word(b"-");
+        }
+        self.number(v.unsigned_abs());
     }
 }
 
