@@ -9,10 +9,9 @@ use lib.ListN.{length, get_or, drop}
 use lib.Seq.{drop-drop}
 use lib.Dec.{leb, eqb}
 use borrow.Author.Tests.{le-leb}
-use Rattle.text.specs.Mark.{prefix_of, key_at, mark_at, after_mark}
+use Rattle.text.specs.Mark.{prefix_of, key_at, mark_at, after}
 use Rattle.text.specs.Number.{is_digit, number_at, field_at, after_number}
-use Rattle.text.specs.declared.Mark.{Mark}
-use Rattle.text.specs.declared.Mark.TheVariants.{Next, Bad as Mark_as_Bad}
+use Rattle.std.specs.Prelude.{Option, Some, None}
 use Rattle.text.specs.declared.Field.{Field}
 use Rattle.text.specs.declared.Field.TheVariants.{Number, Bad}
 use Rattle.text.proofs.Tests.{both, never}
@@ -22,11 +21,11 @@ use Rattle.text.proofs.Marks.{key_inside, prefix_split, prefix_append}
 use Rattle.text.proofs.Numerals.{Numbered, number_is, number_made}
 
 -- a mark that was read: its bytes stand there
-pub mark_is : (key s : List ℕ) (at n : ℕ) → mark_at key s at ≡ Next n → Between s at n key
+pub mark_is : (key s : List ℕ) (at n : ℕ) → mark_at key s at ≡ Some n → Between s at n key
 unfolding mark_at
 mark_is key s at n h = go (key_at key s at) refl h
   where
-    go : (t : Bool) → key_at key s at ≡ t → cond t (Next (at + length key)) Mark_as_Bad ≡ Next n → Between s at n key
+    go : (t : Bool) → key_at key s at ≡ t → cond t (Some (at + length key)) None ≡ Some n → Between s at n key
     go true e g =
         let z : at + length key ≡ n = cc in
         let p = both (leb at (length s)) (prefix_of key (drop at s)) e in
@@ -38,14 +37,14 @@ mark_is key s at n h = go (key_at key s at) refl h
     go false e g = let z : ◌≡◌ {A = ℕ} 0 1 = cc in absurd (omega arith)
 
 -- a key that stands at a place is read
-pub mark_made : (key s r : List ℕ) (at : ℕ) → 0 < length key → drop at s ≡ key ++ r → mark_at key s at ≡ Next (at + length key)
+pub mark_made : (key s r : List ℕ) (at : ℕ) → 0 < length key → drop at s ≡ key ++ r → mark_at key s at ≡ Some (at + length key)
 unfolding mark_at
 mark_made key s r at p e =
     let l = place_inside s at key r e p in
     rw (le-leb at (length s) (omega arith), e, prefix_append key r)
 
 -- where other bytes stand it is not
-pub mark_missing : (key s : List ℕ) (at : ℕ) {l : List ℕ} → drop at s ≡ l → prefix_of key l ≡ false → mark_at key s at ≡ Mark_as_Bad
+pub mark_missing : (key s : List ℕ) (at : ℕ) {l : List ℕ} → drop at s ≡ l → prefix_of key l ≡ false → mark_at key s at ≡ None
 unfolding mark_at
 mark_missing key s at e h = rw (e, h, never (leb at (length s)))
 
@@ -55,17 +54,17 @@ pub field_is : (key s : List ℕ) (at max v n : ℕ) → field_at key s at max �
 unfolding field_at
 field_is key s at max v n h = go (mark_at key s at) refl h
   where
-    go : (m : Mark) → mark_at key s at ≡ m → after_mark m (λ k. number_at s k max) Bad ≡ Number v n → (m : ℕ) × Between s at m key × Numbered s m max v n
-    go (Next m) e g = (m, mark_is key s at m e, number_is s m max v n g)
-    go Mark_as_Bad e g = let z : ◌≡◌ {A = ℕ} 0 1 = cc in absurd (omega arith)
+    go : (m : Option ℕ) → mark_at key s at ≡ m → after m (λ k. number_at s k max) Bad ≡ Number v n → (m : ℕ) × Between s at m key × Numbered s m max v n
+    go (Some m) e g = (m, mark_is key s at m e, number_is s m max v n g)
+    go None e g = let z : ◌≡◌ {A = ℕ} 0 1 = cc in absurd (omega arith)
 
 -- an answer y that is not the one of a missing mark, or number, comes from what follows it
 module _ {A : Type 0} (bad y : A) (ne : bad ≡ y → ⊥) where
-  pub past_mark : (m : Mark) (f : ℕ → A) → after_mark m f bad ≡ y → (k : ℕ) × (m ≡ Next k) × (f k ≡ y)
-  past_mark (Next k) f h = (k, refl, h)
-  past_mark Mark_as_Bad f h = absurd (ne h)
+  pub past : {B : Type 0} (o : Option B) (f : B → A) → after o f bad ≡ y → (x : B) × (o ≡ Some x) × (f x ≡ y)
+  past (Some x) f h = (x, refl, h)
+  past None f h = absurd (ne h)
 
-  pub past_number : (x : Field) (f : ℕ → ℕ → A) → after_number x f bad ≡ y → (v : ℕ) × (k : ℕ) × (x ≡ Number v k) × (f v k ≡ y)
+  pub past_number : {V : Type 0} (x : Field V) (f : V → ℕ → A) → after_number x f bad ≡ y → (v : V) × (k : ℕ) × (x ≡ Number v k) × (f v k ≡ y)
   past_number (Number v k) f h = (v, k, refl, h)
   past_number Bad f h = absurd (ne h)
 
@@ -77,7 +76,7 @@ field_made key s at max v w r p e n l m f =
     rw (mark_made key s (w ++ r) at p e) (number_made s (at + length key) max v w r (after_bytes s at key (w ++ r) e) n l m f)
 
 -- where another byte stands, or none, a key that begins with c is missing
-pub mark_first : (c : ℕ) (ks s : List ℕ) (at : ℕ) (l : List ℕ) → drop at s ≡ l → eqb (get_or l 0 0) c ≡ false → mark_at (c ∷ ks) s at ≡ Mark_as_Bad
+pub mark_first : (c : ℕ) (ks s : List ℕ) (at : ℕ) (l : List ℕ) → drop at s ≡ l → eqb (get_or l 0 0) c ≡ false → mark_at (c ∷ ks) s at ≡ None
 unfolding prefix_of
 mark_first c ks s at [] e h = mark_missing (c ∷ ks) s at e refl
 mark_first c ks s at (b ∷ l) e h = mark_missing (c ∷ ks) s at e (rw h)

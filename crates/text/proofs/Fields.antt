@@ -10,15 +10,12 @@ use lib.IntN.{ℤ}
 use lib.Dec.{eqb}
 use borrow.Author.Tests.{ne_eqb, eqb-false}
 use Rattle.text.specs.Bytes.{bytes}
-use Rattle.text.specs.Mark.{mark_at, after_mark}
-use Rattle.text.specs.Number.{is_digit, largest_signed, number_at, field_at, signed_at, signed_field_at, after_number, after_signed}
+use Rattle.text.specs.Mark.{mark_at, after}
+use Rattle.text.specs.Number.{is_digit, largest_signed, number_at, field_at, signed_at, signed_field_at, after_number}
 use Rattle.text.specs.Numeral.{Numeral, Signed, plain, minus}
-use Rattle.text.specs.declared.Mark.{Mark}
-use Rattle.text.specs.declared.Mark.TheVariants.{Next, Bad as Mark_as_Bad}
+use Rattle.std.specs.Prelude.{Option, Some, None}
 use Rattle.text.specs.declared.Field.{Field}
 use Rattle.text.specs.declared.Field.TheVariants.{Number, Bad}
-use Rattle.text.specs.declared.signed.Field.{Field as SignedField}
-use Rattle.text.specs.declared.signed.Field.TheVariants.{Number as Signed_as_Number, Bad as Signed_as_Bad}
 use Rattle.text.proofs.Tests.{false_true, test_case, above_zero}
 use Rattle.text.proofs.Places.{Between, between_both, after_bytes}
 use Rattle.text.proofs.Numerals.{number_is, number_made, numeral_begins}
@@ -26,27 +23,23 @@ use Rattle.text.proofs.Answers.{mark_is, mark_made, mark_first, field_made}
 
 -- ---- what holds of an answer, by its cases
 module _ {A : Type 0} (P : A → Type 0) where
-  pub mark_case : (x : Mark) (f : ℕ → A) (a : A) → ((n : ℕ) → x ≡ Next n → P (f n)) → (x ≡ Mark_as_Bad → P a) → P (after_mark x f a)
-  mark_case (Next n) f a h k = h n refl
-  mark_case Mark_as_Bad f a h k = k refl
+  pub after_case : {B : Type 0} (x : Option B) (f : B → A) (a : A) → ((y : B) → x ≡ Some y → P (f y)) → (x ≡ None → P a) → P (after x f a)
+  after_case (Some y) f a h k = h y refl
+  after_case None f a h k = k refl
 
-  pub number_case : (x : Field) (f : ℕ → ℕ → A) (a : A) → ((v n : ℕ) → x ≡ Number v n → P (f v n)) → (x ≡ Bad → P a) → P (after_number x f a)
+  pub number_case : {V : Type 0} (x : Field V) (f : V → ℕ → A) (a : A) → ((v : V) (n : ℕ) → x ≡ Number v n → P (f v n)) → (x ≡ Bad → P a) → P (after_number x f a)
   number_case (Number v n) f a h k = h v n refl
   number_case Bad f a h k = k refl
 
-  pub signed_case : (x : SignedField) (f : ℤ → ℕ → A) (a : A) → ((v : ℤ) (n : ℕ) → x ≡ Signed_as_Number v n → P (f v n)) → (x ≡ Signed_as_Bad → P a) → P (after_signed x f a)
-  signed_case (Signed_as_Number v n) f a h k = h v n refl
-  signed_case Signed_as_Bad f a h k = k refl
-
 -- ---- a signed number that is read stands there
-abbrev SignedHere : List ℕ → ℕ → SignedField → Type 0
-SignedHere s at (Signed_as_Number v n) = (w : List ℕ) × Between s at n w × Signed w v
-SignedHere s at Signed_as_Bad = Unit
+abbrev SignedHere : List ℕ → ℕ → Field ℤ → Type 0
+SignedHere s at (Number v n) = (w : List ℕ) × Between s at n w × Signed w v
+SignedHere s at Bad = Unit
 
 signed_here : (s : List ℕ) (at : ℕ) → SignedHere s at (signed_at s at)
 unfolding signed_at
 signed_here s at =
-    mark_case (SignedHere s at) (mark_at (bytes "-") s at) _ _
+    after_case (SignedHere s at) (mark_at (bytes "-") s at) _ _
     (λ d e. number_case (SignedHere s at) (number_at s d largest_signed) _ _
     (λ v n f. test_case (SignedHere s at) (eqb v 0) _ _ (λ z. tt)
     (λ z. let a = number_is s d largest_signed v n f in
@@ -56,21 +49,21 @@ signed_here s at =
     (λ v n f. let a = number_is s at largest_signed v n f in (a.word, a.between, plain a.numeral a.bound))
     (λ f. tt))
 
-pub signed_bytes : (s : List ℕ) (at : ℕ) (v : ℤ) (n : ℕ) → signed_at s at ≡ Signed_as_Number v n → (w : List ℕ) × Between s at n w × Signed w v
+pub signed_bytes : (s : List ℕ) (at : ℕ) (v : ℤ) (n : ℕ) → signed_at s at ≡ Number v n → (w : List ℕ) × Between s at n w × Signed w v
 signed_bytes s at v n h = rw h at (signed_here s at)
 
-pub signed_field_bytes : (key s : List ℕ) (at : ℕ) (v : ℤ) (n : ℕ) → signed_field_at key s at ≡ Signed_as_Number v n
+pub signed_field_bytes : (key s : List ℕ) (at : ℕ) (v : ℤ) (n : ℕ) → signed_field_at key s at ≡ Number v n
     → (w : List ℕ) × Between s at n (key ++ w) × Signed w v
 unfolding signed_field_at
 signed_field_bytes key s at v n h = go (mark_at key s at) refl h
   where
-    go : (m : Mark) → mark_at key s at ≡ m → after_mark m (λ k. signed_at s k) Signed_as_Bad ≡ Signed_as_Number v n → (w : List ℕ) × Between s at n (key ++ w) × Signed w v
-    go (Next m) e g = let b = signed_bytes s m v n g in (b.0, between_both (mark_is key s at m e) b.1, b.2)
-    go Mark_as_Bad e g = let z : ◌≡◌ {A = ℕ} 0 1 = cc in absurd (omega arith)
+    go : (m : Option ℕ) → mark_at key s at ≡ m → after m (λ k. signed_at s k) Bad ≡ Number v n → (w : List ℕ) × Between s at n (key ++ w) × Signed w v
+    go (Some m) e g = let b = signed_bytes s m v n g in (b.0, between_both (mark_is key s at m e) b.1, b.2)
+    go None e g = let z : ◌≡◌ {A = ℕ} 0 1 = cc in absurd (omega arith)
 
 -- ---- what stands at a place is read, and the rest follows it
 module _ (s : List ℕ) (at : ℕ) (r : List ℕ) where
-  pub mark_taken : (key : List ℕ) → 0 < length key → drop at s ≡ key ++ r → (n : ℕ) × (mark_at key s at ≡ Next n) × (drop n s ≡ r)
+  pub mark_taken : (key : List ℕ) → 0 < length key → drop at s ≡ key ++ r → (n : ℕ) × (mark_at key s at ≡ Some n) × (drop n s ≡ r)
   mark_taken key p e = (at + length key, mark_made key s r at p e, after_bytes s at key r e)
 
   module _ (stop : is_digit (get_or r 0 0) ≡ false) where
@@ -96,7 +89,7 @@ signed_first c n d r (plain m l) = numeral_first c n r m
 signed_first c n d r (minus m p l) = d
 
 pub signed_taken : (s : List ℕ) (at : ℕ) (r : List ℕ) → is_digit (get_or r 0 0) ≡ false → {w : List ℕ} {v : ℤ} → drop at s ≡ w ++ r → Signed w v
-    → (n : ℕ) × (signed_at s at ≡ Signed_as_Number v n) × (drop n s ≡ r)
+    → (n : ℕ) × (signed_at s at ≡ Number v n) × (drop n s ≡ r)
 unfolding signed_at
 signed_taken s at r stop e (plain {w} {v} m l) =
     let n = number_taken s at r stop largest_signed e m l (omega arith) in
@@ -108,7 +101,7 @@ signed_taken s at r stop e (minus {w} {v} m p l) =
 
 pub signed_field_taken : (s : List ℕ) (at : ℕ) (r : List ℕ) → is_digit (get_or r 0 0) ≡ false → (key : List ℕ) → 0 < length key
     → {w : List ℕ} {v : ℤ} → drop at s ≡ key ++ (w ++ r) → Signed w v
-    → (n : ℕ) × (signed_field_at key s at ≡ Signed_as_Number v n) × (drop n s ≡ r)
+    → (n : ℕ) × (signed_field_at key s at ≡ Number v n) × (drop n s ≡ r)
 unfolding signed_field_at
 signed_field_taken s at r stop key p {w} {v} e m =
     let k = mark_taken s at (w ++ r) key p e in

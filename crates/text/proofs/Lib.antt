@@ -2,7 +2,6 @@ pub mod Tests
 pub mod Places
 pub mod Digits
 pub mod Marks
-pub mod Signs
 pub mod Answers
 pub mod Numerals
 pub mod Fields

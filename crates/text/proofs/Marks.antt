@@ -1,34 +1,23 @@
--- Comparing a key byte by byte: what is left of both after i equal bytes decides.
+-- A key at a place of a text: what it means that the text begins with it there.
 -- Assumes nothing.
-use mathlib.Core.Path.{◌≡◌, refl, ap, ◌∙◌}
+use mathlib.Core.Path.{◌≡◌, refl, sym, ap, ◌∙◌}
 use mathlib.Core.List.{List, [], ◌∷◌, ◌++◌}
-use mathlib.Core.Bool.{true, false}
-use Prim.Native.Nat.{ℕ, ◌+◌, ◌-◌, ◌≤◌, ◌<◌}
-use native.Mathlib.Numerals.{add-one}
+use mathlib.Core.Bool.{true}
+use Prim.Native.Nat.{ℕ, ◌+◌, ◌-◌, ◌≤◌}
 use native.Mathlib.Omega.{arith}
-use lib.ListN.{length, get_or, drop, drop_of_length-le, length-drop, length-append}
-use lib.Seq.{drop-cons}
+use Rattle.std.specs.List.{starts_with}
+use lib.ListN.{length, drop, length-drop, length-append}
 use lib.Dec.{leb, eqb}
-use borrow.Author.Tests.{eq-eqb, ne_eqb, eqb-true, leb-true}
+use borrow.Author.Tests.{eq-eqb, ne_eqb, eqb-true, eqb-false, leb-true}
 use Rattle.text.specs.Mark.{prefix_of, key_at}
-use Rattle.text.proofs.Tests.{both, false_true}
+use Rattle.text.proofs.Tests.{both, by_test, false_true}
 
-module _ (key s : List ℕ) (i : ℕ) (k : i < length key) where
-  pub prefix_step : i < length s → get_or s i 0 ≡ get_or key i 0 → prefix_of (drop (i + 1) key) (drop (i + 1) s) ≡ prefix_of (drop i key) (drop i s)
-  unfolding prefix_of
-  prefix_step l e = rw (add-one, drop-cons key i 0, drop-cons s i 0, eq-eqb _ _ e)
-
-  pub prefix_differ : i < length s → (get_or s i 0 ≡ get_or key i 0 → ⊥) → false ≡ prefix_of (drop i key) (drop i s)
-  unfolding prefix_of
-  prefix_differ l e = rw (drop-cons key i 0, drop-cons s i 0, ne_eqb _ _ e)
-
-  pub prefix_short : length s ≤ i → false ≡ prefix_of (drop i key) (drop i s)
-  unfolding prefix_of
-  prefix_short l = rw (drop-cons key i 0, drop_of_length-le s l)
-
-pub prefix_end : (key s : List ℕ) (i : ℕ) → length key ≤ i → true ≡ prefix_of (drop i key) (drop i s)
+-- `starts_with` compares the key with the first bytes of the text, as many as the key has
+pub starts_prefix : (key s : List ℕ) → starts_with eqb s key ≡ prefix_of key s
 unfolding prefix_of
-prefix_end key s i l = rw (drop_of_length-le key l)
+starts_prefix [] s = refl
+starts_prefix (k ∷ ks) [] = refl
+starts_prefix (k ∷ ks) (b ∷ s) = by_test (eqb b k) (λ e. rw (e, eq-eqb k b (sym (eqb-true b k e)), starts_prefix ks s)) (λ e. rw (e, ne_eqb k b (λ d. eqb-false b k e (sym d))))
 
 -- a text that begins with a key is the key and what follows it
 pub prefix_split : (key s : List ℕ) → prefix_of key s ≡ true → s ≡ key ++ drop (length key) s

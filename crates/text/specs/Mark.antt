@@ -1,7 +1,5 @@
 -- Keys and marks: fixed bytes, due at a place of a text.
-use Rattle.std.specs.Prelude.{ℕ, ◌+◌, List, [], ◌∷◌, Bool, true, false, cond, ◌&&◌, length, drop, leb, eqb}
-use Rattle.text.specs.declared.Mark.{Mark}
-use Rattle.text.specs.declared.Mark.TheVariants.{Next, Bad}
+use Rattle.std.specs.Prelude.{ℕ, ◌+◌, List, [], ◌∷◌, Bool, true, false, cond, ◌&&◌, Option, Some, None, length, drop, leb, eqb}
 
 -- whether a text begins with a key
 unfoldable pub prefix_of : List ℕ → List ℕ → Bool
@@ -14,10 +12,10 @@ abbrev pub key_at : List ℕ → List ℕ → ℕ → Bool
 key_at key s at = leb at (length s) && prefix_of key (drop at s)
 
 -- the place after a key that stands at a place
-unfoldable pub mark_at : List ℕ → List ℕ → ℕ → Mark
-mark_at key s at = cond (key_at key s at) (Next (at + length key)) Bad
+unfoldable pub mark_at : List ℕ → List ℕ → ℕ → Option ℕ
+mark_at key s at = cond (key_at key s at) (Some (at + length key)) None
 
--- what follows a mark, and what is answered where it is missing
-abbrev pub after_mark : {A : Type 0} → Mark → (ℕ → A) → A → A
-after_mark (Next n) f a = f n
-after_mark Bad f a = a
+-- what follows what was read, and what is answered where it is missing
+abbrev pub after : {A B : Type 0} → Option A → (A → B) → B → B
+after (Some x) f b = f x
+after None f b = b

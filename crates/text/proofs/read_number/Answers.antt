@@ -2,11 +2,12 @@
 -- Assumes nothing.
 use mathlib.Core.Path.{◌≡◌, sym, ◌∙◌}
 use mathlib.Core.Bool.{true, false}
+use Prim.Native.Nat.{◌-◌}
 use lib.ListN.{get_or}
 use Rattle.text.specs.Number.{is_digit}
 use Rattle.text.proofs.Digits.{run_step, run_done, run_long}
 use Rattle.text.proofs.read_number.Goals as goal
-use Rattle.text.proofs.read_number.Goals.{After-loop-at, After-wide, Else-i-at-ge10, In-loop-at}
+use Rattle.text.proofs.read_number.Goals.{After-loop-at, After-from, In-loop-at}
 
 -- a digit stands at i in a turn, and none after the loop
 digit-here : (c : In-loop-at) → is_digit (get_or c.args.s.now c.loop-at.i 0) ≡ true
@@ -15,15 +16,15 @@ digit-here c = cc
 none_here : (c : After-loop-at) → is_digit (get_or c.args.s.now c.loop-at.i 0) ≡ false
 none_here c = cc
 
--- what `wide` gave is the digit at i
-wide_is : (c : After-wide) → c.wide.result ≡ get_or c.args.s.now c.loop-at.i 0
-wide_is c = cc
+-- the digit's value
+from_is : (c : After-from) → c.from.result ≡ get_or c.args.s.now c.loop-at.i 0 - 48
+from_is c = cc
 
 pub returns-then-i-at-ge10 : goal.returns-then-i-at-ge10
 returns-then-i-at-ge10 c = run_long _ _ _ _ _ c.loop-at.invariant (digit-here (goal.at.returns-then-i-at-ge10 c).In-loop-at) c.if-i-at-ge10.true
 
 pub loop-at-preserved : goal.loop-at-preserved
-loop-at-preserved c = rw (wide_is (goal.at.loop-at-preserved c).After-wide) (run_step _ _ _ _ c.loop-at.invariant (digit-here (goal.at.loop-at-preserved c).In-loop-at) c.if-i-at-ge10.false)
+loop-at-preserved c = rw (from_is (goal.at.loop-at-preserved c).After-from) (run_step _ _ _ _ c.loop-at.invariant (digit-here (goal.at.loop-at-preserved c).In-loop-at) c.if-i-at-ge10.false)
 
 -- the run is over, and the test decides
 pub returns-then-in_form : goal.returns-then-in_form
