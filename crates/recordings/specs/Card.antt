@@ -6,6 +6,7 @@ use Rattle.logic.specs.Reading.{Places}
 use Rattle.recordings.specs.declared.Predicate.{Predicate}
 use Rattle.recordings.specs.declared.Scales.{Scales}
 use Rattle.recordings.specs.declared.Setup.{Setup}
+use Rattle.recordings.specs.declared.Recording.{Recording}
 use Rattle.recordings.specs.declared.Range.TheVariants.{Unset}
 
 pub record Card : Type 0 where
@@ -65,6 +66,10 @@ span c = record { first = first_time c; end = suc (last_time c); time = λ t. t 
 -- what the library's callers hand over, as a card
 abbrev pub card : Setup → List ℕ → List ℤ → Card
 card setup times values = record { setup = setup; times = times; values = values }
+
+-- the card of a recording as its caller lends it
+abbrev pub card_of : Recording → Card
+card_of r = card r.setup r.times.now r.values.now
 
 -- the card of two slices, as they are at a call's entry or exit
 abbrev pub lent : Setup → Bor (List ℕ) → Bor (List ℤ) → Card

@@ -82,6 +82,14 @@ pub struct Setup {
     pub predicates: [Predicate; 16],
 }
 
+// A recording as its caller lends it, with the setup that it is judged by.
+#[derive(Clone, Copy)]
+pub struct Recording<'a> {
+    pub setup: Setup,
+    pub times: &'a [u64],
+    pub values: &'a [i64],
+}
+
 #[derive(Clone, Copy)]
 pub enum Verdict {
     Holds,
