@@ -2,7 +2,6 @@
 #![tactic(auto)]
 
 ghost use Rattle.std.specs.Prelude.{◌≡◌, [], ◌∷◌, take};
-ghost use Rattle.lists.specs.Front.{written};
 ghost use Rattle.printing.specs.Decimal.{decimal, decimal_signed};
 ghost use Rattle.printing.specs.Output.{blank, printed};
 
@@ -45,7 +44,7 @@ impl<const N: usize> Output<N> {
         &self.bytes[..self.end]
     }
 
-    fn byte(&mut self, b: u8)
+    pub fn byte(&mut self, b: u8)
         ensures { self.new ≡ printed self.old (b ∷ []) }
     {
         if self.end < N {
@@ -63,7 +62,7 @@ impl<const N: usize> Output<N> {
         }
     }
 
-    // A number in decimal digits.
+    // A number in decimal digits. It is not left to `write!`, which promises a text only where it answers `Ok`, and does not say when it does.
     pub fn number(&mut self, n: u64)
         ensures { self.new ≡ printed self.old (decimal n) }
     {
@@ -81,19 +80,5 @@ impl<const N: usize> Output<N> {
             self.word(b"-");
         }
         self.number(v.unsigned_abs());
-    }
-}
-
-// Writes bytes into a slice from its front on, as far as it goes: a copy, which a byte at a time with its place would not be compiled to.
-pub fn write_bytes(new: &[u8], out: &mut [u8])
-    ensures { out.new ≡ written new.now out.old }
-{
-    let mut i = 0;
-    while i < new.len() {
-        if i == out.len() {
-            return;
-        }
-        out[i] = new[i];
-        i += 1;
     }
 }
