@@ -6,28 +6,27 @@ use Prim.Native.Nat.{ℕ, ◌+◌, ◌≤◌, ◌<◌}
 use native.Mathlib.Omega.{arith}
 use lib.ListN.{length, drop, length-append}
 use Rattle.text.specs.Bytes.{bytes}
-use Rattle.text.specs.Mark.{mark_at}
+use Rattle.std.specs.Prelude.{Option, Some, IfSome}
+use Rattle.text.specs.Mark.{mark_at, read}
 use Rattle.text.specs.Number.{largest, field_at}
-use Rattle.text.specs.declared.Field.{Field}
-use Rattle.text.specs.declared.Field.TheVariants.{Number, Bad as Field_as_Bad}
+use Rattle.text.specs.declared.Read.{Read}
 use Rattle.text.proofs.Places.{Between, between_both, place_inside, place_after}
 use Rattle.text.proofs.Answers.{mark_is, field_is}
-use Rattle.text.proofs.Fields.{mark_case, number_case, mark_taken, field_taken}
+use Rattle.text.proofs.Fields.{after_case, number_case, mark_taken, field_taken}
 use Rattle.lines.specs.Lines.{lines}
 use Rattle.lines.proofs.Counts.{count, count_append, numeral_count}
 use Rattle.lines.proofs.Lines.{lines_split, Fed}
 use Rattle.number_lines.specs.Form.{NumberLine}
 use Rattle.number_lines.specs.Reading.{number_line_at}
 
-abbrev NumberHere : List ℕ → List ℕ → ℕ → Field → Type 0
-NumberHere key s at (Number v n) = (l : List ℕ) × Between s at n l × NumberLine key l v
-NumberHere key s at Field_as_Bad = Unit
+abbrev NumberHere : List ℕ → List ℕ → ℕ → Option (Read ℕ) → Type 0
+NumberHere key s at x = IfSome x (λ r. (l : List ℕ) × Between s at r.next l × NumberLine key l r.value)
 
 number_here : (key s : List ℕ) (at : ℕ) → NumberHere key s at (number_line_at key s at)
 unfolding number_line_at
 number_here key s at =
     number_case (NumberHere key s at) (field_at key s at largest) _ _
-    (λ v e h. mark_case (NumberHere key s at) (mark_at (bytes "\n") s e) _ _
+    (λ v e h. after_case (NumberHere key s at) (mark_at (bytes "\n") s e) _ _
     (λ n k. let a = field_is key s at largest v e h in (
       key ++ a.2.word ++ bytes "\n",
       between_both (between_both a.1 a.2.between) (mark_is (bytes "\n") s e n k),
@@ -36,11 +35,11 @@ number_here key s at =
     (λ k. tt))
     (λ h. tt)
 
-pub number_line_is : (key s : List ℕ) (at v n : ℕ) → number_line_at key s at ≡ Number v n → (l : List ℕ) × Between s at n l × NumberLine key l v
-number_line_is key s at v n h = rw h at (number_here key s at)
+pub number_line_is : (key s : List ℕ) (at : ℕ) (r : Read ℕ) → number_line_at key s at ≡ Some r → (l : List ℕ) × Between s at r.next l × NumberLine key l r.value
+number_line_is key s at r h = rw h at (number_here key s at)
 
 pub number_line_taken : (key s : List ℕ) (at : ℕ) {l : List ℕ} {v : ℕ} (ls : List (List ℕ)) → 0 < length key → NumberLine key l v → lines (drop at s) ≡ l ∷ ls
-    → (n : ℕ) × (number_line_at key s at ≡ Number v n) × (lines (drop n s) ≡ ls) × (n ≡ at + length l)
+    → (n : ℕ) × (number_line_at key s at ≡ read v n) × (lines (drop n s) ≡ ls) × (n ≡ at + length l)
 unfolding number_line_at
 number_line_taken key s at {l} {v} ls p f h =
     let t = lines_split (drop at s) l ls h in

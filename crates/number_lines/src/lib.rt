@@ -4,17 +4,16 @@
 ghost use Rattle.std.specs.Prelude.{◌≡◌};
 ghost use Rattle.number_lines.specs.Reading.{number_line_at};
 
-use text::{Field, Mark};
+use text::{Field, Read};
 
 // A line of a key and a number.
-pub fn read_number(s: &[u8], at: usize, key: &[u8]) -> Field
+#[tactic(auto, unfolding(crate::specs::Reading::number_line_at))]
+pub fn read_number(s: &[u8], at: usize, key: &[u8]) -> Option<Read<u64>>
     ensures { result ≡ number_line_at key.now s.now at }
 {
     let Field::Number(value, end) = text::read_field(s, at, key, text::LARGEST) else {
-        return Field::Bad;
+        return None;
     };
-    let Mark::Next(next) = text::read_mark(s, end, b"\n") else {
-        return Field::Bad;
-    };
-    Field::Number(value, next)
+    let next = text::read_mark(s, end, b"\n")?;
+    Some(Read { value, next })
 }

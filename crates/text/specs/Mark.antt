@@ -1,5 +1,6 @@
 -- Keys and marks: fixed bytes, due at a place of a text.
 use Rattle.std.specs.Prelude.{ℕ, ◌+◌, List, [], ◌∷◌, Bool, true, false, cond, ◌&&◌, Option, Some, None, length, drop, leb, eqb}
+use Rattle.text.specs.declared.Read.{Read}
 
 -- whether a text begins with a key
 unfoldable pub prefix_of : List ℕ → List ℕ → Bool
@@ -19,3 +20,7 @@ mark_at key s at = cond (key_at key s at) (Some (at + length key)) None
 abbrev pub after : {A B : Type 0} → Option A → (A → B) → B → B
 after (Some x) f b = f x
 after None f b = b
+
+-- what was read at a place, and the place after it
+abbrev pub read : {A : Type 0} → A → ℕ → Option (Read A)
+read x n = Some (record { value = x; next = n })

@@ -62,6 +62,7 @@ pub fn read_number(s: &[u8], at: usize, max: u64) -> Field<u64>
 }
 
 // Whether key stands at a place of s.
+#[tactic(auto, using(std::proofs::lemmas::Grind::common_steps, crate::proofs::Marks::starts_prefix))]
 pub fn key_at(s: &[u8], at: usize, key: &[u8]) -> bool
     ensures { result ≡ key_at key.now s.now at }
 {
@@ -69,6 +70,7 @@ pub fn key_at(s: &[u8], at: usize, key: &[u8]) -> bool
 }
 
 // The place after a key that stands at a place of s.
+#[tactic(auto, unfolding(crate::specs::Mark::mark_at))]
 pub fn read_mark(s: &[u8], at: usize, key: &[u8]) -> Option<usize>
     ensures { result ≡ mark_at key.now s.now at }
 {
@@ -76,6 +78,7 @@ pub fn read_mark(s: &[u8], at: usize, key: &[u8]) -> Option<usize>
 }
 
 // A number that follows a key.
+#[tactic(auto, unfolding(crate::specs::Number::field_at))]
 pub fn read_field(s: &[u8], at: usize, key: &[u8], max: u64) -> Field<u64>
     ensures { result ≡ field_at key.now s.now at max }
 {

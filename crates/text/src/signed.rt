@@ -21,6 +21,7 @@ pub fn read_number(s: &[u8], at: usize) -> Field<i64>
 }
 
 // A signed number that follows a key.
+#[tactic(auto, unfolding(crate::specs::Number::signed_field_at))]
 pub fn read_field(s: &[u8], at: usize, key: &[u8]) -> Field<i64>
     ensures { result ≡ signed_field_at key.now s.now at }
 {
