@@ -1,6 +1,6 @@
 -- What `fill` leaves at each place: inside the run the new value, elsewhere the old one. A part of a slice that was lent, filled and put back is a run in the whole.
 -- Assumes nothing.
-use mathlib.Core.Path.{◌≡◌, refl, ap, ◌∙◌}
+use mathlib.Core.Path.{◌≡◌, refl, sym, ap, ◌∙◌}
 use Prim.Native.Nat.{ℕ, zero, suc, ◌+◌, ◌*◌, ◌-◌, ◌≤◌, ◌<◌}
 use native.Mathlib.Omega.{arith}
 use native.Mathlib.Nat.{zero-add, suc-add, mul-le-mul_right}
@@ -10,6 +10,7 @@ use mathlib.Core.List.{List, [], ◌∷◌, ◌++◌}
 use lib.ListN.{length, get_or, set, take, length-set, length-take, length-drop}
 use borrow.Rule.Slice.PartMut.{mid_of, post_of, put_mid, put_same}
 use lib.Seq.{set-append_left, set_comm, get_or-set_same, get_or-set_other, length-take-le}
+use Rattle.std.proofs.lemmas.List.{same_lists, get_or_default}
 use Rattle.lists.specs.Fill.{fill, fill_rows}
 
 module _ {X : Type 0} where
@@ -98,6 +99,18 @@ module _ {X : Type 0} where
   pub fill_part : (a n : ℕ) (f : ℕ → X) (w : List X) {y : List X} → a + n ≤ length w → y ≡ fill 0 n f (mid_of a (length w - a) w) → put_mid a (length w - a) w y ≡ fill a n f w
   fill_part a n f w {y} h e =
       rw e (fill_mid a (length w - a) n f w (omega arith) (simp (length-take, length-drop) (omega arith)))
+
+  -- ---- a list that was copied into a part is a run of its values
+  fill_whole : (v w : List X) (d : X) → length v ≡ length w → v ≡ fill 0 (length v) (λ i. get_or v i d) w
+  fill_whole v w d e =
+      same_lists v (fill 0 (length v) (λ i. get_or v i d) w) (e ∙ sym (length_fill 0 (length v) (λ i. get_or v i d) w))
+      (λ k x h. get_or_default v k x d h ∙ sym (rw zero-add at (fill_in 0 (length v) (λ i. get_or v i d) w k x h (omega (arith, e)))))
+
+  pub fill_list : (a : ℕ) (v w : List X) (d : X) → a + length v ≤ length w → put_mid a (a + length v - a) w v ≡ fill a (length v) (λ i. get_or v i d) w
+  fill_list a v w d h =
+      let n : a + length v - a ≡ length v = omega arith in
+      let m : length (mid_of a (length v) w) ≡ length v = simp (length-take, length-drop) (omega arith) in
+      rw n (ap (put_mid a (length v) w) (fill_whole v (mid_of a (length v) w) d (sym m)) ∙ fill_mid a (length v) (length v) (λ i. get_or v i d) w (omega arith) (omega (arith, m)))
 
 -- the places of an earlier row stand before those of row k
 pub earlier_row : (a k rows : ℕ) → a < k → a * rows + rows ≤ k * rows
