@@ -2,25 +2,24 @@
 -- Assumes nothing.
 use mathlib.Core.Path.{◌≡◌, refl, sym, ap, ◌∙◌}
 use mathlib.Core.List.{List, [], ◌∷◌, ◌++◌}
-use mathlib.Core.Bool.{true}
 use Prim.Native.Nat.{ℕ, zero, suc, ◌+◌, ◌≤◌}
 use native.Mathlib.Nat.{zero-add, add-zero}
 use native.Mathlib.Numerals.{add-one}
 use native.Mathlib.Omega.{arith}
 use lib.ListN.{length, set, drop}
 use lib.Seq.{sets, drop-drop}
-use Rattle.text.specs.declared.Field.TheVariants.{Number}
-use Rattle.text.proofs.Tests.{false_true}
-use Rattle.text.proofs.Fields.{number_case}
+use Rattle.std.specs.Prelude.{Option, Some, None, IfSome}
+use Rattle.text.specs.Mark.{read}
+use Rattle.text.specs.declared.Read.{Read}
+use Rattle.text.proofs.Fields.{after_case}
 use Rattle.lines.specs.Lines.{lines, size}
 use Rattle.lines.proofs.Lines.{Each, none, also}
 use Rattle.lines.proofs.Places.{LinesBetween, no_line, one_line, lines_both, lines_behind}
 use Rattle.recordings.specs.declared.Scales.{Scales}
 use Rattle.recordings.specs.Accepted.{MOST_CHANNELS}
 use Rattle.recordings.specs.Card.{eight}
-use Rattle.scale_lines.specs.declared.ChannelScales.{ChannelScales}
 use Rattle.scale_lines.specs.Form.{ScaleLine, LinesFrom, over, more, due, ScaleLines}
-use Rattle.scale_lines.specs.Reading.{line_at, broken_scales, scales_place, lines_from, scales_at}
+use Rattle.scale_lines.specs.Reading.{line_at, scales_place, lines_from, scales_at}
 use Rattle.scale_lines.proofs.Steps.{due_most}
 use Rattle.scale_lines.proofs.Written.{line_is, line_taken, scale_fed}
 use Rattle.scale_lines.proofs.Eight.{eight_set}
@@ -28,35 +27,29 @@ use Rattle.scale_lines.proofs.Eight.{eight_set}
 -- ---- sound
 
 -- f lines between two places, and the scales that they say
-record LinesRead (s : List ℕ) (at f channel : ℕ) (each : List ℕ) (x : ChannelScales) : Type 0 where
+record LinesRead (s : List ℕ) (at f channel : ℕ) (each : List ℕ) (x : Read Scales) : Type 0 where
   taken : List (List ℕ)
   said : List ℕ
   between : LinesBetween s at x.next taken
   form : LinesFrom channel taken said
   all : length taken ≡ f
-  kept : x.scales ≡ record { count = channel + length said; each = sets each channel said }
+  kept : x.value ≡ record { count = channel + length said; each = sets each channel said }
 
-LinesHere : List ℕ → ℕ → ℕ → ℕ → List ℕ → ChannelScales → Type 0
-LinesHere s at f channel each x = x.ok ≡ true → LinesRead s at f channel each x
-
-broken_here : (s : List ℕ) (at f channel : ℕ) (each : List ℕ) → LinesHere s at f channel each broken_scales
-unfolding LinesHere
-broken_here s at f channel each o = absurd (false_true o)
+abbrev LinesHere : List ℕ → ℕ → ℕ → ℕ → List ℕ → Option (Read Scales) → Type 0
+LinesHere s at f channel each x = IfSome x (LinesRead s at f channel each)
 
 none_here : (s : List ℕ) (at channel : ℕ) (each : List ℕ) → LinesHere s at 0 channel each (scales_place channel each at)
-unfolding LinesHere
-none_here s at channel each o = record { taken = []; said = []; between = no_line s at; form = over; all = refl; kept = rw add-zero }
+none_here s at channel each = record { taken = []; said = []; between = no_line s at; form = over; all = refl; kept = rw add-zero }
 
-more_here : (s : List ℕ) (at f channel : ℕ) (each : List ℕ) (scale n : ℕ) → line_at s at channel ≡ Number scale n
-    → (x : ChannelScales) → LinesHere s n f (channel + 1) (set each channel scale) x → LinesHere s at (suc f) channel each x
-unfolding LinesHere
-more_here s at f channel each scale n e x h o =
-    let m = h o in
+more_here : (s : List ℕ) (at f channel : ℕ) (each : List ℕ) (r : Read ℕ) → line_at s at channel ≡ Some r
+    → (x : Option (Read Scales)) → LinesHere s r.next f (channel + 1) (set each channel r.value) x → LinesHere s at (suc f) channel each x
+more_here s at f channel each r e None h = tt
+more_here s at f channel each r e (Some x) m =
     let z : channel + 1 + length m.said ≡ channel + suc (length m.said) = omega arith in
-    let l = line_is s at channel scale n e in
+    let l = line_is s at channel r e in
     record {
       taken = l.0 ∷ m.taken;
-      said = scale ∷ m.said;
+      said = r.value ∷ m.said;
       between = lines_both (one_line l.1 (scale_fed l.2)) m.between;
       form = more l.2 m.form;
       all = ap suc m.all;
@@ -67,9 +60,9 @@ lines_here : (f : ℕ) (s : List ℕ) (at channel : ℕ) (each : List ℕ) → L
 unfolding lines_from
 lines_here zero s at channel each = none_here s at channel each
 lines_here (suc f) s at channel each =
-    number_case (LinesHere s at (suc f) channel each) (line_at s at channel) _ _
-    (λ scale n e. more_here s at f channel each scale n e _ (lines_here f s n (channel + 1) (set each channel scale)))
-    (λ e. broken_here s at (suc f) channel each)
+    after_case (LinesHere s at (suc f) channel each) (line_at s at channel) _ _
+    (λ r e. more_here s at f channel each r e _ (lines_here f s r.next (channel + 1) (set each channel r.value)))
+    (λ e. tt)
 
 -- a line says one scale
 pub said_length : {channel : ℕ} {ls : List (List ℕ)} {scales : List ℕ} → LinesFrom channel ls scales → length scales ≡ length ls
@@ -82,10 +75,10 @@ pub record ScalesRead (s : List ℕ) (at n channels : ℕ) (scales : Scales) : T
   pub between : LinesBetween s at n taken
   pub form : ScaleLines taken channels scales
 
-pub scales_are : (s : List ℕ) (at channels : ℕ) → (scales_at s at channels).ok ≡ true → ScalesRead s at (scales_at s at channels).next channels (scales_at s at channels).scales
-unfolding scales_at LinesHere
-scales_are s at channels o =
-    let m = lines_here (due channels) s at 0 (eight []) o in
+pub scales_are : (s : List ℕ) (at channels : ℕ) (r : Read Scales) → scales_at s at channels ≡ Some r → ScalesRead s at r.next channels r.value
+unfolding scales_at
+scales_are s at channels r o =
+    let m : LinesRead s at (due channels) 0 (eight []) r = rw o at (lines_here (due channels) s at 0 (eight [])) in
     record {
       taken = m.taken;
       between = m.between;
@@ -109,7 +102,7 @@ lines_taken (more {l} {ls} {channel} {scale} {scales} line form) s at each rest 
 -- the place behind them is as many bytes further as they have
 pub scales_taken : {ls : List (List ℕ)} {channels : ℕ} {scales : Scales} → ScaleLines ls channels scales → (s : List ℕ) (at : ℕ) (rest : List (List ℕ))
     → lines (drop at s) ≡ ls ++ rest
-    → (scales_at s at channels ≡ record { ok = true; next = at + size ls; scales = scales }) × (lines (drop (at + size ls) s) ≡ rest)
+    → (scales_at s at channels ≡ read scales (at + size ls)) × (lines (drop (at + size ls) s) ≡ rest)
 unfolding scales_at
 scales_taken {ls} {channels} {scales} f s at rest e = (
   ap (λ (k : ℕ). lines_from k s at 0 (eight [])) (sym f.all)

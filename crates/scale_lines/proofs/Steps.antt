@@ -1,4 +1,4 @@
--- A line field by field, how many lines are due, and the lines one by one: those that are left from a channel on give what all of them give.
+-- How many lines are due, and the lines one by one: those that are left from a channel on give what all of them give.
 -- Assumes nothing.
 use mathlib.Core.Path.{◌≡◌}
 use mathlib.Core.List.{List, []}
@@ -6,33 +6,14 @@ use Prim.Native.Nat.{ℕ, suc, ◌+◌, ◌-◌, ◌≤◌, ◌<◌}
 use native.Mathlib.Nat.{sub-zero}
 use native.Mathlib.Omega.{arith}
 use lib.ListN.{set}
-use borrow.Author.Tests.{le-leb, lt-leb, eq-eqb, ne_eqb}
-use Rattle.text.specs.Bytes.{bytes}
-use Rattle.text.specs.Number.{largest, field_at}
-use Rattle.text.specs.declared.Field.{Field}
-use Rattle.text.specs.declared.Field.TheVariants.{Number, Bad}
+use borrow.Author.Tests.{le-leb, lt-leb}
+use Rattle.std.specs.Prelude.{Some, None}
+use Rattle.text.specs.declared.Read.{Read}
 use Rattle.text.proofs.Tests.{by_le}
 use Rattle.recordings.specs.Accepted.{MOST_CHANNELS}
 use Rattle.recordings.specs.Card.{eight}
-use Rattle.number_lines.specs.Reading.{number_line_at}
 use Rattle.scale_lines.specs.Form.{due}
-use Rattle.scale_lines.specs.Reading.{line_at, broken_scales, scales_place, lines_from, scales_at}
-
--- ---- a line
-
-module _ (s : List ℕ) (at channel : ℕ) where
-  pub line_unnamed : field_at (bytes "c=") s at largest ≡ Bad → Bad ≡ line_at s at channel
-  unfolding line_at
-  line_unnamed e = rw e
-
-  module _ (k a : ℕ) (e : field_at (bytes "c=") s at largest ≡ Number k a) where
-    pub line_other : (k ≡ channel → ⊥) → Bad ≡ line_at s at channel
-    unfolding line_at
-    line_other h = rw (e, ne_eqb k channel h)
-
-    pub line_scale : k ≡ channel → (x : Field) → x ≡ number_line_at (bytes " scale=") s a → x ≡ line_at s at channel
-    unfolding line_at
-    line_scale h x f = rw (e, eq-eqb k channel h) f
+use Rattle.scale_lines.specs.Reading.{line_at, scales_place, lines_from, scales_at}
 
 -- ---- how many lines are due
 
@@ -62,11 +43,11 @@ module _ (s : List ℕ) (at count channel : ℕ) (each : List ℕ) where
       rw (e, f)
 
   module _ (l : channel < count) where
-    pub lines_bad : line_at s at channel ≡ Bad → lines_from (count - channel) s at channel each ≡ broken_scales
+    pub lines_bad : line_at s at channel ≡ None → lines_from (count - channel) s at channel each ≡ None
     unfolding lines_from
     lines_bad h = let e : count - channel ≡ suc (count - (channel + 1)) = omega arith in rw (e, h)
 
-    pub lines_next : (scale n : ℕ) → line_at s at channel ≡ Number scale n
-        → lines_from (count - channel) s at channel each ≡ lines_from (count - (channel + 1)) s n (channel + 1) (set each channel scale)
+    pub lines_next : (r : Read ℕ) → line_at s at channel ≡ Some r
+        → lines_from (count - channel) s at channel each ≡ lines_from (count - (channel + 1)) s r.next (channel + 1) (set each channel r.value)
     unfolding lines_from
-    lines_next scale n h = let e : count - channel ≡ suc (count - (channel + 1)) = omega arith in rw (e, h)
+    lines_next r h = let e : count - channel ≡ suc (count - (channel + 1)) = omega arith in rw (e, h)

@@ -1,16 +1,18 @@
 -- A scale is read exactly where a channel's line is written.
 -- Assumes nothing.
-use mathlib.Core.Path.{◌≡◌, refl, sym, ap, ◌∙◌}
+use mathlib.Core.Path.{◌≡◌, refl, ap, ◌∙◌}
 use mathlib.Core.List.{List, ◌∷◌, ◌++◌, append_assoc}
 use Prim.Native.Nat.{ℕ, ◌+◌, ◌≤◌}
 use native.Mathlib.Omega.{arith}
 use lib.ListN.{length, get_or, drop, length-append}
 use lib.Dec.{eqb}
-use borrow.Author.Tests.{eqb-true}
+use borrow.Author.Tests.{eqb-true, eq-eqb}
 use Rattle.text.specs.Bytes.{bytes}
 use Rattle.text.specs.Number.{largest, field_at}
-use Rattle.text.specs.declared.Field.{Field}
-use Rattle.text.specs.declared.Field.TheVariants.{Number, Bad}
+use Rattle.std.specs.Prelude.{Option, Some, None}
+use Rattle.text.specs.Mark.{read}
+use Rattle.text.specs.declared.Read.{Read}
+use Rattle.text.specs.declared.Field.TheVariants.{Number}
 use Rattle.text.proofs.Tests.{test_case}
 use Rattle.text.proofs.Places.{Between, between_both, after_bytes}
 use Rattle.text.proofs.Answers.{field_is, field_made}
@@ -23,20 +25,19 @@ use Rattle.number_lines.specs.Reading.{number_line_at}
 use Rattle.number_lines.proofs.Written.{number_line_is, number_line_taken, number_line_fed}
 use Rattle.scale_lines.specs.Form.{ScaleLine}
 use Rattle.scale_lines.specs.Reading.{line_at}
-use Rattle.scale_lines.proofs.Steps.{line_scale}
 
 -- ---- sound
 
 -- what an answer says of the line at a place
-abbrev LineHere : List ℕ → ℕ → ℕ → Field → Type 0
-LineHere s at channel (Number v n) = (l : List ℕ) × Between s at n l × ScaleLine l channel v
-LineHere s at channel Bad = Unit
+abbrev LineHere : List ℕ → ℕ → ℕ → Option (Read ℕ) → Type 0
+LineHere s at channel (Some r) = (l : List ℕ) × Between s at r.next l × ScaleLine l channel r.value
+LineHere s at channel None = Unit
 
 scale_here : (s : List ℕ) (at channel k a : ℕ) → field_at (bytes "c=") s at largest ≡ Number k a → k ≡ channel
-    → (x : Field) → number_line_at (bytes " scale=") s a ≡ x → LineHere s at channel x
-scale_here s at channel k a e z (Number v n) h =
+    → (x : Option (Read ℕ)) → number_line_at (bytes " scale=") s a ≡ x → LineHere s at channel x
+scale_here s at channel k a e z (Some r) h =
     let p = field_is (bytes "c=") s at largest channel a (rw z at e) in
-    let q = number_line_is (bytes " scale=") s a v n h in (
+    let q = number_line_is (bytes " scale=") s a r h in (
       bytes "c=" ++ p.2.word ++ q.0,
       between_both (between_both p.1 p.2.between) q.1,
       record {
@@ -48,7 +49,7 @@ scale_here s at channel k a e z (Number v n) h =
         spelled = rw q.2.spelled (simp append_assoc);
       },
     )
-scale_here s at channel k a e z Bad h = tt
+scale_here s at channel k a e z None h = tt
 
 line_here : (s : List ℕ) (at channel : ℕ) → LineHere s at channel (line_at s at channel)
 unfolding line_at
@@ -59,8 +60,8 @@ line_here s at channel =
     (λ t. tt))
     (λ e. tt)
 
-pub line_is : (s : List ℕ) (at channel v n : ℕ) → line_at s at channel ≡ Number v n → (l : List ℕ) × Between s at n l × ScaleLine l channel v
-line_is s at channel v n h = rw h at (line_here s at channel)
+pub line_is : (s : List ℕ) (at channel : ℕ) (r : Read ℕ) → line_at s at channel ≡ Some r → (l : List ℕ) × Between s at r.next l × ScaleLine l channel r.value
+line_is s at channel r h = rw h at (line_here s at channel)
 
 -- ---- complete
 
@@ -69,8 +70,8 @@ scale_line : {l : List ℕ} {channel scale : ℕ} (f : ScaleLine l channel scale
 scale_line f = record { digits = f.digits; numeral = f.numeral; bound = f.bound; spelled = refl }
 
 pub line_taken : {l : List ℕ} {channel scale : ℕ} (s : List ℕ) (at : ℕ) (ls : List (List ℕ)) → ScaleLine l channel scale → channel ≤ largest → lines (drop at s) ≡ l ∷ ls
-    → (line_at s at channel ≡ Number scale (at + length l)) × (lines (drop (at + length l) s) ≡ ls)
-unfolding count
+    → (line_at s at channel ≡ read scale (at + length l)) × (lines (drop (at + length l) s) ≡ ls)
+unfolding line_at count
 line_taken {l} {channel} {scale} s at ls f b e =
     let t = lines_split (drop at s) l ls e in
     let m : List ℕ = bytes " scale=" ++ f.digits ++ bytes "\n" in
@@ -82,7 +83,7 @@ line_taken {l} {channel} {scale} s at ls f b e =
     let n = number_line_taken (bytes " scale=") s a ls (omega arith) (scale_line f)
     (ap lines d ∙ (lines_fed t.0 (number_line_fed refl (scale_line f)) ∙ ap (λ (x : List (List ℕ)). m ∷ x) t.2)) in
     let p : n.0 ≡ at + length l = omega (arith, n.3, ap length w, length-append (bytes "c=") (f.c ++ m), length-append f.c m) in
-    (rw p at (sym (line_scale s at channel channel a k refl (Number scale n.0) (sym n.1))), rw p at n.2)
+    (rw (k, eq-eqb channel channel refl, n.1, p), rw p at n.2)
 
 -- ---- a line
 

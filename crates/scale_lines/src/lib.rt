@@ -4,20 +4,13 @@
 ghost use Rattle.std.specs.Prelude.{◌≡◌, []};
 ghost use Rattle.recordings.specs.Card.{passed};
 ghost use Rattle.scale_lines.specs.Form.{due};
-ghost use Rattle.scale_lines.specs.Reading.{line_at, broken_scales, scales_at};
+ghost use Rattle.scale_lines.specs.Reading.{line_at, scales_at};
 
 use recordings::Scales;
-use text::Field;
-
-// The scales of the lines before a place. Where a line was refused, ok is false and there are none.
-#[derive(Clone, Copy)]
-pub struct ChannelScales {
-    pub ok: bool,
-    pub next: usize,
-    pub scales: Scales,
-}
+use text::{Field, Read};
 
 // How many scale lines are due: one for each channel where there are 1 to 8, and otherwise none.
+#[tactic(auto, unfolding(crate::specs::Form::due))]
 fn lines_due(channels: usize) -> usize
     ensures { result ≡ due channels }
 {
@@ -29,14 +22,15 @@ fn lines_due(channels: usize) -> usize
 }
 
 // The line of a channel: its scale and the place of the next line.
-fn read_line(s: &[u8], at: usize, channel: usize) -> Field
+#[tactic(auto, unfolding(crate::specs::Reading::line_at))]
+fn read_line(s: &[u8], at: usize, channel: usize) -> Option<Read<u64>>
     ensures { result ≡ line_at s.now at channel }
 {
     let Field::Number(number, end) = text::read_field(s, at, b"c=", text::LARGEST) else {
-        return Field::Bad;
+        return None;
     };
     if number as usize != channel {
-        return Field::Bad;
+        return None;
     }
     number_lines::read_number(s, end, b" scale=")
 }
@@ -51,40 +45,18 @@ pub fn no_scales() -> Scales
     }
 }
 
-fn broken() -> ChannelScales
-    ensures { result ≡ broken_scales }
-{
-    let none = no_scales();
-    ChannelScales {
-        ok: false,
-        next: 0,
-        scales: none,
-    }
-}
-
 // The scales of the lines from a place on, as many as are due.
-pub fn read_scales(s: &[u8], at: usize, channels: usize) -> ChannelScales
+pub fn read_scales(s: &[u8], at: usize, channels: usize) -> Option<Read<Scales>>
     ensures { result ≡ scales_at s.now at channels }
 {
     let count = lines_due(channels);
-    let mut each: [u64; recordings::MOST_CHANNELS] = [0; recordings::MOST_CHANNELS];
+    let mut each = [0; recordings::MOST_CHANNELS];
     let mut next = at;
-    let mut channel: usize = 0;
-    while channel < count {
-        let Field::Number(scale, end) = read_line(s, next, channel) else {
-            return broken();
-        };
-        each[channel] = scale;
-        next = end;
-        channel += 1;
+    for channel in 0..count {
+        let scale = read_line(s, next, channel)?;
+        each[channel] = scale.value;
+        next = scale.next;
     }
-    let scales = Scales {
-        count: count,
-        each: each,
-    };
-    ChannelScales {
-        ok: true,
-        next: next,
-        scales: scales,
-    }
+    let value = Scales { count, each };
+    Some(Read { value, next })
 }

@@ -8,7 +8,4 @@ use Rattle.scale_lines.proofs.read_scales.Given as goal
 
 abbrev pub invariant-loop-channel : goal.invariant-loop-channel
 invariant-loop-channel l =
-    (lines_from (l.count - l.channel) l.s l.next l.channel l.each ≡ scales_at l.s l.at l.channels) × (l.channel ≤ l.count) × (l.count ≤ MOST_CHANNELS)
-
-abbrev pub decreases-loop-channel : goal.decreases-loop-channel
-decreases-loop-channel l = l.count - l.channel
+    (lines_from (l.count - l.channel) l.s l.next l.channel l.each ≡ scales_at l.s l.at l.channels) × (l.count ≤ MOST_CHANNELS)
