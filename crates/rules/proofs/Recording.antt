@@ -1,7 +1,7 @@
 -- Each test of refusals 5 to 7 holds exactly where its sentence does. A test is taken apart into its parts and put together from them.
 -- Assumes nothing.
 use mathlib.Core.Path.{◌≡◌}
-use mathlib.Core.Bool.{true, ◌&&◌}
+use mathlib.Core.Bool.{◌&&◌}
 use mathlib.Core.List.{List}
 use Prim.Native.Nat.{ℕ, suc, ◌-◌, ◌*◌, ◌≤◌}
 use native.Mathlib.Omega.{arith}
@@ -9,7 +9,6 @@ use lib.Dec.{T, leb, ltb, eqb, leb→le, le→leb, ltb→lt, lt→ltb, eqb→eq}
 use lib.ListN.{length, get_or}
 use lib.IntN.{ℤ, pos}
 use mir.Facts.{and_yes, yes_and, yes_eqb}
-use Rattle.numbers.proofs.Parts.{holds}
 use Rattle.lists.proofs.Below.{all_at, at_all}
 use Rattle.recordings.specs.Card.{Card, rows, time}
 use Rattle.recordings.specs.Accepted.{MOST_ROWS, LATEST, Lengths, Times, Values}
@@ -43,11 +42,6 @@ module _ (c : Card) where
   lengths_pass r =
       yes_and (eqb c.setup.scales.count c.setup.channels) (samples_obey c.setup.channels (rows c) (length c.values)) (yes_eqb r.all_scales)
       (samples_pass c.setup.channels (rows c) (length c.values) r.some_row r.few_rows r.all_values)
-
--- what the test of the times may rely on
-pub some_row : (scales channels rows values : ℕ) → lengths_obey scales channels rows values ≡ true → 1 ≤ rows
-unfolding lengths_obey
-some_row scales channels rows values e = (samples_are channels rows values (and_yes (eqb scales channels) (samples_obey channels rows values) (holds e)).1).0
 
 -- ---- 6
 pub times_are : (c : Card) → T (times_obey c.times) → Times c
