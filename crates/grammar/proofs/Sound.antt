@@ -1,17 +1,16 @@
 -- What is read is derived: each reader's answer comes with the production that it followed, from the bytes between the two places.
 -- Assumes nothing.
+use Rattle.std.specs.Prelude.{Option, Some, None}
 use mathlib.Core.Path.{◌≡◌, refl}
 use mathlib.Core.List.{List, ◌++◌, append_assoc}
 use Prim.Native.Nat.{ℕ, zero, suc}
 use native.Mathlib.Omega.{arith}
 use lib.ListN.{length}
 use Rattle.text.specs.Bytes.{bytes}
-use Rattle.text.specs.Mark.{mark_at, after_mark}
+use Rattle.text.specs.Mark.{mark_at, after}
 use Rattle.text.specs.Number.{field_at, after_number}
-use Rattle.text.specs.declared.Mark.{Mark}
-use Rattle.text.specs.declared.Mark.TheVariants.{Next, Bad as Mark_as_Bad}
 use Rattle.text.proofs.Places.{Between, between_both}
-use Rattle.text.proofs.Answers.{mark_is, field_is, past_mark, past_number}
+use Rattle.text.proofs.Answers.{mark_is, field_is, past, past_number}
 use Rattle.tables.specs.declared.Span.{Span}
 use Rattle.grammar.specs.declared.Operator.{Operator}
 use Rattle.grammar.specs.declared.Operator.TheVariants.{Absent, Over, Bad as Operator_as_Bad}
@@ -72,12 +71,12 @@ leaf_sound d s at a n h = go (mark_at (letter true_kind) s at) refl h
           derives = unary_predicate q.numeral q.bound;
         })
 
-    go : (m : Mark) → mark_at (letter true_kind) s at ≡ m
-        → after_mark m (λ k. got truth k) (after_number (field_at (letter predicate_kind) s at 15) (λ p k. got (predicate p) k) none) ≡ got a n
+    go : (m : Option ℕ) → mark_at (letter true_kind) s at ≡ m
+        → after m (λ k. got truth k) (after_number (field_at (letter predicate_kind) s at 15) (λ p k. got (predicate p) k) none) ≡ got a n
         → Stands unary d s at a n
-    go (Next m) e g =
+    go (Some m) e g =
         stands_as g (record { word = letter true_kind; between = mark_is (letter true_kind) s at m e; derives = unary_true })
-    go Mark_as_Bad e g = number g
+    go None e g = number g
 
 -- ---- turns, for `|` and `&` alike
 
@@ -107,10 +106,10 @@ module _ (outer inner : Part) (k d : ℕ)
       turned i w none g c j z = absurd (none_got z)
 
       go : ((x : Reading) → ((c : Tree) (j : ℕ) → x ≡ got c j → Stands outer d s at c j) → more_turns f part k s x ≡ got a n → Stands outer d s at a n)
-          → (y : Mark) → mark_at (letter k) s m ≡ y
-          → after_mark y (λ i. more_turns f part k s (on_got (part s i) (λ q o. got (two k no_span b q) o))) (got b m) ≡ got a n → Stands outer d s at a n
-      go ih (Next i) g z = ih (on_got (part s i) (λ q o. got (two k no_span b q) o)) (turned i (mark_is (letter k) s m i g) (part s i) refl) z
-      go ih Mark_as_Bad g z = h a n z
+          → (y : Option ℕ) → mark_at (letter k) s m ≡ y
+          → after y (λ i. more_turns f part k s (on_got (part s i) (λ q o. got (two k no_span b q) o))) (got b m) ≡ got a n → Stands outer d s at a n
+      go ih (Some i) g z = ih (on_got (part s i) (λ q o. got (two k no_span b q) o)) (turned i (mark_is (letter k) s m i g) (part s i) refl) z
+      go ih None g z = h a n z
 
 -- ---- bind, conjunction, alternative, unary
 
@@ -159,7 +158,7 @@ module _ (d : ℕ) (part : Reads) (sound : Sound unary d part) where
       group : (m : ℕ) → Between s at m (bytes "(") → closing s (alternative_of part s m) ≡ got a n → Stands unary (suc d) s at a n
       group m l g =
           let x = got_taken a n (alternative_of part s m) _ g in
-          let y = past_mark none (got a n) none_got (mark_at (bytes ")") s x.1) _ x.3 in
+          let y = past none (got a n) none_got (mark_at (bytes ")") s x.1) _ x.3 in
           let q = alternative_sound s m x.0 x.1 x.2 in
           stands_as y.2
           (record {
@@ -188,15 +187,15 @@ module _ (d : ℕ) (part : Reads) (sound : Sound unary d part) where
           over k r m (letter k ++ o.word) o.between (λ v b t. unary_timed o.among o.window t) g
       timed Operator_as_Bad e g = absurd (none_got g)
 
-      prefix : (m : Mark) → mark_at (letter not_kind) s at ≡ m
-          → unary_by part s at (after_mark m (λ i. Over not_kind no_span i) (timed_among prefixes s at)) ≡ got a n → Stands unary (suc d) s at a n
-      prefix (Next m) e g = over not_kind no_span m (letter not_kind) (mark_is (letter not_kind) s at m e) (λ v b t. unary_not t) g
-      prefix Mark_as_Bad e g = timed (timed_among prefixes s at) refl g
+      prefix : (m : Option ℕ) → mark_at (letter not_kind) s at ≡ m
+          → unary_by part s at (after m (λ i. Over not_kind no_span i) (timed_among prefixes s at)) ≡ got a n → Stands unary (suc d) s at a n
+      prefix (Some m) e g = over not_kind no_span m (letter not_kind) (mark_is (letter not_kind) s at m e) (λ v b t. unary_not t) g
+      prefix None e g = timed (timed_among prefixes s at) refl g
 
-      go : (m : Mark) → mark_at (bytes "(") s at ≡ m
-          → after_mark m (λ i. closing s (alternative_of part s i)) (unary_by part s at (prefix_at s at)) ≡ got a n → Stands unary (suc d) s at a n
-      go (Next m) e g = group m (mark_is (bytes "(") s at m e) g
-      go Mark_as_Bad e g = prefix (mark_at (letter not_kind) s at) refl g
+      go : (m : Option ℕ) → mark_at (bytes "(") s at ≡ m
+          → after m (λ i. closing s (alternative_of part s i)) (unary_by part s at (prefix_at s at)) ≡ got a n → Stands unary (suc d) s at a n
+      go (Some m) e g = group m (mark_is (bytes "(") s at m e) g
+      go None e g = prefix (mark_at (letter not_kind) s at) refl g
 
 pub unary_sound : (d : ℕ) → Sound unary d (unary_at d)
 unfolding unary_at

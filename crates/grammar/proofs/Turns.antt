@@ -1,13 +1,12 @@
 -- The turns of `|` and `&` need no count: any number of turns that the bytes left allow reads the same, so a turn and the end are plain equations.
 -- Assumes nothing.
+use Rattle.std.specs.Prelude.{Option, Some, None}
 use mathlib.Core.Path.{◌≡◌, refl, sym, ◌∙◌}
 use mathlib.Core.List.{List}
 use Prim.Native.Nat.{ℕ, zero, suc, ◌+◌, ◌≤◌, ◌<◌}
 use native.Mathlib.Omega.{arith}
 use lib.ListN.{length}
-use Rattle.text.specs.Mark.{mark_at, after_mark}
-use Rattle.text.specs.declared.Mark.{Mark}
-use Rattle.text.specs.declared.Mark.TheVariants.{Next, Bad as Mark_as_Bad}
+use Rattle.text.specs.Mark.{mark_at, after}
 use Rattle.text.proofs.Answers.{mark_is}
 use Rattle.grammar.specs.Operators.{letter}
 use Rattle.tables.specs.Tree.{no_span}
@@ -25,12 +24,12 @@ module _ (part : Reads) (k : ℕ) (s : List ℕ) where
   turns_none (suc f) = refl
 
   -- no letter stands behind the end
-  end_missing : (n : ℕ) → length s ≤ n → mark_at (letter k) s n ≡ Mark_as_Bad
+  end_missing : (n : ℕ) → length s ≤ n → mark_at (letter k) s n ≡ None
   end_missing n l = go (mark_at (letter k) s n) refl
     where
-      go : (m : Mark) → mark_at (letter k) s n ≡ m → m ≡ Mark_as_Bad
-      go (Next m) e = let b = mark_is (letter k) s n m e in absurd (omega arith)
-      go Mark_as_Bad e = refl
+      go : (m : Option ℕ) → mark_at (letter k) s n ≡ m → m ≡ None
+      go (Some m) e = let b = mark_is (letter k) s n m e in absurd (omega arith)
+      go None e = refl
 
   turns_same : Onward part → (f g : ℕ) (a : Tree) (n : ℕ) → length s ≤ n + f → length s ≤ n + g
       → more_turns f part k s (got a n) ≡ more_turns g part k s (got a n)
@@ -47,17 +46,17 @@ module _ (part : Reads) (k : ℕ) (s : List ℕ) where
       on ih m l none h = turns_none f ∙ sym (turns_none g)
 
       go : ((b : Tree) (e : ℕ) → length s ≤ e + f → length s ≤ e + g → more_turns f part k s (got b e) ≡ more_turns g part k s (got b e))
-          → (m : Mark) → mark_at (letter k) s n ≡ m
-          → after_mark m (λ i. more_turns f part k s (on_got (part s i) (λ b e. got (two k no_span a b) e))) (got a n)
-          ≡ after_mark m (λ i. more_turns g part k s (on_got (part s i) (λ b e. got (two k no_span a b) e))) (got a n)
-      go ih (Next m) e = let b = mark_is (letter k) s n m e in on ih m (omega arith) (part s m) refl
-      go ih Mark_as_Bad e = refl
+          → (m : Option ℕ) → mark_at (letter k) s n ≡ m
+          → after m (λ i. more_turns f part k s (on_got (part s i) (λ b e. got (two k no_span a b) e))) (got a n)
+          ≡ after m (λ i. more_turns g part k s (on_got (part s i) (λ b e. got (two k no_span a b) e))) (got a n)
+      go ih (Some m) e = let b = mark_is (letter k) s n m e in on ih m (omega arith) (part s m) refl
+      go ih None e = refl
 
   pub more_none : more part k s none ≡ none
   more_none = turns_none (length s)
 
   -- the end
-  pub more_over : (a : Tree) (n : ℕ) → mark_at (letter k) s n ≡ Mark_as_Bad → more part k s (got a n) ≡ got a n
+  pub more_over : (a : Tree) (n : ℕ) → mark_at (letter k) s n ≡ None → more part k s (got a n) ≡ got a n
   unfolding more_turns
   more_over a n e = over (length s)
     where
@@ -66,7 +65,7 @@ module _ (part : Reads) (k : ℕ) (s : List ℕ) where
       over (suc f) = rw e
 
   -- a turn
-  pub more_turn : Onward part → (a : Tree) (n m : ℕ) → mark_at (letter k) s n ≡ Next m
+  pub more_turn : Onward part → (a : Tree) (n m : ℕ) → mark_at (letter k) s n ≡ Some m
       → more part k s (got a n) ≡ more part k s (on_got (part s m) (λ b e. got (two k no_span a b) e))
   unfolding more_turns
   more_turn o a n m e = go (length s) refl

@@ -1,5 +1,6 @@
 -- Windows and the operators that carry one are read exactly where the grammar has them: an answer gives the bytes of a window, and a window's bytes give the answer.
 -- Assumes nothing.
+use Rattle.std.specs.Prelude.{Option, Some, None}
 use mathlib.Core.Path.{◌≡◌, refl, sym, ap, ◌∙◌}
 use mathlib.Core.List.Memᴰ
 use mathlib.Core.List.{List, [], ◌∷◌, ◌++◌, append_assoc}
@@ -12,19 +13,16 @@ use lib.Dec.{leb, ltb, eqb}
 use borrow.Author.Tests.{ltb-true, leb-true, le-leb, ne_eqb, eqb-true, eq-eqb, not-true}
 use Rattle.text.specs.Bytes.{bytes}
 use Rattle.text.specs.Numeral.{Numeral}
-use Rattle.text.specs.Mark.{mark_at, after_mark}
+use Rattle.text.specs.Mark.{mark_at, after, read}
 use Rattle.text.specs.declared.Field.TheVariants.{Number, Bad as Field_as_Bad}
 use Rattle.text.specs.Number.{is_digit, number_at, after_number}
-use Rattle.text.specs.declared.Mark.{Mark}
-use Rattle.text.specs.declared.Mark.TheVariants.{Next, Bad as Mark_as_Bad}
 use Rattle.text.proofs.Tests.{both, by_test, false_true}
 use Rattle.text.proofs.Places.{Between, between_both, after_bytes}
 use Rattle.text.proofs.Digits.{digit_range}
 use Rattle.text.proofs.Numerals.{Numbered, number_is, number_made, numeral_begins}
-use Rattle.text.proofs.Answers.{mark_is, mark_made, mark_first, past_mark, past_number}
+use Rattle.text.proofs.Answers.{mark_is, mark_made, mark_first, past, past_number}
 use Rattle.tables.specs.declared.Span.{Span}
-use Rattle.grammar.specs.declared.Window.{Window}
-use Rattle.grammar.specs.declared.Window.TheVariants.{Ends, Bad as Window_as_Bad}
+use Rattle.text.specs.declared.Read.{Read}
 use Rattle.grammar.specs.declared.Operator.TheVariants.{Absent, Over}
 use Rattle.grammar.specs.Operators.{letters, letter, ◌∈◌}
 use Rattle.tables.specs.Tree.{LONGEST, NO_END, marked}
@@ -39,8 +37,11 @@ pub record WindowIs (s : List ℕ) (at : ℕ) (r : Span) (n : ℕ) : Type 0 wher
   pub between : Between s at n word
   pub window : WindowText word r
 
-bad_ends : {r : Span} {n : ℕ} → Window_as_Bad ≡ Ends r n → ⊥
+bad_ends : {r : Span} {n : ℕ} → None ≡ read r n → ⊥
 bad_ends h = let z : ◌≡◌ {A = ℕ} 0 1 = cc in omega arith
+
+same_ends : {q r : Span} {m n : ℕ} → read q m ≡ read r n → (m ≡ n) × (q ≡ r)
+same_ends {r = r} h = (ap (λ (w : Option (Read Span)). after w (λ x. x.next) 0) h, ap (λ (w : Option (Read Span)). after w (λ x. x.value) r) h)
 
 -- ---- brackets
 
@@ -54,26 +55,26 @@ bracket_is : (bracket : Bool → List ℕ) (s : List ℕ) (at m n : ℕ) → bra
 unfolding bracket_at
 bracket_is bracket s at m n h = go (mark_at (bracket false) s at) refl (mark_at (bracket true) s at) refl h
   where
-    go : (x : Mark) → mark_at (bracket false) s at ≡ x → (y : Mark) → mark_at (bracket true) s at ≡ y → after_mark x (λ k. Number 0 k) (after_mark y (λ k. Number 1 k) Field_as_Bad) ≡ Number m n → BracketIs bracket s at m n
-    go (Next k) e y f h =
+    go : (x : Option ℕ) → mark_at (bracket false) s at ≡ x → (y : Option ℕ) → mark_at (bracket true) s at ≡ y → after x (λ k. Number 0 k) (after y (λ k. Number 1 k) Field_as_Bad) ≡ Number m n → BracketIs bracket s at m n
+    go (Some k) e y f h =
         let a : 0 ≡ m = cc in
         let b : k ≡ n = cc in
         record { excluded = false; mark_is_it = sym a; between = rw (← b) (mark_is (bracket false) s at k e) }
-    go Mark_as_Bad e (Next k) f h =
+    go None e (Some k) f h =
         let a : 1 ≡ m = cc in
         let b : k ≡ n = cc in
         record { excluded = true; mark_is_it = sym a; between = rw (← b) (mark_is (bracket true) s at k f) }
-    go Mark_as_Bad e Mark_as_Bad f h = let z : ◌≡◌ {A = ℕ} 0 1 = cc in absurd (omega arith)
+    go None e None f h = let z : ◌≡◌ {A = ℕ} 0 1 = cc in absurd (omega arith)
 
 -- a mark is 0 or 1
 pub bracket_small : (counted excluded s : List ℕ) (at : ℕ) {m n : ℕ} → bracket_at counted excluded s at ≡ Number m n → m ≤ 1
 unfolding bracket_at
 bracket_small counted excluded s at {m} {n} h = go (mark_at counted s at) (mark_at excluded s at) h
   where
-    go : (x y : Mark) → after_mark x (λ k. Number 0 k) (after_mark y (λ k. Number 1 k) Field_as_Bad) ≡ Number m n → m ≤ 1
-    go (Next k) y h = let a : 0 ≡ m = cc in omega arith
-    go Mark_as_Bad (Next k) h = let a : 1 ≡ m = cc in omega arith
-    go Mark_as_Bad Mark_as_Bad h = let z : ◌≡◌ {A = ℕ} 0 1 = cc in absurd (omega arith)
+    go : (x y : Option ℕ) → after x (λ k. Number 0 k) (after y (λ k. Number 1 k) Field_as_Bad) ≡ Number m n → m ≤ 1
+    go (Some k) y h = let a : 0 ≡ m = cc in omega arith
+    go None (Some k) h = let a : 1 ≡ m = cc in omega arith
+    go None None h = let z : ◌≡◌ {A = ℕ} 0 1 = cc in absurd (omega arith)
 
 -- two brackets of one byte each are told apart
 bracket_made : (square round : ℕ) → eqb round square ≡ false → (b : Bool) (s : List ℕ) (at : ℕ) (t : List ℕ) → drop at s ≡ cond b round square ∷ t → bracket_at (square ∷ []) (round ∷ []) s at ≡ Number (mark b) (at + 1)
@@ -94,38 +95,38 @@ closes_is true = refl
 module _ (s : List ℕ) (at : ℕ) (r : Span) (n : ℕ) where
   -- after the comma: the end, or none
   high_end_is : (lo openlo comma end m : ℕ) → BracketIs opens s at openlo m → Numbered s m LONGEST lo comma → Between s comma end (bytes ",")
-      → (x : Mark) → mark_at (bytes "*]") s end ≡ x
-      → after_mark x
-      (λ next. Ends (marked lo NO_END openlo 0) next)
+      → (x : Option ℕ) → mark_at (bytes "*]") s end ≡ x
+      → after x
+      (λ next. read (marked lo NO_END openlo 0) next)
       (after_number (number_at s end LONGEST)
       (λ hi close. after_number (bracket_at (closes false) (closes true) s close)
-      (λ openhi next. cond (leb (lo + openlo + openhi) hi) (Ends (marked lo hi openlo openhi) next) Window_as_Bad)
-      Window_as_Bad)
-      Window_as_Bad)
-      ≡ Ends r n
+      (λ openhi next. cond (leb (lo + openlo + openhi) hi) (read (marked lo hi openlo openhi) next) None)
+      None)
+      None)
+      ≡ read r n
       → WindowIs s at r n
-  high_end_is lo openlo comma end m a b c (Next p) e h =
-      let y : p ≡ n = cc in
-      let z : marked lo NO_END openlo 0 ≡ r = cc in
+  high_end_is lo openlo comma end m a b c (Some p) e h =
+      let y = (same_ends h).0 in
+      let z = (same_ends h).1 in
       record {
         word = opens a.excluded ++ (b.word ++ (bytes "," ++ bytes "*]"));
         between = rw (← y) (between_both a.between (between_both b.between (between_both c (mark_is (bytes "*]") s end p e))));
         window = rw (← z, a.mark_is_it) (endless a.excluded b.numeral b.bound);
       }
-  high_end_is lo openlo comma end m a b c Mark_as_Bad e h =
-      let i = past_number Window_as_Bad (Ends r n) bad_ends (number_at s end LONGEST) _ h in
+  high_end_is lo openlo comma end m a b c None e h =
+      let i = past_number None (read r n) bad_ends (number_at s end LONGEST) _ h in
       let hi = i.0 in
       let close = i.1 in
       let j = number_is s end LONGEST hi close i.2 in
-      let k = past_number Window_as_Bad (Ends r n) bad_ends (bracket_at (closes false) (closes true) s close) _ i.3 in
+      let k = past_number None (read r n) bad_ends (bracket_at (closes false) (closes true) s close) _ i.3 in
       last hi close j k.0 k.1 (bracket_is closes s close k.0 k.1 k.2) (leb (lo + openlo + k.0) hi) refl k.3
     where
       last : (hi close : ℕ) → Numbered s end LONGEST hi close → (openhi next : ℕ) → BracketIs closes s close openhi next → (t : Bool) → leb (lo + openlo + openhi) hi ≡ t
-          → cond t (Ends (marked lo hi openlo openhi) next) Window_as_Bad ≡ Ends r n → WindowIs s at r n
+          → cond t (read (marked lo hi openlo openhi) next) None ≡ read r n → WindowIs s at r n
       last hi close j openhi next q false g f = absurd (bad_ends f)
       last hi close j openhi next q true g f =
-          let y : next ≡ n = cc in
-          let z : marked lo hi openlo openhi ≡ r = cc in
+          let y = (same_ends f).0 in
+          let z = (same_ends f).1 in
           let fits : lo + mark a.excluded + mark q.excluded ≤ hi = rw (← a.mark_is_it, ← q.mark_is_it) (leb-true (lo + openlo + openhi) hi g) in
           record {
             word = opens a.excluded ++ (b.word ++ (bytes "," ++ (j.word ++ closes q.excluded)));
@@ -133,16 +134,16 @@ module _ (s : List ℕ) (at : ℕ) (r : Span) (n : ℕ) where
             window = rw (← z, a.mark_is_it, q.mark_is_it) (ended a.excluded q.excluded b.numeral j.numeral fits j.bound);
           }
 
-  pub window_is : window_at s at ≡ Ends r n → WindowIs s at r n
+  pub window_is : window_at s at ≡ read r n → WindowIs s at r n
   unfolding window_at high_end_at
   window_is h =
-      let o = past_number Window_as_Bad (Ends r n) bad_ends (bracket_at (opens false) (opens true) s at) _ h in
-      let i = past_number Window_as_Bad (Ends r n) bad_ends (number_at s o.1 LONGEST) _ o.3 in
-      let k = past_mark Window_as_Bad (Ends r n) bad_ends (mark_at (bytes ",") s i.1) _ i.3 in
+      let o = past_number None (read r n) bad_ends (bracket_at (opens false) (opens true) s at) _ h in
+      let i = past_number None (read r n) bad_ends (number_at s o.1 LONGEST) _ o.3 in
+      let k = past None (read r n) bad_ends (mark_at (bytes ",") s i.1) _ i.3 in
       high_end_is i.0 o.0 i.1 k.0 o.1 (bracket_is opens s at o.0 o.1 o.2) (number_is s o.1 LONGEST i.0 i.1 i.2) (mark_is (bytes ",") s i.1 k.0 k.1) (mark_at (bytes "*]") s k.0) refl k.2
 
 -- a number is no `*`
-star_missing : {w : List ℕ} {v : ℕ} → Numeral w v → (s : List ℕ) (at : ℕ) (t : List ℕ) → drop at s ≡ w ++ t → mark_at (bytes "*]") s at ≡ Mark_as_Bad
+star_missing : {w : List ℕ} {v : ℕ} → Numeral w v → (s : List ℕ) (at : ℕ) (t : List ℕ) → drop at s ≡ w ++ t → mark_at (bytes "*]") s at ≡ None
 star_missing {w} n s at t e =
     let b = numeral_begins n in
     mark_first 42 (bytes "]") s at (w ++ t) e
@@ -154,7 +155,7 @@ close_no_digit false t = refl
 close_no_digit true t = refl
 
 -- the text of a window is read as it
-pub window_made : {x : List ℕ} {r : Span} → WindowText x r → (s : List ℕ) (at : ℕ) (t : List ℕ) → drop at s ≡ x ++ t → window_at s at ≡ Ends r (at + length x)
+pub window_made : {x : List ℕ} {r : Span} → WindowText x r → (s : List ℕ) (at : ℕ) (t : List ℕ) → drop at s ≡ x ++ t → window_at s at ≡ read r (at + length x)
 unfolding window_at high_end_at
 window_made (ended {v} {w} {lo} {hi} low high a b l m) s at t e =
     let e0 : drop at s ≡ opens low ++ (v ++ (bytes "," ++ (w ++ (closes high ++ t)))) =
@@ -201,24 +202,24 @@ unfolding timed_among timed_at
 timed_is [] s at k r n h = let z : ◌≡◌ {A = ℕ} 0 1 = cc in absurd (omega arith)
 timed_is (j ∷ ks) s at k r n h = go (timed_is ks s at k r n) (mark_at (letter j) s at) refl h
   where
-    over : (m : ℕ) → mark_at (letter j) s at ≡ Next m → (x : Window) → window_at s m ≡ x → or_else (over_window j x) (timed_among ks s at) ≡ Over k r n → OperatorIs (j ∷ ks) s at k r n
-    over m e (Ends q i) f g =
+    over : (m : ℕ) → mark_at (letter j) s at ≡ Some m → (x : Option (Read Span)) → window_at s m ≡ x → or_else (over_window j x) (timed_among ks s at) ≡ Over k r n → OperatorIs (j ∷ ks) s at k r n
+    over m e (Some q) f g =
         let a : j ≡ k = cc in
-        let b : q ≡ r = cc in
-        let c : i ≡ n = cc in
-        let w = window_is s m r n (f ∙ cc) in
+        let b : q.value ≡ r = cc in
+        let c : q.next ≡ n = cc in
+        let w = rw (b, c) at (window_is s m q.value q.next f) in
         record {
           among = Memᴰ.head (sym a);
           word = w.word;
           between = rw (← a) (between_both (mark_is (letter j) s at m e) w.between);
           window = w.window;
         }
-    over m e Window_as_Bad f g = let z : ◌≡◌ {A = ℕ} 0 1 = cc in absurd (omega arith)
+    over m e None f g = let z : ◌≡◌ {A = ℕ} 0 1 = cc in absurd (omega arith)
 
-    go : (timed_among ks s at ≡ Over k r n → OperatorIs ks s at k r n) → (m : Mark) → mark_at (letter j) s at ≡ m
-        → or_else (after_mark m (λ i. over_window j (window_at s i)) Absent) (timed_among ks s at) ≡ Over k r n → OperatorIs (j ∷ ks) s at k r n
-    go more (Next m) e g = over m e (window_at s m) refl g
-    go more Mark_as_Bad e g =
+    go : (timed_among ks s at ≡ Over k r n → OperatorIs ks s at k r n) → (m : Option ℕ) → mark_at (letter j) s at ≡ m
+        → or_else (after m (λ i. over_window j (window_at s i)) Absent) (timed_among ks s at) ≡ Over k r n → OperatorIs (j ∷ ks) s at k r n
+    go more (Some m) e g = over m e (window_at s m) refl g
+    go more None e g =
         let o = more g in
         record { among = Memᴰ.tail o.among; word = o.word; between = o.between; window = o.window }
 
