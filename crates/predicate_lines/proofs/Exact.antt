@@ -5,22 +5,24 @@ use mathlib.Core.List.{List, [], ◌∷◌, ◌++◌}
 use mathlib.Core.Bool.{true, false}
 use Prim.Native.Nat.{ℕ, zero, suc, ◌+◌, ◌-◌, ◌≤◌, ◌<◌}
 use native.Mathlib.Omega.{arith}
-use lib.ListN.{length, set, drop, length-set}
+use lib.ListN.{length, drop, length-set}
 use lib.Dec.{leb, ltb}
 use borrow.Author.Tests.{le-leb, le-ltb, ltb-false}
 use Rattle.text.specs.Bytes.{bytes}
 use Rattle.text.specs.Mark.{prefix_of, key_at}
-use Rattle.text.proofs.Tests.{false_true, never, test_case}
+use Rattle.text.proofs.Tests.{never, test_case}
 use Rattle.text.proofs.Places.{place_inside}
 use Rattle.lines.specs.Lines.{lines}
 use Rattle.lines.proofs.Lines.{Each, none, also, fed_some, lines_split}
 use Rattle.lines.proofs.Places.{LinesBetween, no_line, one_line, lines_both}
 use Rattle.recordings.specs.declared.Predicate.{Predicate}
-use Rattle.predicate_lines.specs.declared.Line.{Line}
-use Rattle.predicate_lines.specs.declared.Line.TheVariants.{Set, Bad}
-use Rattle.predicate_lines.specs.declared.Predicates.{Predicates}
+use Rattle.std.specs.Prelude.{Option, Some, None, IfSome}
+use Rattle.text.specs.Mark.{read}
+use Rattle.text.specs.declared.Read.{Read}
+use Rattle.text.proofs.Fields.{after_case}
+use Rattle.predicate_lines.specs.declared.NumberedPredicate.{NumberedPredicate}
 use Rattle.predicate_lines.specs.Form.{PredicateLine, is_predicate, unset, LinesFrom, over, more, PredicateLines}
-use Rattle.predicate_lines.specs.Reading.{set_line, line_at, after_line, broken_set, stored_in, lines_from, lines_at}
+use Rattle.predicate_lines.specs.Reading.{line_at, stored_in, lines_from, lines_at}
 use Rattle.predicate_lines.proofs.Written.{line_is, line_taken, line_fed}
 use Rattle.predicate_lines.proofs.Rest.{turn_over, behind, turn_line}
 
@@ -32,45 +34,34 @@ pub record LinesRead (s : List ℕ) (at least : ℕ) (ps : List Predicate) (n : 
   pub between : LinesBetween s at n taken
   pub form : LinesFrom least ps taken qs
 
-LinesHere : List ℕ → ℕ → Predicates → Predicates → Type 0
-LinesHere s least ps q = q.ok ≡ true → LinesRead s ps.next least ps.all q.next q.all
+abbrev LinesHere : List ℕ → ℕ → Read (List Predicate) → Option (Read (List Predicate)) → Type 0
+LinesHere s least ps x = IfSome x (λ q. LinesRead s ps.next least ps.value q.next q.value)
 
-broken_here : (s : List ℕ) (least : ℕ) (ps : Predicates) → LinesHere s least ps broken_set
-unfolding LinesHere
-broken_here s least ps o = absurd (false_true o)
+none_here : (s : List ℕ) (least : ℕ) (ps : Read (List Predicate)) → LinesHere s least ps (Some ps)
+none_here s least ps = record { taken = []; between = no_line s ps.next; form = over }
 
-none_here : (s : List ℕ) (least : ℕ) (ps : Predicates) → LinesHere s least ps ps
-unfolding LinesHere
-none_here s least ps o = record { taken = []; between = no_line s ps.next; form = over }
+more_here : (s : List ℕ) (least : ℕ) (ps : Read (List Predicate)) (l : Read NumberedPredicate) → line_at s ps.next ≡ Some l → least ≤ l.value.number
+    → (x : Option (Read (List Predicate))) → LinesHere s (l.value.number + 1) (stored_in ps l) x → LinesHere s least ps x
+more_here s least ps l e rises None h = tt
+more_here s least ps l e rises (Some q) m =
+    let a = line_is s ps.next l e in
+    record { taken = a.0 ∷ m.taken; between = lines_both (one_line a.1 (line_fed a.2)) m.between; form = more a.2 rises m.form }
 
-more_here : (s : List ℕ) (least : ℕ) (ps : Predicates) (k : ℕ) (p : Predicate) (n : ℕ) → line_at s ps.next ≡ set_line k p n → least ≤ k
-    → (r : Predicates) → LinesHere s (k + 1) (stored_in ps k p n) r → LinesHere s least ps r
-unfolding LinesHere
-more_here s least ps k p n e rises r h o =
-    let m : LinesRead s n (k + 1) (set ps.all k p) r.next r.all = h o in
-    let l = line_is s ps.next k p n e in
-    record { taken = l.0 ∷ m.taken; between = lines_both (one_line l.1 (line_fed l.2)) m.between; form = more l.2 rises m.form }
-
-line_case : {A : Type 0} (P : A → Type 0) (x : Line) (f : ℕ → Predicate → ℕ → A) (a : A) → ((k : ℕ) (p : Predicate) (n : ℕ) → x ≡ set_line k p n → P (f k p n)) → P a
-    → P (after_line x f a)
-line_case P (Set l) f a h b = h l.number l.predicate l.next refl
-line_case P Bad f a h b = b
-
-lines_here : (f : ℕ) (s : List ℕ) (least : ℕ) (ps : Predicates) → LinesHere s least ps (lines_from f s least ps)
+lines_here : (f : ℕ) (s : List ℕ) (least : ℕ) (ps : Read (List Predicate)) → LinesHere s least ps (lines_from f s least ps)
 unfolding lines_from
 lines_here zero s least ps = none_here s least ps
 lines_here (suc f) s least ps =
     test_case (LinesHere s least ps) (key_at (bytes "p=") s ps.next) _ _
-    (λ t. line_case (LinesHere s least ps) (line_at s ps.next) _ _
-    (λ k p n e. test_case (LinesHere s least ps) (ltb k least) _ _
-    (λ b. broken_here s least ps)
-    (λ b. more_here s least ps k p n e (ltb-false k least b) _ (lines_here f s (k + 1) (stored_in ps k p n))))
-    (broken_here s least ps))
+    (λ t. after_case (LinesHere s least ps) (line_at s ps.next) _ _
+    (λ l e. test_case (LinesHere s least ps) (ltb l.value.number least) _ _
+    (λ b. tt)
+    (λ b. more_here s least ps l e (ltb-false l.value.number least b) _ (lines_here f s (l.value.number + 1) (stored_in ps l))))
+    (λ e. tt))
     (λ t. none_here s least ps)
 
-pub predicates_are : (s : List ℕ) (at : ℕ) → (lines_at s at).ok ≡ true → LinesRead s at 0 unset (lines_at s at).next (lines_at s at).all
-unfolding lines_at LinesHere
-predicates_are s at o = lines_here 17 s 0 (record { ok = true; next = at; all = unset }) o
+pub predicates_are : (s : List ℕ) (at : ℕ) (q : Read (List Predicate)) → lines_at s at ≡ Some q → LinesRead s at 0 unset q.next q.value
+unfolding lines_at
+predicates_are s at q o = rw o at (lines_here 17 s 0 (record { value = unset; next = at }))
 
 -- ---- complete
 
@@ -83,12 +74,12 @@ line_due {l} s at r f e =
 
 lines_taken : {least : ℕ} {ps qs : List Predicate} {ls : List (List ℕ)} → LinesFrom least ps ls qs → (f : ℕ) (s : List ℕ) (at : ℕ) (rest : List (List ℕ))
     → 16 ≤ least + f → lines (drop at s) ≡ ls ++ rest → ((x : List ℕ) → lines x ≡ rest → is_predicate x ≡ false)
-    → (n : ℕ) × (lines_from f s least (record { ok = true; next = at; all = ps }) ≡ record { ok = true; next = n; all = qs }) × (lines (drop n s) ≡ rest)
-lines_taken {least} {ps} over f s at rest u e stop = (at, turn_over f s least (record { ok = true; next = at; all = ps }) (rw (stop (drop at s) e, never (leb at (length s)))), e)
+    → (n : ℕ) × (lines_from f s least (record { value = ps; next = at }) ≡ read qs n) × (lines (drop n s) ≡ rest)
+lines_taken {least} {ps} over f s at rest u e stop = (at, turn_over f s least (record { value = ps; next = at }) (rw (stop (drop at s) e, never (leb at (length s)))), e)
 lines_taken {least} {ps} (more {l} {ls} {number = k} line rises lines') f s at rest u e stop =
     let a = lines_split (drop at s) l (ls ++ rest) e in
     let b = line_taken s at a.0 line a.1 in
-    let here : Predicates = record { ok = true; next = at; all = ps } in
+    let here : Read (List Predicate) = record { value = ps; next = at } in
     let d = lines_taken lines' (f - 1) s b.0 rest (omega arith) (ap lines b.2 ∙ a.2) stop in
     let g : f ≡ suc (f - 1) = omega (arith, line.known) in (
       d.0,
@@ -99,7 +90,7 @@ lines_taken {least} {ps} (more {l} {ls} {number = k} line rises lines') f s at r
 
 pub predicates_taken : {qs : List Predicate} {ls : List (List ℕ)} → PredicateLines ls qs → (s : List ℕ) (at : ℕ) (rest : List (List ℕ))
     → lines (drop at s) ≡ ls ++ rest → ((x : List ℕ) → lines x ≡ rest → is_predicate x ≡ false)
-    → (n : ℕ) × (lines_at s at ≡ record { ok = true; next = n; all = qs }) × (lines (drop n s) ≡ rest)
+    → (n : ℕ) × (lines_at s at ≡ read qs n) × (lines (drop n s) ≡ rest)
 unfolding lines_at
 predicates_taken form s at rest e stop = lines_taken form 17 s at rest (omega arith) e stop
 

@@ -1,5 +1,4 @@
--- A line's fields (`Steps`), the lines one by one (`Rest`), that what is read is what is written (`Written`, `Exact`), the order of the lines (`Rising`) and what they set (`Sets`).
-pub mod Steps
+-- The lines one by one (`Rest`), that what is read is what is written (`Written`, `Exact`), the order of the lines (`Rising`) and what they set (`Sets`).
 pub mod Written
 pub mod Rest
 pub mod Exact

@@ -7,10 +7,13 @@ use native.Mathlib.Omega.{arith}
 use lib.ListN.{length, get_or, set}
 use Rattle.recordings.specs.declared.Predicate.{Predicate}
 use Rattle.recordings.specs.Card.{unset_predicate}
-use Rattle.predicate_lines.specs.declared.Line.{Line}
+use Rattle.std.specs.Prelude.{Option}
+use Rattle.text.specs.Mark.{after}
+use Rattle.text.specs.declared.Read.{Read}
+use Rattle.predicate_lines.specs.declared.NumberedPredicate.{NumberedPredicate}
 use Rattle.predicate_lines.specs.Form.{PredicateLine, LinesFrom, over, more, PredicateLines, unset}
 use Rattle.predicate_lines.specs.Rising.{Numbered, Rising}
-use Rattle.predicate_lines.specs.Reading.{set_line, after_line}
+use Rattle.predicate_lines.specs.Reading.{set_line}
 use Rattle.predicate_lines.proofs.Written.{line_taken}
 
 -- a line has one number and one predicate
@@ -18,8 +21,10 @@ pub line_one : {l : List ℕ} {j k : ℕ} {p q : Predicate} → PredicateLine l 
 line_one {l} {j} {k} {p} {q} a b =
     let x = line_taken l 0 [] a (sym (append-nil l)) in
     let y = line_taken l 0 [] b (sym (append-nil l)) in
-    let e : set_line j p x.0 ≡ set_line k q y.0 = sym x.1 ∙ y.1 in
-    (ap (λ (z : Line). after_line z (λ n r m. n) 0) e, ap (λ (z : Line). after_line z (λ n r m. r) unset_predicate) e)
+    let e : set_line j p x.0 ≡ set_line k q y.0 = sym x.1 ∙ y.1 in (
+      ap (λ (z : Option (Read NumberedPredicate)). after z (λ r. r.value.number) 0) e,
+      ap (λ (z : Option (Read NumberedPredicate)). after z (λ r. r.value.predicate) unset_predicate) e,
+    )
 
 -- ---- the form says that numbers rise
 

@@ -1,6 +1,6 @@
 -- A predicate is read exactly where a predicate's line is written.
 -- Assumes nothing.
-use mathlib.Core.Path.{◌≡◌, refl, sym, ap, ◌∙◌}
+use mathlib.Core.Path.{◌≡◌, refl, ap, ◌∙◌}
 use mathlib.Core.List.{List, [], ◌++◌, append_assoc}
 use mathlib.Core.Bool.{false}
 use Prim.Native.Nat.{ℕ, ◌+◌, ◌<◌}
@@ -9,49 +9,42 @@ use lib.ListN.{length, get_or, drop}
 use Rattle.text.specs.Bytes.{bytes}
 use Rattle.text.specs.Mark.{mark_at}
 use Rattle.text.specs.Number.{is_digit, largest, field_at, signed_at}
-use Rattle.text.specs.declared.Mark.TheVariants.{Next}
+use Rattle.std.specs.Prelude.{Option, Some, IfSome}
+use Rattle.text.specs.Mark.{read}
+use Rattle.text.specs.declared.Read.{Read}
+use Rattle.predicate_lines.specs.declared.NumberedPredicate.{NumberedPredicate}
+use lib.IntN.{ℤ}
 use Rattle.text.specs.declared.Field.TheVariants.{Number}
 use Rattle.text.proofs.Places.{Between, between_both}
 use Rattle.text.proofs.Answers.{mark_is, mark_first, field_is}
-use Rattle.text.proofs.Fields.{mark_case, number_case, signed_case, signed_bytes, signed_first, mark_taken, field_taken, signed_taken}
+use Rattle.text.proofs.Fields.{after_case, number_case, signed_bytes, signed_first, mark_taken, field_taken, signed_taken}
 use Rattle.lines.proofs.Counts.{count, count_append, numeral_count, signed_count}
 use Rattle.lines.proofs.Lines.{Fed}
 use Rattle.recordings.specs.declared.Predicate.{Predicate}
-use Rattle.predicate_lines.specs.declared.Bound.{Bound}
-use Rattle.predicate_lines.specs.declared.End.{End}
-use Rattle.predicate_lines.specs.declared.End.TheVariants.{Read, Bad as End_as_Bad}
-use Rattle.predicate_lines.specs.declared.Line.{Line}
-use Rattle.predicate_lines.specs.declared.Line.TheVariants.{Set, Bad}
 use Rattle.predicate_lines.specs.Form.{EndText, star, number, range_of, PredicateLine}
-use Rattle.predicate_lines.specs.Reading.{end_at, after_end, set_line, line_at}
-use Rattle.predicate_lines.proofs.Steps.{line_set}
+use Rattle.predicate_lines.specs.Reading.{end_at, set_line, line_at}
 
 -- ---- an end
 
-abbrev EndHere : List ℕ → List ℕ → ℕ → End → Type 0
-EndHere key s at (Read b n) = (w : List ℕ) × Between s at n (key ++ w) × EndText w b
-EndHere key s at End_as_Bad = Unit
+abbrev EndHere : List ℕ → List ℕ → ℕ → Option (Read (Option ℤ)) → Type 0
+EndHere key s at x = IfSome x (λ r. (w : List ℕ) × Between s at r.next (key ++ w) × EndText w r.value)
 
 end_here : (key s : List ℕ) (at : ℕ) → EndHere key s at (end_at key s at)
 unfolding end_at
 end_here key s at =
-    mark_case (EndHere key s at) (mark_at key s at) _ _
-    (λ b e. mark_case (EndHere key s at) (mark_at (bytes "*") s b) _ _
+    after_case (EndHere key s at) (mark_at key s at) _ _
+    (λ b e. after_case (EndHere key s at) (mark_at (bytes "*") s b) _ _
     (λ n f. (bytes "*", between_both (mark_is key s at b e) (mark_is (bytes "*") s b n f), star))
-    (λ f. signed_case (EndHere key s at) (signed_at s b) _ _
+    (λ f. number_case (EndHere key s at) (signed_at s b) _ _
     (λ v n g. let w = signed_bytes s b v n g in (w.0, between_both (mark_is key s at b e) w.1, number w.2))
     (λ g. tt)))
     (λ e. tt)
 
-end_case : {A : Type 0} (P : A → Type 0) (x : End) (f : Bound → ℕ → A) (a : A) → ((b : Bound) (n : ℕ) → x ≡ Read b n → P (f b n)) → P a → P (after_end x f a)
-end_case P (Read b n) f a h k = h b n refl
-end_case P End_as_Bad f a h k = k
-
-end_is : (key s : List ℕ) (at : ℕ) (b : Bound) (n : ℕ) → end_at key s at ≡ Read b n → (w : List ℕ) × Between s at n (key ++ w) × EndText w b
-end_is key s at b n h = rw h at (end_here key s at)
+end_is : (key s : List ℕ) (at : ℕ) (r : Read (Option ℤ)) → end_at key s at ≡ Some r → (w : List ℕ) × Between s at r.next (key ++ w) × EndText w r.value
+end_is key s at r h = rw h at (end_here key s at)
 
 end_taken : (s : List ℕ) (at : ℕ) (r : List ℕ) → is_digit (get_or r 0 0) ≡ false → (key : List ℕ) → 0 < length key
-    → {w : List ℕ} {b : Bound} → drop at s ≡ key ++ (w ++ r) → EndText w b → (n : ℕ) × (end_at key s at ≡ Read b n) × (drop n s ≡ r)
+    → {w : List ℕ} {b : Option ℤ} → drop at s ≡ key ++ (w ++ r) → EndText w b → (n : ℕ) × (end_at key s at ≡ read b n) × (drop n s ≡ r)
 unfolding end_at
 end_taken s at r stop key p e star =
     let k = mark_taken s at (bytes "*" ++ r) key p e in
@@ -65,39 +58,38 @@ end_taken s at r stop key p e (number {w} {v} sg) =
 -- ---- a line
 
 -- what an answer says of the line at a place
-abbrev pub LineHere : List ℕ → ℕ → Line → Type 0
-LineHere s at (Set x) = (l : List ℕ) × Between s at x.next l × PredicateLine l x.number x.predicate
-LineHere s at Bad = Unit
+abbrev pub LineHere : List ℕ → ℕ → Option (Read NumberedPredicate) → Type 0
+LineHere s at x = IfSome x (λ r. (l : List ℕ) × Between s at r.next l × PredicateLine l r.value.number r.value.predicate)
 
 pub line_here : (s : List ℕ) (at : ℕ) → LineHere s at (line_at s at)
 unfolding line_at
 line_here s at =
     number_case (LineHere s at) (field_at (bytes "p=") s at 15) _ _
     (λ k a e. number_case (LineHere s at) (field_at (bytes " ch=") s a largest) _ _
-    (λ ch b f. end_case (LineHere s at) (end_at (bytes " lo=") s b) _ _
-    (λ lo c g. end_case (LineHere s at) (end_at (bytes " hi=") s c) _ _
-    (λ hi d h. mark_case (LineHere s at) (mark_at (bytes "\n") s d) _ _
-    (λ n i. whole k a e ch b f lo c g hi d h n i)
+    (λ ch b f. after_case (LineHere s at) (end_at (bytes " lo=") s b) _ _
+    (λ lo g. after_case (LineHere s at) (end_at (bytes " hi=") s lo.next) _ _
+    (λ hi h. after_case (LineHere s at) (mark_at (bytes "\n") s hi.next) _ _
+    (λ n i. whole k a e ch b f lo g hi h n i)
     (λ i. tt))
-    tt)
-    tt)
+    (λ h. tt))
+    (λ g. tt))
     (λ f. tt))
     (λ e. tt)
   where
     whole : (k a : ℕ) → field_at (bytes "p=") s at 15 ≡ Number k a → (ch b : ℕ) → field_at (bytes " ch=") s a largest ≡ Number ch b
-        → (lo : Bound) (c : ℕ) → end_at (bytes " lo=") s b ≡ Read lo c → (hi : Bound) (d : ℕ) → end_at (bytes " hi=") s c ≡ Read hi d
-        → (n : ℕ) → mark_at (bytes "\n") s d ≡ Next n → LineHere s at (set_line k (record { channel = ch; range = range_of lo hi }) n)
-    whole k a e ch b f lo c g hi d h n i =
+        → (lo : Read (Option ℤ)) → end_at (bytes " lo=") s b ≡ Some lo → (hi : Read (Option ℤ)) → end_at (bytes " hi=") s lo.next ≡ Some hi
+        → (n : ℕ) → mark_at (bytes "\n") s hi.next ≡ Some n → LineHere s at (set_line k (record { channel = ch; range = range_of lo.value hi.value }) n)
+    whole k a e ch b f lo g hi h n i =
         let p = field_is (bytes "p=") s at 15 k a e in
         let q = field_is (bytes " ch=") s a largest ch b f in
-        let u = end_is (bytes " lo=") s b lo c g in
-        let v = end_is (bytes " hi=") s c hi d h in
+        let u = end_is (bytes " lo=") s b lo g in
+        let v = end_is (bytes " hi=") s lo.next hi h in
         let x = between_both (between_both (between_both p.1 p.2.between) q.1) q.2.between in
-        let y : Between s at c (bytes "p=" ++ p.2.word ++ bytes " ch=" ++ q.2.word ++ bytes " lo=" ++ u.0) = rw append_assoc (between_both x u.1) in
-        let z : Between s at d (bytes "p=" ++ p.2.word ++ bytes " ch=" ++ q.2.word ++ bytes " lo=" ++ u.0 ++ bytes " hi=" ++ v.0) =
+        let y : Between s at lo.next (bytes "p=" ++ p.2.word ++ bytes " ch=" ++ q.2.word ++ bytes " lo=" ++ u.0) = rw append_assoc (between_both x u.1) in
+        let z : Between s at hi.next (bytes "p=" ++ p.2.word ++ bytes " ch=" ++ q.2.word ++ bytes " lo=" ++ u.0 ++ bytes " hi=" ++ v.0) =
         rw (append_assoc (bytes "p=" ++ p.2.word ++ bytes " ch=" ++ q.2.word ++ bytes " lo=" ++ u.0) (bytes " hi=") v.0) (between_both y v.1) in (
           _,
-          between_both z (mark_is (bytes "\n") s d n i),
+          between_both z (mark_is (bytes "\n") s hi.next n i),
           record {
             p = p.2.word;
             ch = q.2.word;
@@ -107,8 +99,8 @@ line_here s at =
             known = p.2.bound;
             channel = q.2.numeral;
             bound = q.2.bound;
-            low = lo;
-            high = hi;
+            low = lo.value;
+            high = hi.value;
             from = u.2;
             to = v.2;
             range = refl;
@@ -116,8 +108,8 @@ line_here s at =
           },
         )
 
-pub line_is : (s : List ℕ) (at k : ℕ) (p : Predicate) (n : ℕ) → line_at s at ≡ set_line k p n → (l : List ℕ) × Between s at n l × PredicateLine l k p
-line_is s at k p n h = rw h at (line_here s at)
+pub line_is : (s : List ℕ) (at : ℕ) (r : Read NumberedPredicate) → line_at s at ≡ Some r → (l : List ℕ) × Between s at r.next l × PredicateLine l r.value.number r.value.predicate
+line_is s at r h = rw h at (line_here s at)
 
 -- a place that was taken, by its name
 taking : {P Q : ℕ → Type 0} {B : Type 0} → (n : ℕ) × P n × Q n → ((n : ℕ) → P n → Q n → B) → B
@@ -125,6 +117,7 @@ taking t f = f t.0 t.1 t.2
 
 pub line_taken : {k : ℕ} {p : Predicate} {l : List ℕ} (s : List ℕ) (at : ℕ) (r : List ℕ) → PredicateLine l k p → drop at s ≡ l ++ r
     → (n : ℕ) × (line_at s at ≡ set_line k p n) × (drop n s ≡ r)
+unfolding line_at
 line_taken {k} {p} s at r t e =
     let w : List ℕ = bytes "\n" ++ r in
     let x : List ℕ = bytes " hi=" ++ (t.hi ++ w) in
@@ -136,10 +129,10 @@ line_taken {k} {p} s at r t e =
     (λ b e₂ g₂. taking (end_taken s b x refl (bytes " lo=") (omega arith) g₂ t.from)
     (λ c e₃ g₃. taking (end_taken s c w refl (bytes " hi=") (omega arith) g₃ t.to)
     (λ d e₄ g₄. taking (mark_taken s d r (bytes "\n") (omega arith) g₄)
-    (λ n e₅ g₅. (n, sym (line_set s at k a e₁ p.channel b e₂ t.low c e₃ t.high d e₄ n p.range e₅ t.range), g₅))))))
+    (λ n e₅ g₅. (n, rw (e₁, e₂, e₃, e₄, e₅, ← t.range), g₅))))))
 
 -- a line ends in its only line feed
-end_count : {w : List ℕ} {b : Bound} → EndText w b → count 10 w ≡ 0
+end_count : {w : List ℕ} {b : Option ℤ} → EndText w b → count 10 w ≡ 0
 unfolding count
 end_count star = refl
 end_count (number sg) = signed_count 10 refl refl sg

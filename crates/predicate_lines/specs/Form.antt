@@ -1,6 +1,6 @@
 -- The form of a sheet's predicate lines: `p= ch= lo= hi=`, by rising number, gaps allowed, perhaps none.
 -- Assumes nothing.
-use Rattle.std.specs.Prelude.{ℕ, ◌+◌, ◌≤◌, ◌≡◌, Bool, List, [], ◌∷◌, ◌++◌, set, replicate, ℤ}
+use Rattle.std.specs.Prelude.{ℕ, ◌+◌, ◌≤◌, ◌≡◌, Bool, List, [], ◌∷◌, ◌++◌, Option, Some, None, set, replicate, ℤ}
 use Rattle.text.specs.Bytes.{bytes}
 use Rattle.text.specs.Mark.{prefix_of}
 use Rattle.text.specs.Number.{largest}
@@ -9,20 +9,18 @@ use Rattle.recordings.specs.declared.Predicate.{Predicate}
 use Rattle.recordings.specs.declared.Range.{Range}
 use Rattle.recordings.specs.declared.Range.TheVariants.{Free, AtLeast, AtMost, Between}
 use Rattle.recordings.specs.Card.{unset_predicate}
-use Rattle.predicate_lines.specs.declared.Bound.{Bound}
-use Rattle.predicate_lines.specs.declared.Bound.TheVariants.{Missing, At}
 
 -- the bytes of an end: `*` for a missing one
-pub data EndText : List ℕ → Bound → Type 0 where
-  star : EndText (bytes "*") Missing
-  number : {w : List ℕ} {v : ℤ} → Signed w v → EndText w (At v)
+pub data EndText : List ℕ → Option ℤ → Type 0 where
+  star : EndText (bytes "*") None
+  number : {w : List ℕ} {v : ℤ} → Signed w v → EndText w (Some v)
 
 -- the range that two ends make; without an end it is free
-abbrev pub range_of : Bound → Bound → Range
-range_of Missing Missing = Free
-range_of (At lo) Missing = AtLeast lo
-range_of Missing (At hi) = AtMost hi
-range_of (At lo) (At hi) = Between lo hi
+abbrev pub range_of : Option ℤ → Option ℤ → Range
+range_of None None = Free
+range_of (Some lo) None = AtLeast lo
+range_of None (Some hi) = AtMost hi
+range_of (Some lo) (Some hi) = Between lo hi
 
 -- a predicate's line: its number is 0 to 15
 pub record PredicateLine (line : List ℕ) (number : ℕ) (predicate : Predicate) : Type 0 where
@@ -34,8 +32,8 @@ pub record PredicateLine (line : List ℕ) (number : ℕ) (predicate : Predicate
   pub known : number ≤ 15
   pub channel : Numeral ch predicate.channel
   pub bound : predicate.channel ≤ largest
-  pub low : Bound
-  pub high : Bound
+  pub low : Option ℤ
+  pub high : Option ℤ
   pub from : EndText lo low
   pub to : EndText hi high
   pub range : predicate.range ≡ range_of low high

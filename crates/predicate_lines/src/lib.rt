@@ -1,110 +1,73 @@
 // Reads the predicate lines of a sheet's head, `p= ch= lo= hi=`: by rising number, gaps allowed, perhaps none.
 #![tactic(auto)]
 
-ghost use Rattle.std.specs.Prelude.{◌≡◌, ◌<◌};
-ghost use Rattle.text.specs.Bytes.{bytes};
-ghost use Rattle.text.specs.Mark.{key_at};
+ghost use Rattle.std.specs.Prelude.{◌≡◌};
 ghost use Rattle.predicate_lines.specs.Form.{range_of, unset};
-ghost use Rattle.predicate_lines.specs.Reading.{end_at, line_at, broken_set, stored_in, lines_at};
+ghost use Rattle.predicate_lines.specs.Reading.{end_at, line_at, lines_at};
 
 use recordings::{Predicate, Range};
-use text::{Field, Mark, signed};
+use text::{Field, Read, signed};
 
-// An end of a range; a missing one is written `*`.
-#[derive(Clone, Copy)]
-pub enum Bound {
-    Missing,
-    At(i64),
-}
-
-// An end and the place after it.
-#[derive(Clone, Copy)]
-pub enum End {
-    Read(Bound, usize),
-    Bad,
-}
-
-// A predicate's number, the predicate and the place of the next line.
+// A predicate and its number.
 #[derive(Clone, Copy)]
 pub struct NumberedPredicate {
     pub number: usize,
     pub predicate: Predicate,
-    pub next: usize,
 }
 
-#[derive(Clone, Copy)]
-pub enum Line {
-    Set(NumberedPredicate),
-    Bad,
-}
-
-// The predicates of the lines before a place. Where a line was refused, ok is false and nothing is set.
-#[derive(Clone, Copy)]
-pub struct Predicates {
-    pub ok: bool,
-    pub next: usize,
-    pub all: [Predicate; 16],
-}
-
-fn read_end(s: &[u8], at: usize, key: &[u8]) -> End
+// An end of a range; a missing one is written `*`.
+#[tactic(auto, unfolding(crate::specs::Reading::end_at))]
+fn read_end(s: &[u8], at: usize, key: &[u8]) -> Option<Read<Option<i64>>>
     ensures { result ≡ end_at key.now s.now at }
 {
-    let Mark::Next(start) = text::read_mark(s, at, key) else {
-        return End::Bad;
-    };
-    if let Mark::Next(after) = text::read_mark(s, start, b"*") {
-        return End::Read(Bound::Missing, after);
+    let start = text::read_mark(s, at, key)?;
+    if let Some(next) = text::read_mark(s, start, b"*") {
+        return Some(Read { value: None, next });
     }
-    let signed::Field::Number(value, next) = signed::read_number(s, start) else {
-        return End::Bad;
+    let Field::Number(value, next) = signed::read_number(s, start) else {
+        return None;
     };
-    End::Read(Bound::At(value), next)
+    Some(Read {
+        value: Some(value),
+        next,
+    })
 }
 
-fn range_of(lo: Bound, hi: Bound) -> Range
+fn range_of(lo: Option<i64>, hi: Option<i64>) -> Range
     ensures { result ≡ range_of lo hi }
 {
-    match lo {
-        Bound::Missing => match hi {
-            Bound::Missing => Range::Free,
-            Bound::At(high) => Range::AtMost(high),
-        },
-        Bound::At(low) => match hi {
-            Bound::Missing => Range::AtLeast(low),
-            Bound::At(high) => Range::Between(low, high),
-        },
+    match (lo, hi) {
+        (None, None) => Range::Free,
+        (Some(low), None) => Range::AtLeast(low),
+        (None, Some(high)) => Range::AtMost(high),
+        (Some(low), Some(high)) => Range::Between(low, high),
     }
 }
 
 // The predicate line at a place.
-fn read_line(s: &[u8], at: usize) -> Line
+#[tactic(auto, unfolding(crate::specs::Reading::line_at))]
+fn read_line(s: &[u8], at: usize) -> Option<Read<NumberedPredicate>>
     ensures { result ≡ line_at s.now at }
 {
     let Field::Number(number, channel_at) = text::read_field(s, at, b"p=", 15) else {
-        return Line::Bad;
+        return None;
     };
     let Field::Number(channel, lo_at) = text::read_field(s, channel_at, b" ch=", text::LARGEST)
     else {
-        return Line::Bad;
+        return None;
     };
-    let End::Read(lo, hi_at) = read_end(s, lo_at, b" lo=") else {
-        return Line::Bad;
-    };
-    let End::Read(hi, end) = read_end(s, hi_at, b" hi=") else {
-        return Line::Bad;
-    };
-    let Mark::Next(next) = text::read_mark(s, end, b"\n") else {
-        return Line::Bad;
-    };
+    let lo = read_end(s, lo_at, b" lo=")?;
+    let hi = read_end(s, lo.next, b" hi=")?;
+    let next = text::read_mark(s, hi.next, b"\n")?;
     let predicate = Predicate {
         channel: channel as usize,
-        range: range_of(lo, hi),
+        range: range_of(lo.value, hi.value),
     };
-    Line::Set(NumberedPredicate {
+    let value = NumberedPredicate {
         number: number as usize,
-        predicate: predicate,
-        next: next,
-    })
+        predicate,
+    };
+    Some(Read { value, next })
 }
 
 // No predicate set.
@@ -118,59 +81,22 @@ pub fn unset_predicates() -> [Predicate; 16]
     [none; 16]
 }
 
-fn broken() -> Predicates
-    ensures { result ≡ broken_set }
-{
-    let all = unset_predicates();
-    Predicates {
-        ok: false,
-        next: 0,
-        all: all,
-    }
-}
-
-// One predicate more.
-fn store(ps: Predicates, number: usize, predicate: Predicate, next: usize) -> Predicates
-    requires { number < 16 }
-    ensures { result ≡ stored_in ps number predicate next }
-{
-    let mut all = ps.all;
-    all[number] = predicate;
-    Predicates {
-        ok: true,
-        next: next,
-        all: all,
-    }
-}
-
-// Whether a predicate line is due at a place.
-fn is_due(s: &[u8], at: usize) -> bool
-    ensures { result ≡ key_at (bytes "p=") s.now at }
-{
-    text::key_at(s, at, b"p=")
-}
-
 // The predicates of the lines from a place on. Their numbers rise, so that each stands once and sixteen lines are the most.
-pub fn read_predicates(s: &[u8], at: usize) -> Predicates
+pub fn read_predicates(s: &[u8], at: usize) -> Option<Read<[Predicate; 16]>>
     ensures { result ≡ lines_at s.now at }
 {
-    let none = unset_predicates();
-    let mut ps = Predicates {
-        ok: true,
-        next: at,
-        all: none,
-    };
-    let mut least: usize = 0;
-    while is_due(s, ps.next) {
-        let Line::Set(line) = read_line(s, ps.next) else {
-            return broken();
-        };
-        let number = line.number;
+    let mut all = unset_predicates();
+    let mut next = at;
+    let mut least = 0;
+    while text::key_at(s, next, b"p=") {
+        let line = read_line(s, next)?;
+        let number = line.value.number;
         if number < least {
-            return broken();
+            return None;
         }
         least = number + 1;
-        ps = store(ps, number, line.predicate, line.next);
+        all[number] = line.value.predicate;
+        next = line.next;
     }
-    ps
+    Some(Read { value: all, next })
 }

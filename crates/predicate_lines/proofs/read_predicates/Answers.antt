@@ -1,34 +1,45 @@
 -- `predicate_lines::read_predicates` meets its contract: the lines that are left give what all of them give.
 -- Assumes nothing.
-use mathlib.Core.Path.{sym, ◌∙◌}
-use native.Mathlib.Omega.{arith}
+use Rattle.std.proofs.Common.{◌≡◌, true, Some, None, sym, ◌∙◌, arith}
+use Rattle.text.specs.Bytes.{bytes}
+use Rattle.text.specs.Mark.{key_at}
+use Rattle.predicate_lines.specs.Reading.{line_at}
 use Rattle.predicate_lines.proofs.Rest.{line_known, rest_start, rest_over, rest_bad, rest_below, rest_less, rest_more}
 use Rattle.predicate_lines.proofs.read_predicates.Goals as goal
+use Rattle.predicate_lines.proofs.read_predicates.Goals.{In_ok-line}
 
-pub loop-line-init : goal.loop-line-init
-loop-line-init c = rw c.unset_predicates-none.ensures (rest_start _ _)
+-- a line is due in a turn, and this one was read
+due : (c : In_ok-line) → key_at (bytes "p=") c.args.s.now c.loop-all.next ≡ true
+due c = sym c.key_at.ensures ∙ c.loop-all-test.true
 
-pub returns-in_default : goal.returns-in_default
-returns-in_default c =
-    c.broken.ensures ∙ rest_bad _ _ _ _ c.loop-line.invariant _ (sym c.is_due.ensures ∙ c.loop-line-test.true) c.read_line.ensures c.in_default.is
+read : (c : In_ok-line) → line_at c.args.s.now c.loop-all.next ≡ Some c.in_ok-line.line
+read c = sym c.read_line.ensures ∙ c.in_ok-line.was
+
+pub loop-all-init : goal.loop-all-init
+loop-all-init c = rw c.unset_predicates-all.ensures (rest_start _ _)
+
+pub returns-in_err-line : goal.returns-in_err-line
+returns-in_err-line c =
+    let e : None ≡ _ = rest_bad _ _ _ _ c.loop-all.invariant (sym c.key_at.ensures ∙ c.loop-all-test.true) (sym c.read_line.ensures ∙ c.in_err-line.was) in
+    c.from_residual.ensures ∙ e
 
 pub returns-then-number-least : goal.returns-then-number-least
-returns-then-number-least c =
-    c.broken-then-number-least.ensures ∙ rest_below _ _ _ _ c.loop-line.invariant _ (sym c.is_due.ensures ∙ c.loop-line-test.true) c.read_line.ensures _ c.in-Set.is c.if-number-least.true
+returns-then-number-least c = let d = (goal.at.returns-then-number-least c).In_ok-line in rest_below _ _ _ _ c.loop-all.invariant (due d) _ (read d) c.if-number-least.true
 
 pub overflow_add-least : goal.overflow_add-least
-overflow_add-least c = omega (arith, line_known _ _ _ c.read_line.ensures _ c.in-Set.is)
+overflow_add-least c = omega (arith, line_known _ _ _ (read (goal.at.overflow_add-least c).In_ok-line))
 
-pub store-ps-requires : goal.store-ps-requires
-store-ps-requires c = line_known _ _ _ c.read_line.ensures _ c.in-Set.is
+pub offset_bounds-all-number : goal.offset_bounds-all-number
+offset_bounds-all-number c = omega (arith, line_known _ _ _ (read (goal.at.offset_bounds-all-number c).In_ok-line))
 
-pub loop-line-smaller : goal.loop-line-smaller
-loop-line-smaller c =
-    rest_less _ _ _ _ c.loop-line.invariant _ (sym c.is_due.ensures ∙ c.loop-line-test.true) c.read_line.ensures _ c.in-Set.is c.if-number-least.false
+pub bounds-all-number : goal.bounds-all-number
+bounds-all-number c = line_known _ _ _ (read (goal.at.bounds-all-number c).In_ok-line)
 
-pub loop-line-preserved : goal.loop-line-preserved
-loop-line-preserved c =
-    rest_more _ _ _ _ c.loop-line.invariant _ (sym c.is_due.ensures ∙ c.loop-line-test.true) c.read_line.ensures _ c.in-Set.is c.if-number-least.false _ c.store-ps.ensures
+pub loop-all-smaller : goal.loop-all-smaller
+loop-all-smaller c = let d = (goal.at.loop-all-smaller c).In_ok-line in rest_less _ _ _ _ c.loop-all.invariant (due d) _ (read d) c.if-number-least.false
+
+pub loop-all-preserved : goal.loop-all-preserved
+loop-all-preserved c = let d = (goal.at.loop-all-preserved c).In_ok-line in rest_more _ _ _ _ c.loop-all.invariant (due d) _ (read d) c.if-number-least.false
 
 pub returns : goal.returns
-returns c = rest_over _ _ _ _ c.loop-line.invariant (sym c.is_due.ensures ∙ c.loop-line-test.false)
+returns c = rest_over _ _ _ _ c.loop-all.invariant (sym c.key_at.ensures ∙ c.loop-all-test.false)

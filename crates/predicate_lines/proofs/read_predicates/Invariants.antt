@@ -4,8 +4,8 @@ use Prim.Native.Nat.{◌-◌}
 use Rattle.predicate_lines.proofs.Rest.{Rest}
 use Rattle.predicate_lines.proofs.read_predicates.Given as goal
 
-abbrev pub invariant-loop-line : goal.invariant-loop-line
-invariant-loop-line l = Rest l.s l.at l.least l.ps
+abbrev pub invariant-loop-all : goal.invariant-loop-all
+invariant-loop-all l = Rest l.s l.at l.least (record { value = l.all; next = l.next })
 
-abbrev pub decreases-loop-line : goal.decreases-loop-line
-decreases-loop-line l = 16 - l.least
+abbrev pub decreases-loop-all : goal.decreases-loop-all
+decreases-loop-all l = 16 - l.least
