@@ -17,7 +17,8 @@ use Rattle.numbers.specs.Order.{Within}
 use Rattle.logic.specs.declared.Window.{Window}
 use Rattle.logic.specs.Window.{inside}
 use Rattle.logic.specs.declared.Extremum.{Extremum}
-use Rattle.logic.specs.Formula.{dual, future, Formula, truth, atom, negation, junction, temporal}
+use Rattle.logic.specs.Formula.{dual, Formula, truth, atom, negation, junction, temporal}
+use Rattle.logic.specs.declared.Direction.TheVariants.{Future}
 use Rattle.logic.specs.Reading.{Algebra, Places, offset, extremum, along, read, margins, margin_extreme, margin_nothing}
 use Rattle.logic.proofs.Steps.{same, extremum_step, along_cong}
 use Rattle.logic.proofs.Extremes.{extremes}
@@ -51,15 +52,15 @@ one_more : (c : Card) (e : Extremum) (w : Window) (φ ψ : Formula ℕ) (n : ℕ
 unfolding along_to
 one_more c e w φ ψ n = refl
 
-at_first : (c : Card) (e : Extremum) (w : Window) (φ ψ : Formula ℕ) → margin c (temporal future e w φ ψ) 0 ≡ along_to c e w φ ψ (rows c)
+at_first : (c : Card) (e : Extremum) (w : Window) (φ ψ : Formula ℕ) → margin c (temporal Future e w φ ψ) 0 ≡ along_to c e w φ ψ (rows c)
 unfolding robustness along_to
 at_first c e w φ ψ =
     let n : rows c - 0 ≡ rows c = omega arith in
     let z : (m : ℕ) → 0 + m ≡ m = λ m. omega arith in
-    rw n (along_cong (margins TOP) e w w (offset future (samples c) 0) (λ m. time c m - time c 0) (λ m. margin c φ (0 + m)) (margin c φ) (λ m. margin c ψ (0 + m)) (margin c ψ) (rows c) (λ m h. ap (λ (x : ℕ). inside w (time c x - time c 0)) (z m)) (λ m h. ap (margin c φ) (z m)) (λ m h. ap (margin c ψ) (z m)))
+    rw n (along_cong (margins TOP) e w w (offset Future (samples c) 0) (λ m. time c m - time c 0) (λ m. margin c φ (0 + m)) (margin c φ) (λ m. margin c ψ (0 + m)) (margin c ψ) (rows c) (λ m h. ap (λ (x : ℕ). inside w (time c x - time c 0)) (z m)) (λ m h. ap (margin c φ) (z m)) (λ m h. ap (margin c ψ) (z m)))
 
 -- over no sample it is an extremum over nothing
-pub none_yet : (c : Card) (e : Extremum) (w : Window) (φ ψ : Formula ℕ) → rows c ≡ 0 → margin c (temporal future e w φ ψ) 0 ≡ margin_nothing TOP e
+pub none_yet : (c : Card) (e : Extremum) (w : Window) (φ ψ : Formula ℕ) → rows c ≡ 0 → margin c (temporal Future e w φ ψ) 0 ≡ margin_nothing TOP e
 unfolding along_to
 none_yet c e w φ ψ h = at_first c e w φ ψ ∙ rw h
 
@@ -68,7 +69,7 @@ one_place : (e : Extremum) (here : Bool) (x : ℤ) → Within TOP x → margin_e
 one_place e true x h = rw (nothing_moves TOP (dual e) x h) ((extremes e).commutative (margin_nothing TOP e) x ∙ nothing_moves TOP e x h)
 one_place e false x h = (extremes e).idempotent (margin_nothing TOP e)
 
-pub at_last : (c : Card) (e : Extremum) (w : Window) (φ ψ : Formula ℕ) (i : ℕ) → rows c ≡ suc i → Within TOP (margin c ψ i) → margin c (temporal future e w φ ψ) i ≡ cond (inside w 0) (margin c ψ i) (margin_nothing TOP e)
+pub at_last : (c : Card) (e : Extremum) (w : Window) (φ ψ : Formula ℕ) (i : ℕ) → rows c ≡ suc i → Within TOP (margin c ψ i) → margin c (temporal Future e w φ ψ) i ≡ cond (inside w 0) (margin c ψ i) (margin_nothing TOP e)
 unfolding robustness
 at_last c e w φ ψ i n h =
     let one : rows c - i ≡ 1 = omega arith in
@@ -128,7 +129,7 @@ module _ (c : Card) (r : Row) where
           (λ m h. before ψ hr m h)
 
       -- the operator takes in the new sample where that is in the window of the first
-      pub margin_next : margin (with_row c r) (temporal future e w φ ψ) 0 ≡ margin_extreme e (margin c (temporal future e w φ ψ) 0) (cond (inside w (r.time - time (with_row c r) 0)) (margin_extreme (dual e) (margin (with_row c r) ψ (rows c)) (carried c e φ)) (margin_nothing TOP e))
+      pub margin_next : margin (with_row c r) (temporal Future e w φ ψ) 0 ≡ margin_extreme e (margin c (temporal Future e w φ ψ) 0) (cond (inside w (r.time - time (with_row c r) 0)) (margin_extreme (dual e) (margin (with_row c r) ψ (rows c)) (carried c e φ)) (margin_nothing TOP e))
       margin_next =
           at_first (with_row c r) e w φ ψ
           ∙ rw rows_next (one_more (with_row c r) e w φ ψ (rows c) ∙ rw (time_newest, left_kept, so_far, at_first c e w φ ψ))

@@ -6,7 +6,9 @@ use Prim.Native.Nat.{ℕ, ◌-◌, ◌≤◌}
 use Rattle.logic.specs.Formula.{Formula}
 use Rattle.tables.specs.declared.Node.{Node}
 use Rattle.tables.specs.declared.Table.{Table}
-use Rattle.tables.specs.Kind.{Operator, constant, named, negated, unknown, joined, binary, unary, operator}
+use Rattle.tables.specs.Kind.{operator}
+use Rattle.tables.specs.declared.Operator.{Operator}
+use Rattle.tables.specs.declared.Operator.TheVariants.{Constant, Named, Negated, Unknown, Joined, Binary, Unary}
 use Rattle.tables.specs.Tree.{formula, node_formula, node_at, tree, root}
 use Rattle.tables.specs.Rules.{Use, child, number, unused, left_use, right_use, NodeRules}
 use Rattle.tables.proofs.Rules.{child_before}
@@ -39,13 +41,13 @@ unshared_alike at bt k e = meaning_turned node_tree truth node_tree (λ a. a) at
 -- what a node's tree says, by its operator
 says_by : (o : Operator) (n : Node) → operator n.kind ≡ o → (f : ℕ → Tree) (g : ℕ → Formula ℕ) → ((c : ℕ) → g c ≡ says (f c)) → formula o n g ≡ says (tree_by (left_use o) (right_use o) n f)
 unfolding says
-says_by constant n e f g h = refl
-says_by named n e f g h = refl
-says_by negated n e f g h = rw (e, h n.left)
-says_by unknown n e f g h = refl
-says_by (joined x) n e f g h = rw (e, h n.left, h n.right)
-says_by (binary d x) n e f g h = rw (e, h n.left, h n.right)
-says_by (unary d x) n e f g h = rw (e, h n.left)
+says_by Constant n e f g h = refl
+says_by Named n e f g h = refl
+says_by Negated n e f g h = rw (e, h n.left)
+says_by Unknown n e f g h = refl
+says_by (Joined x) n e f g h = rw (e, h n.left, h n.right)
+says_by (Binary d x) n e f g h = rw (e, h n.left, h n.right)
+says_by (Unary d x) n e f g h = rw (e, h n.left)
 
 pub unshared_says : (ns : List Node) (k : ℕ) → tree ns k ≡ says (unshared (node_at ns) k)
 unfolding tree unshared says

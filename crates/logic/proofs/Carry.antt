@@ -9,7 +9,8 @@ use Rattle.logic.specs.declared.Window.{Window}
 use Rattle.logic.specs.Window.{inside}
 use Rattle.logic.specs.declared.Extremum.{Extremum}
 use Rattle.logic.specs.declared.Extremum.TheVariants.{Largest, Smallest}
-use Rattle.logic.specs.Formula.{Direction, Formula, truth, atom, negation, junction, temporal}
+use Rattle.logic.specs.Formula.{Formula, truth, atom, negation, junction, temporal}
+use Rattle.logic.specs.declared.Direction.{Direction}
 use Rattle.logic.specs.Reading.{Algebra, Places, place, count, offset, along, read, booleans, boolean_extreme}
 use Rattle.logic.specs.Negation.{turn, push}
 use Rattle.logic.specs.Strengthening.{strengthen_window, strengthened}

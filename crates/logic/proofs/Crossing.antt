@@ -8,7 +8,8 @@ use native.Mathlib.Omega.{arith}
 use Rattle.logic.specs.declared.Window.{Window}
 use Rattle.logic.specs.declared.Extremum.{Extremum}
 use Rattle.logic.specs.declared.Extremum.TheVariants.{Largest, Smallest}
-use Rattle.logic.specs.Formula.{Direction, future}
+use Rattle.logic.specs.declared.Direction.{Direction}
+use Rattle.logic.specs.declared.Direction.TheVariants.{Future}
 use Rattle.logic.specs.Reading.{Places, place, count, offset}
 use Rattle.logic.specs.Strengthening.{strengthen_window}
 use Rattle.logic.proofs.Windows.{Near, Spread, contraction_spread, expansion_spread}
@@ -38,7 +39,7 @@ module _ {s b e : ℕ} {F : Places} (D : Dense s b e F) where
     size = F.end - i;
     whole = omega arith;
     at = λ m. F.time (i + m);
-    times = offset future F i;
+    times = offset Future F i;
     counts = λ m k. rw add-zero (omega (arith, ordered i (i + m) h.low (omega arith) (omega arith)));
     rises = λ m k. rw add-suc (D.rises (i + m) (omega arith) (omega arith));
     close = λ m k. rw add-suc (D.close (i + m) (omega arith) (omega arith));
@@ -69,7 +70,7 @@ row d F w i = record { window = w; times = offset d F i; size = count d F i }
 
 -- the place m steps away is one of the places
 stays : (d : Direction) {F : Places} {i : ℕ} (m : ℕ) → In F i → m < count d F i → In F (place d i m)
-stays future m h k = omega arith
+stays Future m h k = omega arith
 
 module _ {s b e : ℕ} {F G : Places} (DF : Dense s b e F) (DG : Dense s b e G) {v w : Window} (sp : Spread s v w) (i t : ℕ) (c : Close s F G i t) where
   starts_near : Near s (F.time (i + 0)) (G.time (t + 0))
@@ -78,8 +79,8 @@ module _ {s b e : ℕ} {F G : Places} (DF : Dense s b e F) (DG : Dense s b e G) 
   -- what window v shows of F from i is met in what w shows of G from t
   crossing : (d : Direction) → Meets (λ m n. Close s F G (place d i m) (place d t n)) (row d F v i) (row d G w t)
   unfolding Meets line_future
-  crossing future m h k =
-      mapped (λ p q a z n. record { here = stays future p c.here (omega arith); there = stays future q c.there z; near = n })
+  crossing Future m h k =
+      mapped (λ p q a z n. record { here = stays Future p c.here (omega arith); there = stays Future q c.there z; near = n })
       (meet (line_future DF i c.here) (line_future DG t c.there) starts_near sp m (omega arith) k)
 
 module _ {s b e : ℕ} {F G : Places} (DF : Dense s b e F) (DG : Dense s b e G) where

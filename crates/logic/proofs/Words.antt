@@ -13,7 +13,8 @@ use Rattle.lists.proofs.Below.{any_at, at_any}
 use Rattle.logic.specs.declared.Window.{Window}
 use Rattle.logic.specs.Window.{inside}
 use Rattle.logic.specs.declared.Extremum.TheVariants.{Smallest}
-use Rattle.logic.specs.Formula.{Formula, truth, negation, until, release, eventually, always, future}
+use Rattle.logic.specs.Formula.{Formula, truth, negation, until, release, eventually, always}
+use Rattle.logic.specs.declared.Direction.TheVariants.{Future}
 use Rattle.logic.specs.Reading.{Places, offset, read, booleans}
 use Rattle.logic.specs.Words.{Ahead, Until, Release, Eventually, Always}
 use Rattle.logic.proofs.Duality.{along_negated, booleans_dual}
@@ -28,18 +29,18 @@ module _ {P : Type 0} (F : Places) (at : P → ℕ → Bool) (w : Window) (i : �
   true_at φ k = read booleans F at φ k
 
   -- step m leads to place i + m
-  ahead_of : (m : ℕ) → m < F.end - i → T (inside w (offset future F i m)) → Ahead F w i (i + m)
+  ahead_of : (m : ℕ) → m < F.end - i → T (inside w (offset Future F i m)) → Ahead F w i (i + m)
   ahead_of m h t = record { not_before = omega arith; in_places = omega arith; in_window = t }
 
   step_to : (j : ℕ) → i ≤ j → i + (j - i) ≡ j
   step_to j h = omega arith
 
-  in_window_of : (j : ℕ) → Ahead F w i j → T (inside w (offset future F i (j - i)))
+  in_window_of : (j : ℕ) → Ahead F w i j → T (inside w (offset Future F i (j - i)))
   in_window_of j a = subst (λ (n : ℕ). T (inside w (F.time n - F.time i))) (sym (step_to j a.not_before)) a.in_window
 
   pub until_says : (l r : Formula P) → T (read booleans F at (until w l r) i) → Until F w (true_at l) (true_at r) i
   until_says l r t =
-      let u : Witness w (offset future F i) (λ m. true_at l (i + m)) (λ m. true_at r (i + m)) (F.end - i) = witness_of t in
+      let u : Witness w (offset Future F i) (λ m. true_at l (i + m)) (λ m. true_at r (i + m)) (F.end - i) = witness_of t in
       record {
         j = i + u.spot;
         ahead = ahead_of u.spot u.in_row u.in_window;
@@ -50,7 +51,7 @@ module _ {P : Type 0} (F : Places) (at : P → ℕ → Bool) (w : Window) (i : �
   pub says_until : (l r : Formula P) → Until F w (true_at l) (true_at r) i → T (read booleans F at (until w l r) i)
   says_until l r u =
       let a = u.ahead in
-      of_witness {w = w} {d = offset future F i} {l = λ m. true_at l (i + m)} {r = λ m. true_at r (i + m)} {n = F.end - i} (record {
+      of_witness {w = w} {d = offset Future F i} {l = λ m. true_at l (i + m)} {r = λ m. true_at r (i + m)} {n = F.end - i} (record {
         spot = u.j - i;
         in_row = omega (arith, a.not_before, a.in_places);
         in_window = in_window_of u.j a;
@@ -60,7 +61,7 @@ module _ {P : Type 0} (F : Places) (at : P → ℕ → Bool) (w : Window) (i : �
 
   -- release is until of the negations, negated
   released : (l r : Formula P) → not (read booleans F at (release w l r) i) ≡ read booleans F at (until w (negation l) (negation r)) i
-  released l r = along_negated booleans_dual Smallest w (offset future F i) (λ m. true_at l (i + m)) (λ m. true_at r (i + m)) (F.end - i)
+  released l r = along_negated booleans_dual Smallest w (offset Future F i) (λ m. true_at l (i + m)) (λ m. true_at r (i + m)) (F.end - i)
 
   pub release_says : (l r : Formula P) → T (read booleans F at (release w l r) i) → Release F w (true_at l) (true_at r) i
   release_says l r t = record { each = each }

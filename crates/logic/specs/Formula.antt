@@ -2,16 +2,14 @@
 -- Assumes nothing.
 use Rattle.logic.specs.declared.Extremum.{Extremum}
 use Rattle.logic.specs.declared.Extremum.TheVariants.{Largest, Smallest}
+use Rattle.logic.specs.declared.Direction.{Direction}
+use Rattle.logic.specs.declared.Direction.TheVariants.{Future}
 use Rattle.logic.specs.declared.Window.{Window}
 
 -- an operator takes the largest of two values ("or", until, eventually) or the smallest ("and", release, always, their duals), as src/ declares it
 abbrev pub dual : Extremum → Extremum
 dual Largest = Smallest
 dual Smallest = Largest
-
--- where a temporal operator looks: at later places
-pub data Direction : Type 0 where
-  future : Direction
 
 pub data Formula (P : Type 0) : Type 0 where
   truth : Formula P
@@ -28,10 +26,10 @@ abbrev pub disjunction : {P : Type 0} → Formula P → Formula P → Formula P
 disjunction l r = junction Largest l r
 
 abbrev pub until : {P : Type 0} → Window → Formula P → Formula P → Formula P
-until w l r = temporal future Largest w l r
+until w l r = temporal Future Largest w l r
 
 abbrev pub release : {P : Type 0} → Window → Formula P → Formula P → Formula P
-release w l r = temporal future Smallest w l r
+release w l r = temporal Future Smallest w l r
 
 -- eventually is until from true, always is release from false
 abbrev pub eventually : {P : Type 0} → Window → Formula P → Formula P

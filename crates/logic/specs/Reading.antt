@@ -8,7 +8,9 @@ use Rattle.logic.specs.declared.Window.{Window}
 use Rattle.logic.specs.Window.{inside}
 use Rattle.logic.specs.declared.Extremum.{Extremum}
 use Rattle.logic.specs.declared.Extremum.TheVariants.{Largest, Smallest}
-use Rattle.logic.specs.Formula.{dual, Direction, future, Formula, truth, atom, negation, junction, temporal}
+use Rattle.logic.specs.Formula.{dual, Formula, truth, atom, negation, junction, temporal}
+use Rattle.logic.specs.declared.Direction.{Direction}
+use Rattle.logic.specs.declared.Direction.TheVariants.{Future}
 
 -- what a requirement is read into: "not", the larger and the smaller of two, and the largest and the smallest over nothing
 pub record Algebra (X : Type 0) : Type 0 where
@@ -24,13 +26,13 @@ pub record Places : Type 0 where
 
 -- from place i on: the place m steps away, how many places there are, and the time between
 abbrev pub place : Direction → ℕ → ℕ → ℕ
-place future i m = i + m
+place Future i m = i + m
 
 abbrev pub count : Direction → Places → ℕ → ℕ
-count future F i = F.end - i
+count Future F i = F.end - i
 
 abbrev pub offset : Direction → Places → ℕ → ℕ → ℕ
-offset future F i m = F.time (i + m) - F.time i
+offset Future F i m = F.time (i + m) - F.time i
 
 module _ {X : Type 0} (A : Algebra X) where
   -- the largest, or the smallest, of the first n

@@ -13,6 +13,12 @@ pub enum Extremum {
     Smallest,
 }
 
+// Where a temporal operator looks: at later places.
+#[derive(Clone, Copy)]
+pub enum Direction {
+    Future,
+}
+
 // The end of a window: none, or the first second past it.
 #[derive(Clone, Copy)]
 pub enum Stop {

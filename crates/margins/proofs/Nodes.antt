@@ -15,7 +15,9 @@ use Rattle.logic.specs.Formula.{Formula}
 use Rattle.recordings.specs.Card.{Card, rows}
 use Rattle.recordings.specs.Margin.{margin, robustness}
 use Rattle.tables.specs.declared.Node.{Node}
-use Rattle.tables.specs.Kind.{Operator, is_not, constant, named, negated, unknown, joined, binary, unary, operator}
+use Rattle.tables.specs.Kind.{is_not, operator}
+use Rattle.tables.specs.declared.Operator.{Operator}
+use Rattle.tables.specs.declared.Operator.TheVariants.{Constant, Named, Negated, Unknown, Joined, Binary, Unary}
 use Rattle.tables.specs.Tree.{window, formula}
 use Rattle.tables.specs.Rules.{NodeRules, left_use, right_use}
 use Rattle.rows.specs.Cells.{cell}
@@ -31,14 +33,14 @@ module _ (c : Card) (w : List ℤ) (k : ℕ) (φ : ℕ → Formula ℕ) (H : Hol
   -- the reading's line for each kind but "not", whose row the margin negates
   value_is : (o : Operator) (n : Node) → is_not o ≡ false → (i : ℕ) → node_value c true (window n) o n (margin c (φ n.left)) (margin c (φ n.right)) i ≡ margin c (formula o n φ) i
   unfolding node_value robustness
-  value_is constant n h i = refl
-  value_is named n h i = refl
-  value_is negated n h i = absurd (subst T h tt)
-  value_is unknown n h i = refl
-  value_is (joined e) n h i = refl
-  value_is (binary d e) n h i = refl
-  value_is (unary d Largest) n h i = refl
-  value_is (unary d Smallest) n h i = refl
+  value_is Constant n h i = refl
+  value_is Named n h i = refl
+  value_is Negated n h i = absurd (subst T h tt)
+  value_is Unknown n h i = refl
+  value_is (Joined e) n h i = refl
+  value_is (Binary d e) n h i = refl
+  value_is (Unary d Largest) n h i = refl
+  value_is (Unary d Smallest) n h i = refl
 
   pub value_filled : (n : Node) {l : List ℤ} → NodeRules n k → is_not (operator n.kind) ≡ false → l ≡ fill (k * rows c) (rows c) (node_value c true (window n) (operator n.kind) n (cell w (rows c) n.left) (cell w (rows c) n.right)) w → l ≡ fill (k * rows c) (rows c) (margin c (formula (operator n.kind) n φ)) w
   value_filled n r h e =
@@ -46,7 +48,7 @@ module _ (c : Card) (w : List ℤ) (k : ℕ) (φ : ℕ → Formula ℕ) (H : Hol
       ∙ fill_cong _ _ _ _ _ (λ i a.
       value_same c true (window n) (operator n.kind) n _ _ _ _ (used_agree (left_use (operator n.kind)) k n.left (rows c) (held n.left) r.left) (used_agree (right_use (operator n.kind)) k n.right (rows c) (held n.right) r.right) i a ∙ value_is (operator n.kind) n h i)
 
-  pub negation_filled : (n : Node) {l : List ℤ} → operator n.kind ≡ negated → n.left < k → l ≡ fill (k * rows c) (rows c) (λ i. neg_ℤ (cell w (rows c) n.left i)) w → l ≡ fill (k * rows c) (rows c) (margin c (formula (operator n.kind) n φ)) w
+  pub negation_filled : (n : Node) {l : List ℤ} → operator n.kind ≡ Negated → n.left < k → l ≡ fill (k * rows c) (rows c) (λ i. neg_ℤ (cell w (rows c) n.left i)) w → l ≡ fill (k * rows c) (rows c) (margin c (formula (operator n.kind) n φ)) w
   unfolding robustness
   negation_filled n {l} o h e =
       subst (λ (x : Operator). l ≡ fill (k * rows c) (rows c) (margin c (formula x n φ)) w) (sym o) (e ∙ fill_cong _ _ _ _ _ (λ i a. ap neg_ℤ (H.holds n.left i h a)))

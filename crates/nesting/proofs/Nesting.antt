@@ -7,7 +7,8 @@ use mir.Facts.{and_yes}
 use Rattle.lists.proofs.Below.{all_at, at_all}
 use Rattle.logic.specs.declared.Extremum.{Extremum}
 use Rattle.logic.specs.declared.Window.{Window}
-use Rattle.logic.specs.Formula.{Direction, Formula, temporal}
+use Rattle.logic.specs.Formula.{Formula, temporal}
+use Rattle.logic.specs.declared.Direction.{Direction}
 use Rattle.tables.specs.declared.Table.{Table}
 use Rattle.tables.specs.Tree.{tree}
 use Rattle.nesting.specs.Nesting.{momentary, unnested, nodes_unnested, Unnested}

@@ -18,7 +18,9 @@ use Rattle.logic.specs.declared.Extremum.TheVariants.{Largest, Smallest}
 use Rattle.logic.specs.Formula.{Formula}
 use Rattle.tables.specs.declared.Node.{Node}
 use Rattle.tables.specs.declared.Table.{Table}
-use Rattle.tables.specs.Kind.{Operator, constant, named, negated, unknown, joined, binary, unary, operator}
+use Rattle.tables.specs.Kind.{operator}
+use Rattle.tables.specs.declared.Operator.{Operator}
+use Rattle.tables.specs.declared.Operator.TheVariants.{Constant, Named, Negated, Unknown, Joined, Binary, Unary}
 use Rattle.tables.specs.Tree.{NODES, formula, node_at, tree}
 use Rattle.tables.specs.Rules.{Used, left_use, right_use, timed, NodeRules, TableRules}
 use Rattle.tables.proofs.Rules.{named_small}
@@ -49,13 +51,13 @@ module _ (ns : List Node) (k : ℕ) (noted : ℕ → Bool) (before : (c : ℕ) �
   below o = in_operands o (noted n.left) (noted n.right)
 
   by_operator : (o : Operator) → Used (left_use o) k n.left → Used (right_use o) k n.right → timed o || below o ≡ lasting (formula o n (tree ns))
-  by_operator constant l r = refl
-  by_operator named l r = refl
-  by_operator negated l r = rw or-false (before n.left l)
-  by_operator unknown l r = refl
-  by_operator (joined e) l r = rw (before n.left l, before n.right r) (one_lasts (momentary (tree ns n.left)) (momentary (tree ns n.right)))
-  by_operator (binary d e) l r = refl
-  by_operator (unary d e) l r = refl
+  by_operator Constant l r = refl
+  by_operator Named l r = refl
+  by_operator Negated l r = rw or-false (before n.left l)
+  by_operator Unknown l r = refl
+  by_operator (Joined e) l r = rw (before n.left l, before n.right r) (one_lasts (momentary (tree ns n.left)) (momentary (tree ns n.right)))
+  by_operator (Binary d e) l r = refl
+  by_operator (Unary d e) l r = refl
 
   lasting_node : NodeRules (node_at ns k) k → timed (operator n.kind) || below (operator n.kind) ≡ lasting (tree ns k)
   lasting_node r = rw (tree_node ns k r) (by_operator (operator n.kind) r.left r.right)
@@ -63,15 +65,15 @@ module _ (ns : List Node) (k : ℕ) (noted : ℕ → Bool) (before : (c : ℕ) �
   -- and no earlier node nests
   module _ (earlier : (c : ℕ) → c < k → T (unnested (tree ns c))) where
     nested_by_operator : (o : Operator) → Used (left_use o) k n.left → Used (right_use o) k n.right → not (timed o && below o) ≡ unnested (formula o n (tree ns))
-    nested_by_operator constant l r = refl
-    nested_by_operator named l r = refl
-    nested_by_operator negated l r = same_test (λ _. earlier n.left l) (λ _. tt)
-    nested_by_operator unknown l r = refl
-    nested_by_operator (joined e) l r =
+    nested_by_operator Constant l r = refl
+    nested_by_operator Named l r = refl
+    nested_by_operator Negated l r = same_test (λ _. earlier n.left l) (λ _. tt)
+    nested_by_operator Unknown l r = refl
+    nested_by_operator (Joined e) l r =
         same_test (λ _. yes_and (unnested (tree ns n.left)) (unnested (tree ns n.right)) (earlier n.left l) (earlier n.right r)) (λ _. tt)
-    nested_by_operator (binary d e) l r = rw (before n.left l, before n.right r) (none_lasts (momentary (tree ns n.left)) (momentary (tree ns n.right)))
-    nested_by_operator (unary d Largest) l r = rw (before n.left l) (alone (momentary (tree ns n.left)))
-    nested_by_operator (unary d Smallest) l r = rw (before n.left l) (alone (momentary (tree ns n.left)))
+    nested_by_operator (Binary d e) l r = rw (before n.left l, before n.right r) (none_lasts (momentary (tree ns n.left)) (momentary (tree ns n.right)))
+    nested_by_operator (Unary d Largest) l r = rw (before n.left l) (alone (momentary (tree ns n.left)))
+    nested_by_operator (Unary d Smallest) l r = rw (before n.left l) (alone (momentary (tree ns n.left)))
 
     unnested_node : NodeRules (node_at ns k) k → not (timed (operator n.kind) && below (operator n.kind)) ≡ unnested (tree ns k)
     unnested_node r = rw (tree_node ns k r) (nested_by_operator (operator n.kind) r.left r.right)

@@ -11,7 +11,8 @@ use Rattle.lists.specs.Fill.{fill}
 use Rattle.logic.specs.declared.Window.{Window}
 use Rattle.logic.specs.declared.Extremum.{Extremum}
 use Rattle.logic.specs.declared.Extremum.TheVariants.{Smallest}
-use Rattle.logic.specs.Formula.{dual, future}
+use Rattle.logic.specs.Formula.{dual}
+use Rattle.logic.specs.declared.Direction.TheVariants.{Future}
 use Rattle.logic.specs.Reading.{margin_extreme, margin_nothing}
 use Rattle.logic.specs.Negation.{turn}
 use Rattle.recordings.specs.Card.{Card, rows, scale, predicate, samples}
@@ -24,7 +25,9 @@ use Rattle.temporal.specs.declared.Left.{Left}
 use Rattle.temporal.specs.Reading.{temporal_at, LeftEarlier}
 use Rattle.temporal.specs.Asks.{TemporalAsks}
 use Rattle.tables.specs.declared.Node.{Node}
-use Rattle.tables.specs.Kind.{Operator, operator, joined, binary, unary, true_kind, predicate_kind, not_kind}
+use Rattle.tables.specs.Kind.{operator, true_kind, predicate_kind, not_kind}
+use Rattle.tables.specs.declared.Operator.{Operator}
+use Rattle.tables.specs.declared.Operator.TheVariants.{Joined, Binary, Unary}
 use Rattle.tables.specs.Rules.{left_use, right_use}
 use Rattle.nodes.specs.Values.{node_value}
 use Rattle.nodes.specs.Asks.{Earlier, NodeAsks}
@@ -70,14 +73,14 @@ module _ (c : Card) (n : Node) (w : Window) (l r : ℕ → ℤ) (base len : ℕ)
   not_arm e h = rw e h
 
   -- the extremum y is what the code makes of the operator's own
-  pub joined_arm : {x y : Extremum} → operator n.kind ≡ joined x → y ≡ turn b x → out ≡ fill base len (λ i. margin_extreme y (l i) (r i)) work → out ≡ fill base len (node_value c b w (operator n.kind) n l r) work
+  pub joined_arm : {x y : Extremum} → operator n.kind ≡ Joined x → y ≡ turn b x → out ≡ fill base len (λ i. margin_extreme y (l i) (r i)) work → out ≡ fill base len (node_value c b w (operator n.kind) n l r) work
   unfolding node_value
   joined_arm o t h = rw o (rw t at h)
 
-  pub binary_arm : {x y : Extremum} → operator n.kind ≡ binary future x → y ≡ turn b x → out ≡ fill base len (temporal_at future y w (samples c) l r) work → out ≡ fill base len (node_value c b w (operator n.kind) n l r) work
+  pub binary_arm : {x y : Extremum} → operator n.kind ≡ Binary Future x → y ≡ turn b x → out ≡ fill base len (temporal_at Future y w (samples c) l r) work → out ≡ fill base len (node_value c b w (operator n.kind) n l r) work
   unfolding node_value
   binary_arm o t h = rw o (rw t at h)
 
-  pub unary_arm : {x y : Extremum} → operator n.kind ≡ unary future x → y ≡ turn b x → out ≡ fill base len (temporal_at future y w (samples c) (λ m. margin_nothing TOP (dual y)) l) work → out ≡ fill base len (node_value c b w (operator n.kind) n l r) work
+  pub unary_arm : {x y : Extremum} → operator n.kind ≡ Unary Future x → y ≡ turn b x → out ≡ fill base len (temporal_at Future y w (samples c) (λ m. margin_nothing TOP (dual y)) l) work → out ≡ fill base len (node_value c b w (operator n.kind) n l r) work
   unfolding node_value
   unary_arm o t h = rw o (rw t at h)

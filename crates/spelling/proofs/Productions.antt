@@ -12,7 +12,8 @@ use lib.Dec.{T, eqb, eqb→eq}
 use borrow.Author.Tests.{ne_eqb}
 use mir.Facts.{or_yes}
 use Rattle.text.proofs.Tests.{by_test}
-use Rattle.tables.specs.Kind.{Operator, operator, not_kind, and_kind, or_kind}
+use Rattle.tables.specs.Kind.{operator, not_kind, and_kind, or_kind}
+use Rattle.tables.specs.declared.Operator.{Operator}
 use Rattle.tables.specs.Rules.{child, unused, is_child, left_use, right_use, timed, WindowRules, EndsRules}
 use Rattle.tables.proofs.EveryKind.{known_kind, every_kind}
 use Rattle.tables.specs.declared.Span.{Span}

@@ -4,7 +4,9 @@ use Rattle.std.specs.Prelude.{ℕ, Bool, true, false, cond, List, [], ◌++◌, 
 use Rattle.logic.specs.declared.Extremum.TheVariants.{Largest, Smallest}
 use Rattle.text.specs.Bytes.{bytes}
 use Rattle.printing.specs.Decimal.{decimal}
-use Rattle.tables.specs.Kind.{Operator, constant, named, negated, unknown, joined, binary, unary as single, operator, true_kind, predicate_kind}
+use Rattle.tables.specs.Kind.{operator, true_kind, predicate_kind}
+use Rattle.tables.specs.declared.Operator.{Operator}
+use Rattle.tables.specs.declared.Operator.TheVariants.{Constant, Named, Negated, Unknown, Joined, Binary, Unary}
 use Rattle.tables.specs.Rules.{timed}
 use Rattle.tables.specs.Tree.{NO_END}
 use Rattle.tables.specs.declared.Span.{Span}
@@ -17,14 +19,14 @@ use Rattle.grammar.specs.Tree.{opens, closes, Tree, truth, predicate, one, two}
 
 -- which part of the grammar an operator makes: "or" an alternative, "and" a conjunction, until and release a bind, all else a unary
 abbrev pub operator_part : Operator → Part
-operator_part constant = unary
-operator_part named = unary
-operator_part negated = unary
-operator_part unknown = unary
-operator_part (joined Largest) = alternative
-operator_part (joined Smallest) = conjunction
-operator_part (binary d e) = bind
-operator_part (single d e) = unary
+operator_part Constant = unary
+operator_part Named = unary
+operator_part Negated = unary
+operator_part Unknown = unary
+operator_part (Joined Largest) = alternative
+operator_part (Joined Smallest) = conjunction
+operator_part (Binary d e) = bind
+operator_part (Unary d e) = unary
 
 abbrev pub part_of : ℕ → Part
 part_of k = operator_part (operator k)

@@ -10,7 +10,9 @@ use lib.ListN.{length, get_or, length-append, get_or-append, get_or-map}
 use lib.Seq.{get_or_at}
 use Rattle.logic.specs.Formula.{Formula, truth, negation}
 use Rattle.tables.specs.declared.Node.{Node}
-use Rattle.tables.specs.Kind.{Operator, constant, named, negated, unknown, joined, binary, unary, operator}
+use Rattle.tables.specs.Kind.{operator}
+use Rattle.tables.specs.declared.Operator.{Operator}
+use Rattle.tables.specs.declared.Operator.TheVariants.{Constant, Named, Negated, Unknown, Joined, Binary, Unary}
 use Rattle.tables.specs.Tree.{formula, node_formula, node_at, meanings, meaning, tree}
 use Rattle.tables.specs.Rules.{Used, left_use, right_use, NodeRules}
 
@@ -61,13 +63,13 @@ module _ {A B : Type 0} (of : Node → (ℕ → A) → A) (none : A) (of' : Node
 
 -- a node asks for nothing but its children
 pub formula_same : (o : Operator) (n : Node) (k : ℕ) {f g : ℕ → Formula ℕ} → Used (left_use o) k n.left → Used (right_use o) k n.right → ((c : ℕ) → c < k → f c ≡ g c) → formula o n f ≡ formula o n g
-formula_same constant n k l r h = refl
-formula_same named n k l r h = refl
-formula_same negated n k l r h = ap negation (h n.left l)
-formula_same unknown n k l r h = refl
-formula_same (joined e) n k l r h = rw (h n.left l, h n.right r)
-formula_same (binary d e) n k l r h = rw (h n.left l, h n.right r)
-formula_same (unary d e) n k l r h = rw (h n.left l)
+formula_same Constant n k l r h = refl
+formula_same Named n k l r h = refl
+formula_same Negated n k l r h = ap negation (h n.left l)
+formula_same Unknown n k l r h = refl
+formula_same (Joined e) n k l r h = rw (h n.left l, h n.right r)
+formula_same (Binary d e) n k l r h = rw (h n.left l, h n.right r)
+formula_same (Unary d e) n k l r h = rw (h n.left l)
 
 -- the requirement of a node that obeys the table's rules: its kind over the requirements of its children
 pub tree_node : (ns : List Node) (k : ℕ) → NodeRules (node_at ns k) k → tree ns k ≡ formula (operator (node_at ns k).kind) (node_at ns k) (tree ns)

@@ -19,7 +19,9 @@ use Rattle.logic.specs.Formula.{Formula, truth, negation}
 use Rattle.tables.specs.declared.Span.{Span}
 use Rattle.tables.specs.declared.Node.{Node}
 use Rattle.tables.specs.declared.Table.{Table}
-use Rattle.tables.specs.Kind.{Operator, constant, named, negated, unknown, joined, binary, unary, operator}
+use Rattle.tables.specs.Kind.{operator}
+use Rattle.tables.specs.declared.Operator.{Operator}
+use Rattle.tables.specs.declared.Operator.TheVariants.{Constant, Named, Negated, Unknown, Joined, Binary, Unary}
 use Rattle.tables.specs.Tree.{LONGEST, NO_END, marked, no_span, as_read, formula, node_formula, node_at, tree, root}
 use Rattle.tables.specs.Rules.{timed, in_limits, WindowRules, TableRules}
 use Rattle.tables.specs.Closed.{closed_span, closed_node, closed_table}
@@ -70,13 +72,13 @@ closed_read w r = elim r.high [
 
 -- a node means what it means with its window closed, over the same children
 pub closed_formula : (o : Operator) (n : Node) {f g : ℕ → Formula ℕ} → WindowRules n.span → ((c : ℕ) → g c ≡ f c) → formula o (closed_node n) g ≡ formula o n f
-closed_formula constant n r h = refl
-closed_formula named n r h = refl
-closed_formula negated n r h = ap negation (h n.left)
-closed_formula unknown n r h = refl
-closed_formula (joined e) n r h = rw (h n.left, h n.right)
-closed_formula (binary d e) n r h = rw (closed_read n.span r, h n.left, h n.right)
-closed_formula (unary d e) n r h = rw (closed_read n.span r, h n.left)
+closed_formula Constant n r h = refl
+closed_formula Named n r h = refl
+closed_formula Negated n r h = ap negation (h n.left)
+closed_formula Unknown n r h = refl
+closed_formula (Joined e) n r h = rw (h n.left, h n.right)
+closed_formula (Binary d e) n r h = rw (closed_read n.span r, h n.left, h n.right)
+closed_formula (Unary d e) n r h = rw (closed_read n.span r, h n.left)
 
 closed_at : (ns : List Node) (k : ℕ) → node_at (map closed_node ns) k ≡ closed_node (node_at ns k)
 closed_at ns k = get_or-map closed_node ns k (record { kind = 0; left = 0; right = 0; span = no_span })

@@ -3,50 +3,45 @@
 use Rattle.std.specs.Prelude.{Bool, true, false, List, [], ◌∷◌, ℕ, get_or}
 use Rattle.logic.specs.declared.Extremum.{Extremum}
 use Rattle.logic.specs.declared.Extremum.TheVariants.{Largest, Smallest}
-use Rattle.logic.specs.Formula.{Direction, future}
-
--- what a kind asks for: nothing, a predicate's number, one operand, two; the temporal ones a window too
-pub data Operator : Type 0 where
-  constant named negated unknown : Operator
-  joined : Extremum → Operator
-  binary : Direction → Extremum → Operator
-  unary : Direction → Extremum → Operator
+use Rattle.logic.specs.declared.Direction.TheVariants.{Future}
+use Rattle.tables.specs.declared.Operator.{Operator}
+use Rattle.tables.specs.declared.Operator.TheVariants.{Constant, Named, Negated, Unknown, Joined, Binary, Unary}
 
 -- 0 true, 1 predicate, 2 not, 3 and, 4 or, 5 until, 6 release, 7 eventually, 8 always
 abbrev pub kinds : List Operator
 kinds =
-    constant
-    ∷ named
-    ∷ negated
-    ∷ joined Smallest
-    ∷ joined Largest
-    ∷ binary future Largest
-    ∷ binary future Smallest
-    ∷ unary future Largest
-    ∷ unary future Smallest
+    Constant
+    ∷ Named
+    ∷ Negated
+    ∷ Joined Smallest
+    ∷ Joined Largest
+    ∷ Binary Future Largest
+    ∷ Binary Future Smallest
+    ∷ Unary Future Largest
+    ∷ Unary Future Smallest
     ∷ []
 
 abbrev pub operator : ℕ → Operator
-operator kind = get_or kinds kind unknown
+operator kind = get_or kinds kind Unknown
 
 -- the extremum that an operator takes; the others take none
 abbrev pub operator_extremum : Operator → Extremum
-operator_extremum constant = Smallest
-operator_extremum named = Smallest
-operator_extremum negated = Smallest
-operator_extremum unknown = Smallest
-operator_extremum (joined e) = e
-operator_extremum (binary d e) = e
-operator_extremum (unary d e) = e
+operator_extremum Constant = Smallest
+operator_extremum Named = Smallest
+operator_extremum Negated = Smallest
+operator_extremum Unknown = Smallest
+operator_extremum (Joined e) = e
+operator_extremum (Binary d e) = e
+operator_extremum (Unary d e) = e
 
 abbrev pub is_not : Operator → Bool
-is_not constant = false
-is_not named = false
-is_not negated = true
-is_not unknown = false
-is_not (joined e) = false
-is_not (binary d e) = false
-is_not (unary d e) = false
+is_not Constant = false
+is_not Named = false
+is_not Negated = true
+is_not Unknown = false
+is_not (Joined e) = false
+is_not (Binary d e) = false
+is_not (Unary d e) = false
 
 -- the kinds by their names
 abbrev pub true_kind : ℕ

@@ -5,7 +5,9 @@ use Rattle.lists.specs.Fold.{all_below}
 use Rattle.tables.specs.declared.Span.{Span}
 use Rattle.tables.specs.declared.Node.{Node}
 use Rattle.tables.specs.declared.Table.{Table}
-use Rattle.tables.specs.Kind.{Operator, constant, named, negated, unknown, joined, binary, unary, kinds, operator}
+use Rattle.tables.specs.Kind.{kinds, operator}
+use Rattle.tables.specs.declared.Operator.{Operator}
+use Rattle.tables.specs.declared.Operator.TheVariants.{Constant, Named, Negated, Unknown, Joined, Binary, Unary}
 use Rattle.tables.specs.Tree.{NODES, LONGEST, NO_END, no_span, node_at}
 
 -- what a node's left or right number is: a child, a predicate's number, or unused
@@ -13,22 +15,22 @@ pub data Use : Type 0 where
   child number unused : Use
 
 abbrev pub left_use : Operator → Use
-left_use constant = unused
-left_use named = number
-left_use negated = child
-left_use unknown = unused
-left_use (joined e) = child
-left_use (binary d e) = child
-left_use (unary d e) = child
+left_use Constant = unused
+left_use Named = number
+left_use Negated = child
+left_use Unknown = unused
+left_use (Joined e) = child
+left_use (Binary d e) = child
+left_use (Unary d e) = child
 
 abbrev pub right_use : Operator → Use
-right_use constant = unused
-right_use named = unused
-right_use negated = unused
-right_use unknown = unused
-right_use (joined e) = child
-right_use (binary d e) = child
-right_use (unary d e) = unused
+right_use Constant = unused
+right_use Named = unused
+right_use Negated = unused
+right_use Unknown = unused
+right_use (Joined e) = child
+right_use (Binary d e) = child
+right_use (Unary d e) = unused
 
 abbrev pub is_child : Use → Bool
 is_child child = true
@@ -37,13 +39,13 @@ is_child unused = false
 
 -- the temporal operators alone have a window
 abbrev pub timed : Operator → Bool
-timed constant = false
-timed named = false
-timed negated = false
-timed unknown = false
-timed (joined e) = false
-timed (binary d e) = true
-timed (unary d e) = true
+timed Constant = false
+timed Named = false
+timed Negated = false
+timed Unknown = false
+timed (Joined e) = false
+timed (Binary d e) = true
+timed (Unary d e) = true
 
 -- children of node k are earlier nodes; predicates are numbered 0 to 15; unused numbers are 0
 abbrev pub use_obeys : Use → ℕ → ℕ → Bool

@@ -9,7 +9,9 @@ use Rattle.logic.specs.Formula.{Formula, truth, atom, negation, junction, tempor
 use Rattle.tables.specs.declared.Span.{Span}
 use Rattle.tables.specs.declared.Node.{Node}
 use Rattle.tables.specs.declared.Table.{Table}
-use Rattle.tables.specs.Kind.{Operator, constant, named, negated, unknown, joined, binary, unary, operator}
+use Rattle.tables.specs.Kind.{operator}
+use Rattle.tables.specs.declared.Operator.{Operator}
+use Rattle.tables.specs.declared.Operator.TheVariants.{Constant, Named, Negated, Unknown, Joined, Binary, Unary}
 
 -- a table has up to so many nodes
 abbrev pub NODES : ℕ
@@ -46,13 +48,13 @@ unary_left Smallest = negation truth
 
 -- a node over the requirements of earlier nodes
 abbrev pub formula : Operator → Node → (ℕ → Formula ℕ) → Formula ℕ
-formula constant n child = truth
-formula named n child = atom n.left
-formula negated n child = negation (child n.left)
-formula unknown n child = truth
-formula (joined e) n child = junction e (child n.left) (child n.right)
-formula (binary d e) n child = temporal d e (window n) (child n.left) (child n.right)
-formula (unary d e) n child = temporal d e (window n) (unary_left e) (child n.left)
+formula Constant n child = truth
+formula Named n child = atom n.left
+formula Negated n child = negation (child n.left)
+formula Unknown n child = truth
+formula (Joined e) n child = junction e (child n.left) (child n.right)
+formula (Binary d e) n child = temporal d e (window n) (child n.left) (child n.right)
+formula (Unary d e) n child = temporal d e (window n) (unary_left e) (child n.left)
 
 abbrev pub node_at : List Node → ℕ → Node
 node_at ns k = get_or ns k (record { kind = 0; left = 0; right = 0; span = no_span })

@@ -7,7 +7,7 @@ ghost use Rattle.tables.specs.Kind.{operator, operator_extremum};
 ghost use Rattle.tables.specs.Tree.{NODES, no_span};
 ghost use Rattle.tables.specs.Rules.{is_child, left_use, right_use, timed, use_obeys, in_limits, window_obeys, is_blank, ends_obey, node_obeys, nodes_obey, table_obeys};
 
-use logic::Extremum;
+use logic::{Direction, Extremum};
 
 // The kinds of nodes; the definitions have them in specs/Kind.antt.
 pub const TRUE: u64 = 0;
@@ -77,35 +77,76 @@ pub fn no_span() -> Span
     }
 }
 
+// What a kind asks for: nothing, a predicate's number, one operand, two; the temporal ones a window too.
+#[derive(Clone, Copy)]
+pub enum Operator {
+    Constant,
+    Named,
+    Negated,
+    Unknown,
+    Joined(Extremum),
+    Binary(Direction, Extremum),
+    Unary(Direction, Extremum),
+}
+
+// A number that is no kind's is unknown.
+impl From<u64> for Operator {
+    ghost from_gives = { λ kind result. result ≡ operator kind };
+
+    fn from(kind: u64) -> Operator {
+        match kind {
+            TRUE => Operator::Constant,
+            PREDICATE => Operator::Named,
+            NOT => Operator::Negated,
+            AND => Operator::Joined(Extremum::Smallest),
+            OR => Operator::Joined(Extremum::Largest),
+            UNTIL => Operator::Binary(Direction::Future, Extremum::Largest),
+            RELEASE => Operator::Binary(Direction::Future, Extremum::Smallest),
+            EVENTUALLY => Operator::Unary(Direction::Future, Extremum::Largest),
+            ALWAYS => Operator::Unary(Direction::Future, Extremum::Smallest),
+            _ => Operator::Unknown,
+        }
+    }
+}
+
 // Whether a kind's left number is a child.
 pub fn has_left(kind: u64) -> bool
     ensures { result ≡ is_child (left_use (operator kind)) }
 {
-    (NOT <= kind) & (kind <= ALWAYS)
+    matches!(
+        Operator::from(kind),
+        Operator::Negated | Operator::Joined(_) | Operator::Binary(_, _) | Operator::Unary(_, _)
+    )
 }
 
 // Whether its right number is.
 pub fn has_right(kind: u64) -> bool
     ensures { result ≡ is_child (right_use (operator kind)) }
 {
-    (AND <= kind) & (kind <= RELEASE)
+    matches!(
+        Operator::from(kind),
+        Operator::Joined(_) | Operator::Binary(_, _)
+    )
 }
 
 // Whether it has a window.
 pub fn is_timed(kind: u64) -> bool
     ensures { result ≡ timed (operator kind) }
 {
-    (UNTIL <= kind) & (kind <= ALWAYS)
+    matches!(
+        Operator::from(kind),
+        Operator::Binary(_, _) | Operator::Unary(_, _)
+    )
 }
 
 // The extremum that it takes, if it takes one.
 pub fn extremum_of(kind: u64) -> Extremum
     ensures { result ≡ operator_extremum (operator kind) }
 {
-    if (kind == OR) | ((kind == UNTIL) | (kind == EVENTUALLY)) {
-        Extremum::Largest
-    } else {
-        Extremum::Smallest
+    match Operator::from(kind) {
+        Operator::Joined(e) | Operator::Binary(_, e) | Operator::Unary(_, e) => e,
+        Operator::Constant | Operator::Named | Operator::Negated | Operator::Unknown =>
+            Extremum::Smallest,
     }
 }
 
@@ -113,22 +154,22 @@ pub fn extremum_of(kind: u64) -> Extremum
 fn left_obeys(kind: u64, left: usize, k: usize) -> bool
     ensures { result ≡ use_obeys (left_use (operator kind)) k left }
 {
-    if kind == PREDICATE {
-        return left <= 15;
+    match Operator::from(kind) {
+        Operator::Constant | Operator::Unknown => left == 0,
+        Operator::Named => left <= 15,
+        Operator::Negated | Operator::Joined(_) | Operator::Binary(_, _) | Operator::Unary(_, _) =>
+            left < k,
     }
-    if has_left(kind) {
-        return left < k;
-    }
-    left == 0
 }
 
 fn right_obeys(kind: u64, right: usize, k: usize) -> bool
     ensures { result ≡ use_obeys (right_use (operator kind)) k right }
 {
     if has_right(kind) {
-        return right < k;
+        right < k
+    } else {
+        right == 0
     }
-    right == 0
 }
 
 // Whether a window's low end and its marks are within their limits.
@@ -145,13 +186,11 @@ pub fn window_obeys(w: Span) -> bool
     if !in_limits(w) {
         return false;
     }
-    let lo = w.lo;
-    let hi = w.hi;
-    if hi == NO_END {
+    if w.hi == NO_END {
         return w.openhi == 0;
     }
-    let least = lo + w.openlo + w.openhi;
-    (hi <= LONGEST) & (least <= hi)
+    let least = w.lo + w.openlo + w.openhi;
+    (w.hi <= LONGEST) & (least <= w.hi)
 }
 
 fn is_blank(w: Span) -> bool
@@ -164,9 +203,10 @@ fn ends_obey(kind: u64, w: Span) -> bool
     ensures { result ≡ ends_obey (timed (operator kind)) w }
 {
     if is_timed(kind) {
-        return window_obeys(w);
+        window_obeys(w)
+    } else {
+        is_blank(w)
     }
-    is_blank(w)
 }
 
 // Whether a node may stand at place k.
@@ -184,19 +224,5 @@ pub fn table_obeys(table: Table) -> bool
     ensures { result ≡ table_obeys table }
 {
     let count = table.count;
-    if count == 0 {
-        return false;
-    }
-    if NODES < count {
-        return false;
-    }
-    let mut each = true;
-    let mut k = 0;
-    while k < count {
-        let node = table.nodes[k];
-        let obeys = node_obeys(node, k);
-        each = each & obeys;
-        k += 1;
-    }
-    each
+    count <= NODES && 1 <= count && (0..count).all(|k| node_obeys(table.nodes[k], k))
 }

@@ -13,7 +13,8 @@ use Rattle.lists.proofs.Reused.{Reused, reused_none, reused_before, reused_all}
 use Rattle.logic.specs.declared.Stop.TheVariants.{Before}
 use Rattle.logic.specs.declared.Window.{Window}
 use Rattle.logic.specs.declared.Extremum.{Extremum}
-use Rattle.logic.specs.Formula.{dual, future}
+use Rattle.logic.specs.Formula.{dual}
+use Rattle.logic.specs.declared.Direction.TheVariants.{Future}
 use Rattle.rows.specs.Cells.{cell}
 use Rattle.sliding.specs.declared.SlidingExtremum.{SlidingExtremum}
 use Rattle.sliding.specs.Run.{at_start}
@@ -38,7 +39,7 @@ left_kept x Absent w l n row kept h i q = refl
 module _ (x : Extremum) (v : Window) (times : List ℕ) (left : Left) (right row : ℕ) (w : List ℤ) where
   -- the row's values
   abbrev pub value : ℕ → ℤ
-  value = temporal_at future x v (places times) (left_at x w (length times) left) (cell w (length times) right)
+  value = temporal_at Future x v (places times) (left_at x w (length times) left) (cell w (length times) right)
 
   -- before place i: the places before it are filled, the edges are those of the place before, and so is what slides along
   pub record SoFar (l : List ℤ) (s : SlidingExtremum) (first end i : ℕ) : Type 0 where

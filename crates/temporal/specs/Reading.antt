@@ -3,7 +3,8 @@
 use Rattle.std.specs.Prelude.{List, ℕ, suc, ◌+◌, ◌*◌, ◌≤◌, ◌<◌, ℤ, length, get_or}
 use Rattle.logic.specs.declared.Window.{Window}
 use Rattle.logic.specs.declared.Extremum.{Extremum}
-use Rattle.logic.specs.Formula.{dual, Direction}
+use Rattle.logic.specs.Formula.{dual}
+use Rattle.logic.specs.declared.Direction.{Direction}
 use Rattle.logic.specs.Reading.{Places, place, count, offset, along, margins, margin_nothing}
 use Rattle.recordings.specs.Distance.{TOP}
 use Rattle.rows.specs.Cells.{cell}

@@ -6,7 +6,8 @@
 ghost use Rattle.std.specs.Prelude.{◌≡◌, true, ◌+◌, ◌*◌, ◌-◌, ◌≤◌, ◌<◌, max, length};
 ghost use Rattle.lists.specs.Fill.{fill};
 ghost use Rattle.logic.specs.declared.Stop.TheVariants.{Before};
-ghost use Rattle.logic.specs.Formula.{dual, future};
+ghost use Rattle.logic.specs.Formula.{dual};
+ghost use Rattle.logic.specs.declared.Direction.TheVariants.{Future};
 ghost use Rattle.logic.specs.Reading.{along, margins, margin_extreme};
 ghost use Rattle.recordings.specs.Distance.{TOP};
 ghost use Rattle.rows.specs.Cells.{cell, Bounded};
@@ -167,7 +168,7 @@ pub fn temporal_row(
     row: usize,
 )
     requires { TemporalAsks work.old times.now left right row }
-    ensures { work.new ≡ fill (row * length times.now) (length times.now) (temporal_at future e window (places times.now) (left_at e work.old (length times.now) left) (cell work.old (length times.now) right)) work.old }
+    ensures { work.new ≡ fill (row * length times.now) (length times.now) (temporal_at Future e window (places times.now) (left_at e work.old (length times.now) left) (cell work.old (length times.now) right)) work.old }
 {
     let rows = times.len();
     let base = row * rows;

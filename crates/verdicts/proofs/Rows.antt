@@ -15,7 +15,8 @@ use Rattle.lists.proofs.Filled.{earlier_row, fill_cong, length_rows, rows_in}
 use Rattle.rows.specs.Cells.{cell, Bounded}
 use Rattle.tables.specs.declared.Node.{Node}
 use Rattle.tables.specs.declared.Table.{Table}
-use Rattle.tables.specs.Kind.{Operator, operator}
+use Rattle.tables.specs.Kind.{operator}
+use Rattle.tables.specs.declared.Operator.{Operator}
 use Rattle.tables.specs.Tree.{NODES, node_at}
 use Rattle.tables.specs.Rules.{left_use, right_use, NodeRules}
 use Rattle.tables.proofs.Rules.{named_small}

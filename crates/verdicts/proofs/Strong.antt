@@ -14,7 +14,9 @@ use Rattle.recordings.specs.Margin.{robustness, margin}
 use Rattle.recordings.specs.Accepted.{Recorded}
 use Rattle.recordings.proofs.Margins.{measured, margin_bounded}
 use Rattle.tables.specs.declared.Node.{Node}
-use Rattle.tables.specs.Kind.{Operator, constant, named, negated, unknown, joined, binary, unary, operator}
+use Rattle.tables.specs.Kind.{operator}
+use Rattle.tables.specs.declared.Operator.{Operator}
+use Rattle.tables.specs.declared.Operator.TheVariants.{Constant, Named, Negated, Unknown, Joined, Binary, Unary}
 use Rattle.tables.specs.Tree.{formula, node_at, tree}
 use Rattle.tables.specs.Rules.{NodeRules}
 use Rattle.tables.proofs.Trees.{tree_node}
@@ -26,19 +28,19 @@ module _ (c : Card) (step : ℕ) where
   -- a node over any requirements of its children
   by_kind : (o : Operator) (b : Bool) (n : Node) (sub : ℕ → Formula ℕ) (i : ℕ) → margin c (strengthened step b (formula o n sub)) i ≡ node_value c b (strong_window b step o n) o n (margin c (strengthened step (left_sign b o) (sub n.left))) (margin c (strengthened step b (sub n.right))) i
   unfolding robustness node_value
-  by_kind constant true n sub i = refl
-  by_kind constant false n sub i = refl
-  by_kind named true n sub i = refl
-  by_kind named false n sub i = refl
-  by_kind negated b n sub i = refl
-  by_kind unknown true n sub i = refl
-  by_kind unknown false n sub i = refl
-  by_kind (joined e) b n sub i = refl
-  by_kind (binary d e) b n sub i = refl
-  by_kind (unary d Largest) true n sub i = refl
-  by_kind (unary d Largest) false n sub i = refl
-  by_kind (unary d Smallest) true n sub i = refl
-  by_kind (unary d Smallest) false n sub i = refl
+  by_kind Constant true n sub i = refl
+  by_kind Constant false n sub i = refl
+  by_kind Named true n sub i = refl
+  by_kind Named false n sub i = refl
+  by_kind Negated b n sub i = refl
+  by_kind Unknown true n sub i = refl
+  by_kind Unknown false n sub i = refl
+  by_kind (Joined e) b n sub i = refl
+  by_kind (Binary d e) b n sub i = refl
+  by_kind (Unary d Largest) true n sub i = refl
+  by_kind (Unary d Largest) false n sub i = refl
+  by_kind (Unary d Smallest) true n sub i = refl
+  by_kind (Unary d Smallest) false n sub i = refl
 
   pub strong_node : (ns : List Node) (b : Bool) (k : ℕ) → NodeRules (node_at ns k) k → (i : ℕ) → strong c step ns b k i ≡ node_value c b (strong_window b step (operator (node_at ns k).kind) (node_at ns k)) (operator (node_at ns k).kind) (node_at ns k) (strong c step ns (left_sign b (operator (node_at ns k).kind)) (node_at ns k).left) (strong c step ns b (node_at ns k).right) i
   unfolding strong

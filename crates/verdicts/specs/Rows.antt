@@ -10,7 +10,8 @@ use Rattle.lists.specs.Fill.{fill}
 use Rattle.rows.specs.Cells.{cell}
 use Rattle.tables.specs.declared.Node.{Node}
 use Rattle.tables.specs.declared.Table.{Table}
-use Rattle.tables.specs.Kind.{Operator, operator_extremum, is_not}
+use Rattle.tables.specs.Kind.{operator_extremum, is_not}
+use Rattle.tables.specs.declared.Operator.{Operator}
 use Rattle.tables.specs.Tree.{window, node_at}
 use Rattle.rules.specs.Refusals.{Sound}
 use Rattle.verdicts.specs.Cells.{row_value}

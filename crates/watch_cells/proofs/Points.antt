@@ -20,12 +20,14 @@ use Rattle.lists.proofs.Below.{same_test}
 use Rattle.logic.specs.declared.Stop.TheVariants.{Endless, Before}
 use Rattle.logic.specs.Window.{reaches, inside}
 use Rattle.logic.specs.declared.Extremum.{Extremum}
-use Rattle.logic.specs.Formula.{dual, future}
+use Rattle.logic.specs.Formula.{dual}
+use Rattle.logic.specs.declared.Direction.TheVariants.{Future}
 use Rattle.logic.specs.Reading.{margin_nothing}
 use Rattle.recordings.specs.declared.Range.{Range}
 use Rattle.recordings.specs.Distance.{TOP, scaled_distance}
 use Rattle.tables.specs.declared.Node.{Node}
-use Rattle.tables.specs.Kind.{binary, unary, kinds, operator, predicate_kind}
+use Rattle.tables.specs.Kind.{kinds, operator, predicate_kind}
+use Rattle.tables.specs.declared.Operator.TheVariants.{Binary, Unary}
 use Rattle.tables.specs.Tree.{NODES, NO_END}
 use Rattle.tables.specs.Rules.{window_obeys, WindowRules}
 use Rattle.tables.specs.Closed.{closed_node}
@@ -71,7 +73,7 @@ pub named_leaf : {numbers : List ℕ} {cells values : List ℤ} {n : Node} {v : 
 named_leaf e h = record { own = omega arith; true_is = λ z. absurd (z e); named_is = λ z. h }
 
 module _ {cells : List ℤ} {n : Node} {e : Extremum} {l r : ℤ} where
-  pub binary_asks : operator n.kind ≡ binary future e → (n.left < NODES → l ≡ held_in cells n.left 0) → (n.right < NODES → r ≡ held_in cells n.right 0) → TimedAsks cells n e l r
+  pub binary_asks : operator n.kind ≡ Binary Future e → (n.left < NODES → l ≡ held_in cells n.left 0) → (n.right < NODES → r ≡ held_in cells n.right 0) → TimedAsks cells n e l r
   binary_asks o hl hr = record {
     windowed = rw o refl;
     extremum_is = rw o refl;
@@ -81,7 +83,7 @@ module _ {cells : List ℤ} {n : Node} {e : Extremum} {l r : ℤ} where
     right_one = λ z. absurd (clash (rw o refl) z);
   }
 
-  pub unary_asks : operator n.kind ≡ unary future e → l ≡ margin_nothing TOP (dual e) → (n.left < NODES → r ≡ held_in cells n.left 0) → TimedAsks cells n e l r
+  pub unary_asks : operator n.kind ≡ Unary Future e → l ≡ margin_nothing TOP (dual e) → (n.left < NODES → r ≡ held_in cells n.left 0) → TimedAsks cells n e l r
   unary_asks o hl hr = record {
     windowed = rw o refl;
     extremum_is = rw o refl;

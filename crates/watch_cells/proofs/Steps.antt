@@ -13,7 +13,8 @@ use Rattle.logic.specs.declared.Window.{Window}
 use Rattle.logic.specs.Window.{inside}
 use Rattle.logic.specs.declared.Extremum.{Extremum}
 use Rattle.logic.specs.declared.Extremum.TheVariants.{Largest, Smallest}
-use Rattle.logic.specs.Formula.{dual, future, Formula, temporal}
+use Rattle.logic.specs.Formula.{dual, Formula, temporal}
+use Rattle.logic.specs.declared.Direction.TheVariants.{Future}
 use Rattle.logic.specs.Reading.{margin_extreme, margin_nothing}
 use Rattle.logic.proofs.Beaten.{nothing_moves}
 use Rattle.recordings.specs.Card.{Card, rows, time}
@@ -22,7 +23,9 @@ use Rattle.recordings.specs.Margin.{distance_at, robustness, margin}
 use Rattle.recordings.specs.Accepted.{Measured}
 use Rattle.recordings.proofs.Margins.{margin_bounded}
 use Rattle.tables.specs.declared.Node.{Node}
-use Rattle.tables.specs.Kind.{Operator, constant, named, negated, unknown, joined, binary, unary, operator, operator_extremum, kinds, predicate_kind}
+use Rattle.tables.specs.Kind.{operator, operator_extremum, kinds, predicate_kind}
+use Rattle.tables.specs.declared.Operator.{Operator}
+use Rattle.tables.specs.declared.Operator.TheVariants.{Constant, Named, Negated, Unknown, Joined, Binary, Unary}
 use Rattle.tables.specs.Tree.{window, formula, unary_left}
 use Rattle.tables.specs.Rules.{is_child, left_use, right_use, timed}
 use Rattle.nesting.specs.Nesting.{momentary}
@@ -78,23 +81,23 @@ abbrev pub right_of : Bool → Node → (ℕ → Formula ℕ) → Formula ℕ
 right_of true n φ = φ n.right
 right_of false n φ = φ n.left
 
-pub timed_form : (o : Operator) (n : Node) (φ : ℕ → Formula ℕ) → timed o ≡ true → formula o n φ ≡ temporal future (operator_extremum o) (window n) (left_of (is_child (right_use o)) (operator_extremum o) n φ) (right_of (is_child (right_use o)) n φ)
-timed_form constant n φ h = untimed h refl
-timed_form named n φ h = untimed h refl
-timed_form negated n φ h = untimed h refl
-timed_form unknown n φ h = untimed h refl
-timed_form (joined e) n φ h = untimed h refl
-timed_form (binary future e) n φ h = refl
-timed_form (unary future e) n φ h = refl
+pub timed_form : (o : Operator) (n : Node) (φ : ℕ → Formula ℕ) → timed o ≡ true → formula o n φ ≡ temporal Future (operator_extremum o) (window n) (left_of (is_child (right_use o)) (operator_extremum o) n φ) (right_of (is_child (right_use o)) n φ)
+timed_form Constant n φ h = untimed h refl
+timed_form Named n φ h = untimed h refl
+timed_form Negated n φ h = untimed h refl
+timed_form Unknown n φ h = untimed h refl
+timed_form (Joined e) n φ h = untimed h refl
+timed_form (Binary Future e) n φ h = refl
+timed_form (Unary Future e) n φ h = refl
 
 pub timed_left : (o : Operator) → timed o ≡ true → is_child (left_use o) ≡ true
-timed_left constant h = untimed h refl
-timed_left named h = untimed h refl
-timed_left negated h = untimed h refl
-timed_left unknown h = untimed h refl
-timed_left (joined e) h = untimed h refl
-timed_left (binary d e) h = refl
-timed_left (unary d e) h = refl
+timed_left Constant h = untimed h refl
+timed_left Named h = untimed h refl
+timed_left Negated h = untimed h refl
+timed_left Unknown h = untimed h refl
+timed_left (Joined e) h = untimed h refl
+timed_left (Binary d e) h = refl
+timed_left (Unary d e) h = refl
 
 -- true before until, false before release: what an extremum over nothing is
 pub unary_left_margin : (e : Extremum) (d : Card) (i : ℕ) → margin_nothing TOP (dual e) ≡ margin d (unary_left e) i
@@ -104,32 +107,32 @@ unary_left_margin Smallest d i = refl
 
 -- a node without window carries nothing
 pub carries_nothing : (o : Operator) (n : Node) (φ : ℕ → Formula ℕ) → timed o ≡ false → (d : Card) → carried_by d (formula o n φ) ≡ pos 0
-carries_nothing constant n φ u d = refl
-carries_nothing named n φ u d = refl
-carries_nothing negated n φ u d = refl
-carries_nothing unknown n φ u d = refl
-carries_nothing (joined e) n φ u d = refl
-carries_nothing (binary x e) n φ u d = untimed refl u
-carries_nothing (unary x e) n φ u d = untimed refl u
+carries_nothing Constant n φ u d = refl
+carries_nothing Named n φ u d = refl
+carries_nothing Negated n φ u d = refl
+carries_nothing Unknown n φ u d = refl
+carries_nothing (Joined e) n φ u d = refl
+carries_nothing (Binary x e) n φ u d = untimed refl u
+carries_nothing (Unary x e) n φ u d = untimed refl u
 
 taken_in : (e : Extremum) (here : Bool) (m x : ℤ) → Within TOP m → cond here (margin_extreme e m x) m ≡ margin_extreme e m (cond here x (margin_nothing TOP e))
 taken_in e true m x w = refl
 taken_in e false m x w = sym (nothing_moves TOP e m w)
 
 module _ (c : Card) (r : Row) (ok : Fits c) (e : Extremum) (w : Window) (φ ψ : Formula ℕ) (hl : T (momentary φ)) (hr : T (momentary ψ)) where
-  pub margin_taken : {m x y : ℤ} {here : Bool} → m ≡ margin c (temporal future e w φ ψ) 0 → x ≡ carried c e φ → y ≡ margin (with_row c r) ψ (rows c) → here ≡ inside w (r.time - time (with_row c r) 0) → margin_after e m x y here ≡ margin (with_row c r) (temporal future e w φ ψ) 0
+  pub margin_taken : {m x y : ℤ} {here : Bool} → m ≡ margin c (temporal Future e w φ ψ) 0 → x ≡ carried c e φ → y ≡ margin (with_row c r) ψ (rows c) → here ≡ inside w (r.time - time (with_row c r) 0) → margin_after e m x y here ≡ margin (with_row c r) (temporal Future e w φ ψ) 0
   margin_taken {m} {x} {y} {here} hm hx hy hh =
-      taken_in e here m (margin_extreme (dual e) y x) (rw hm (margin_bounded ok.measured (temporal future e w φ ψ) 0))
+      taken_in e here m (margin_extreme (dual e) y x) (rw hm (margin_bounded ok.measured (temporal Future e w φ ψ) 0))
       ∙ rw (hm, hx, hy, hh) (sym (margin_next c r ok e w φ ψ hl hr))
 
   pub carried_taken : {x y : ℤ} → x ≡ carried c e φ → y ≡ margin (with_row c r) φ (rows c) → margin_extreme (dual e) x y ≡ carried (with_row c r) e φ
   carried_taken hx hy = rw (hx, hy) (sym (carried_next c r ok e w φ ψ hl hr))
 
-pub newest_taken : (c : Card) (r : Row) → Measured (with_row c r) → (e : Extremum) (w : Window) (φ ψ : Formula ℕ) {y : ℤ} → y ≡ margin (with_row c r) ψ (rows c) → cond (inside w 0) y (margin_nothing TOP e) ≡ margin (with_row c r) (temporal future e w φ ψ) (rows c)
+pub newest_taken : (c : Card) (r : Row) → Measured (with_row c r) → (e : Extremum) (w : Window) (φ ψ : Formula ℕ) {y : ℤ} → y ≡ margin (with_row c r) ψ (rows c) → cond (inside w 0) y (margin_nothing TOP e) ≡ margin (with_row c r) (temporal Future e w φ ψ) (rows c)
 newest_taken c r ok e w φ ψ h = rw h (sym (at_last (with_row c r) e w φ ψ (rows c) (rows_next c r) (margin_bounded ok ψ (rows c))))
 
 -- before the first row both are extrema over nothing
-pub margin_before : (c : Card) (e : Extremum) (w : Window) (φ ψ : Formula ℕ) → rows c ≡ 0 → margin_nothing TOP e ≡ margin c (temporal future e w φ ψ) 0
+pub margin_before : (c : Card) (e : Extremum) (w : Window) (φ ψ : Formula ℕ) → rows c ≡ 0 → margin_nothing TOP e ≡ margin c (temporal Future e w φ ψ) 0
 margin_before c e w φ ψ h = sym (none_yet c e w φ ψ h)
 
 pub carried_before : (c : Card) (e : Extremum) (φ : Formula ℕ) → rows c ≡ 0 → margin_nothing TOP (dual e) ≡ carried c e φ

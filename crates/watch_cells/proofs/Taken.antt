@@ -13,7 +13,8 @@ use lib.IntN.{ℤ, pos}
 use borrow.Author.Tests.{eq-eqb, ne_eqb}
 use Rattle.logic.specs.Window.{inside}
 use Rattle.logic.specs.declared.Extremum.{Extremum}
-use Rattle.logic.specs.Formula.{dual, future, Formula, temporal}
+use Rattle.logic.specs.Formula.{dual, Formula, temporal}
+use Rattle.logic.specs.declared.Direction.TheVariants.{Future}
 use Rattle.logic.specs.Reading.{margin_extreme, margin_nothing}
 use Rattle.recordings.specs.declared.Range.TheVariants.{Unset}
 use Rattle.recordings.specs.Card.{Card, rows, scale, predicate}
@@ -224,11 +225,11 @@ module _ {numbers : List ℕ} {cells values : List ℤ} {opening : Bool} {since 
     abbrev right : Formula ℕ
     right = right_of two n φ
 
-    temporal_is : φ k ≡ temporal future e (kept_window n) left right
+    temporal_is : φ k ≡ temporal Future e (kept_window n) left right
     temporal_is = rw (a.extremum_is, window_is) at (tree_is ∙ timed_form (operator n.kind) n φ a.windowed)
 
     both_momentary : T (momentary left) × T (momentary right)
-    both_momentary = inside_momentary future e (kept_window n) left right (subst (λ (ψ : Formula ℕ). T (unnested ψ)) temporal_is (A.unnested.each k small))
+    both_momentary = inside_momentary Future e (kept_window n) left right (subst (λ (ψ : Formula ℕ). T (unnested ψ)) temporal_is (A.unnested.each k small))
 
     left_earlier : n.left < k
     left_earlier = earlier (left_use (operator n.kind)) k n.left (timed_left (operator n.kind) a.windowed) left_used
@@ -246,7 +247,7 @@ module _ {numbers : List ℕ} {cells values : List ℤ} {opening : Bool} {since 
     right_value false z = a.right_one z (omega (arith, left_earlier, few)) ∙ newest_held n.left left_earlier
 
     module _ (m x : ℤ) (here : Bool) (hm : m ≡ so_far cells opening (margin_nothing TOP e) k 1) (hx : x ≡ so_far cells opening (margin_nothing TOP (dual e)) k 2) (hh : here ≡ inside (kept_window n) since) where
-      margin_was : m ≡ margin c (temporal future e (kept_window n) left right) 0
+      margin_was : m ≡ margin c (temporal Future e (kept_window n) left right) 0
       margin_was = hm ∙ held_before (margin_nothing TOP e) _ 1 (margin_before c e (kept_window n) left right) (λ some. waiting_part 1 (omega arith) some ∙ ap (λ (ψ : Formula ℕ). margin c ψ 0) temporal_is)
 
       carried_was : x ≡ carried c e left

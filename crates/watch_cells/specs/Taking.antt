@@ -12,7 +12,9 @@ use Rattle.recordings.specs.Distance.{TOP, scaled_distance}
 use Rattle.recordings.specs.Accepted.{MOST_CHANNELS, ScaleInRange, InRange, Proper}
 use Rattle.tables.specs.declared.Node.{Node}
 use Rattle.tables.specs.declared.Table.{Table}
-use Rattle.tables.specs.Kind.{Operator, constant, named, negated, unknown, joined, binary, unary, operator, operator_extremum, predicate_kind}
+use Rattle.tables.specs.Kind.{operator, operator_extremum, predicate_kind}
+use Rattle.tables.specs.declared.Operator.{Operator}
+use Rattle.tables.specs.declared.Operator.TheVariants.{Constant, Named, Negated, Unknown, Joined, Binary, Unary}
 use Rattle.tables.specs.Tree.{NODES}
 use Rattle.tables.specs.Rules.{is_child, left_use, right_use, timed, TableRules}
 use Rattle.predicates.specs.Predicates.{Named}
@@ -23,13 +25,13 @@ use Rattle.watch_cells.specs.State.{CELLS, SCALES_AT, HELD_AT, kept_window, pred
 
 -- a node without window at one place, from its operands' values there; `leaf` is its own where it has none
 abbrev pub point_of : Operator → ℤ → ℤ → ℤ → ℤ
-point_of constant leaf l r = leaf
-point_of named leaf l r = leaf
-point_of negated leaf l r = neg_ℤ l
-point_of unknown leaf l r = leaf
-point_of (joined e) leaf l r = margin_extreme e l r
-point_of (binary d e) leaf l r = leaf
-point_of (unary d e) leaf l r = leaf
+point_of Constant leaf l r = leaf
+point_of Named leaf l r = leaf
+point_of Negated leaf l r = neg_ℤ l
+point_of Unknown leaf l r = leaf
+point_of (Joined e) leaf l r = margin_extreme e l r
+point_of (Binary d e) leaf l r = leaf
+point_of (Unary d e) leaf l r = leaf
 
 -- what part of a child's cells holds, if it is a child
 pub record Operand (cells : List ℤ) (k part child : ℕ) (v : ℤ) : Type 0 where
@@ -40,7 +42,7 @@ pub record Operand (cells : List ℤ) (k part child : ℕ) (v : ℤ) : Type 0 wh
 pub record PointAsks (cells : List ℤ) (n : Node) (k part : ℕ) (l r : ℤ) : Type 0 where
   pub left : is_child (left_use (operator n.kind)) ≡ true → Operand cells k part n.left l
   pub right : is_child (right_use (operator n.kind)) ≡ true → Operand cells k part n.right r
-  pub bounded : operator n.kind ≡ negated → Within TOP l
+  pub bounded : operator n.kind ≡ Negated → Within TOP l
 
 -- the value of a node without window, from a part of its operands' cells
 pub record IsPoint (cells : List ℤ) (n : Node) (k part : ℕ) (v : ℤ) : Type 0 where
@@ -96,7 +98,7 @@ pub record SameBeyond (before after : List ℤ) : Type 0 where
 -- ---- a row that was accepted arrives
 pub record Arriving (values : List ℤ) (opening : Bool) (since : ℕ) (t : Table) (c : Card) (r : Row) : Type 0 where
   pub ruled : TableRules t
-  pub named : Named c t
+  pub Named : Named c t
   pub unnested : Unnested t
   pub fits : Fits c
   pub fits_next : Fits (with_row c r)

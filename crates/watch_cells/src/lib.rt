@@ -6,12 +6,13 @@
 ghost use Rattle.std.specs.Prelude.{◌≡◌, ◌≤◌, ◌<◌, neg_ℤ, length};
 ghost use Rattle.numbers.specs.Order.{Within};
 ghost use Rattle.logic.specs.Window.{inside};
-ghost use Rattle.logic.specs.Formula.{future};
+ghost use Rattle.logic.specs.declared.Direction.TheVariants.{Future};
 ghost use Rattle.recordings.specs.Distance.{TOP};
 ghost use Rattle.recordings.specs.Card.{Card};
 ghost use Rattle.recordings.specs.Accepted.{Values};
 ghost use Rattle.tables.specs.declared.Table.{Table};
-ghost use Rattle.tables.specs.Kind.{operator, negated, joined, binary, unary};
+ghost use Rattle.tables.specs.Kind.{operator};
+ghost use Rattle.tables.specs.declared.Operator.TheVariants.{Negated, Joined, Binary, Unary};
 ghost use Rattle.tables.specs.Tree.{NODES, NO_END};
 ghost use Rattle.arrivals.specs.Arrivals.{Row};
 ghost use Rattle.watch_cells.specs.State.{NUMBERS, CELLS, node_in, kept_window, held_in};
@@ -94,7 +95,7 @@ fn opposite(a: i64) -> i64
 // "Not", from one part of its operand's cells.
 fn negation_at(cells: &[i64], node: Node, part: usize) -> i64
     requires { (CELLS ≤ length cells.now) × (part < 3) }
-    ensures { (k : _) → k ≤ NODES → operator node.kind ≡ negated → IsPoint cells.now node k part result }
+    ensures { (k : _) → k ≤ NODES → operator node.kind ≡ Negated → IsPoint cells.now node k part result }
 {
     let a = operand(cells, node.left, part);
     opposite(a)
@@ -103,7 +104,7 @@ fn negation_at(cells: &[i64], node: Node, part: usize) -> i64
 // "And" or "or", from one part of their operands' cells.
 fn junction_at(cells: &[i64], node: Node, e: Extremum, part: usize) -> i64
     requires { (CELLS ≤ length cells.now) × (part < 3) }
-    ensures { (k : _) → k ≤ NODES → operator node.kind ≡ joined e → IsPoint cells.now node k part result }
+    ensures { (k : _) → k ≤ NODES → operator node.kind ≡ Joined e → IsPoint cells.now node k part result }
 {
     let a = operand(cells, node.left, part);
     let b = operand(cells, node.right, part);
@@ -177,7 +178,7 @@ fn take_point(cells: &mut [i64], newest: i64, margin: i64, k: usize)
 // "Not" takes the row.
 fn take_not(numbers: &[u64], cells: &mut [i64], k: usize)
     requires { (NUMBERS ≤ length numbers.now) × (CELLS ≤ length cells.old) × (k < NODES) }
-    ensures taken { (values : _) (opening : _) (since : _) → operator (node_in numbers.now k).kind ≡ negated → NodeTakes numbers.now cells.old cells.new values opening since k }
+    ensures taken { (values : _) (opening : _) (since : _) → operator (node_in numbers.now k).kind ≡ Negated → NodeTakes numbers.now cells.old cells.new values opening since k }
     ensures beyond { SameBeyond cells.old cells.new }
 {
     let node = node_of(numbers, k);
@@ -189,7 +190,7 @@ fn take_not(numbers: &[u64], cells: &mut [i64], k: usize)
 // "And" or "or" takes the row.
 fn take_joined(numbers: &[u64], cells: &mut [i64], e: Extremum, k: usize)
     requires { (NUMBERS ≤ length numbers.now) × (CELLS ≤ length cells.old) × (k < NODES) }
-    ensures taken { (values : _) (opening : _) (since : _) → operator (node_in numbers.now k).kind ≡ joined e → NodeTakes numbers.now cells.old cells.new values opening since k }
+    ensures taken { (values : _) (opening : _) (since : _) → operator (node_in numbers.now k).kind ≡ Joined e → NodeTakes numbers.now cells.old cells.new values opening since k }
     ensures beyond { SameBeyond cells.old cells.new }
 {
     let node = node_of(numbers, k);
@@ -228,7 +229,7 @@ fn take_timed(
 // Until or release takes the row.
 fn take_binary(numbers: &[u64], cells: &mut [i64], e: Extremum, opening: bool, since: u64, k: usize)
     requires { (NUMBERS ≤ length numbers.now) × (CELLS ≤ length cells.old) × (k < NODES) × (since ≤ NO_END) }
-    ensures taken { (values : _) → operator (node_in numbers.now k).kind ≡ binary future e → NodeTakes numbers.now cells.old cells.new values opening since k }
+    ensures taken { (values : _) → operator (node_in numbers.now k).kind ≡ Binary Future e → NodeTakes numbers.now cells.old cells.new values opening since k }
     ensures beyond { SameBeyond cells.old cells.new }
 {
     let node = node_of(numbers, k);
@@ -240,7 +241,7 @@ fn take_binary(numbers: &[u64], cells: &mut [i64], e: Extremum, opening: bool, s
 // Eventually or always takes the row.
 fn take_unary(numbers: &[u64], cells: &mut [i64], e: Extremum, opening: bool, since: u64, k: usize)
     requires { (NUMBERS ≤ length numbers.now) × (CELLS ≤ length cells.old) × (k < NODES) × (since ≤ NO_END) }
-    ensures taken { (values : _) → operator (node_in numbers.now k).kind ≡ unary future e → NodeTakes numbers.now cells.old cells.new values opening since k }
+    ensures taken { (values : _) → operator (node_in numbers.now k).kind ≡ Unary Future e → NodeTakes numbers.now cells.old cells.new values opening since k }
     ensures beyond { SameBeyond cells.old cells.new }
 {
     let node = node_of(numbers, k);

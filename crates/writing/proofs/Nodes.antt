@@ -10,7 +10,9 @@ use Rattle.text.proofs.Tests.{by_test, false_true}
 use Rattle.printing.specs.Output.{Output, printed}
 use Rattle.printing.proofs.Printed.{printed_then}
 use Rattle.tables.specs.declared.Node.{Node}
-use Rattle.tables.specs.Kind.{Operator, constant, named, negated, unknown, joined, binary, unary as single, operator, predicate_kind}
+use Rattle.tables.specs.Kind.{operator, predicate_kind}
+use Rattle.tables.specs.declared.Operator.{Operator}
+use Rattle.tables.specs.declared.Operator.TheVariants.{Constant, Named, Negated, Unknown, Joined, Binary, Unary}
 use Rattle.tables.specs.Rules.{child, number, unused, is_child, left_use, right_use, NodeRules}
 use Rattle.tables.proofs.Rules.{child_before}
 use Rattle.tables.proofs.EveryKind.{left_is}
@@ -26,22 +28,22 @@ use Rattle.writing.specs.Ruled.{Ruled, leaf_text}
 -- ---- what the tests of a kind say of its numbers
 
 pub two_uses : (o : Operator) → is_child (right_use o) ≡ true → (left_use o ≡ child) × (right_use o ≡ child)
-two_uses constant h = absurd (false_true h)
-two_uses named h = absurd (false_true h)
-two_uses negated h = absurd (false_true h)
-two_uses unknown h = absurd (false_true h)
-two_uses (joined e) h = (refl, refl)
-two_uses (binary d e) h = (refl, refl)
-two_uses (single d e) h = absurd (false_true h)
+two_uses Constant h = absurd (false_true h)
+two_uses Named h = absurd (false_true h)
+two_uses Negated h = absurd (false_true h)
+two_uses Unknown h = absurd (false_true h)
+two_uses (Joined e) h = (refl, refl)
+two_uses (Binary d e) h = (refl, refl)
+two_uses (Unary d e) h = absurd (false_true h)
 
 pub one_uses : (o : Operator) → is_child (right_use o) ≡ false → is_child (left_use o) ≡ true → (left_use o ≡ child) × (right_use o ≡ unused)
-one_uses constant g h = absurd (false_true h)
-one_uses named g h = absurd (false_true h)
-one_uses negated g h = (refl, refl)
-one_uses unknown g h = absurd (false_true h)
-one_uses (joined e) g h = absurd (false_true (sym g))
-one_uses (binary d e) g h = absurd (false_true (sym g))
-one_uses (single d e) g h = (refl, refl)
+one_uses Constant g h = absurd (false_true h)
+one_uses Named g h = absurd (false_true h)
+one_uses Negated g h = (refl, refl)
+one_uses Unknown g h = absurd (false_true h)
+one_uses (Joined e) g h = absurd (false_true (sym g))
+one_uses (Binary d e) g h = absurd (false_true (sym g))
+one_uses (Unary d e) g h = (refl, refl)
 
 module _ (at : ℕ → Node) (k : ℕ) (n : Node) (e : n ≡ at k) (ruled : Ruled at k) where
   -- the rules of the node itself

@@ -9,7 +9,9 @@ use borrow.Author.Tests.{le-leb, lt-leb}
 use lib.ListN.{length}
 use Rattle.tables.specs.declared.Node.{Node}
 use Rattle.tables.specs.declared.Table.{Table}
-use Rattle.tables.specs.Kind.{Operator, constant, named, negated, unknown, joined, binary, unary, operator}
+use Rattle.tables.specs.Kind.{operator}
+use Rattle.tables.specs.declared.Operator.{Operator}
+use Rattle.tables.specs.declared.Operator.TheVariants.{Constant, Named, Negated, Unknown, Joined, Binary, Unary}
 use Rattle.tables.specs.Tree.{NODES, node_at}
 use Rattle.tables.specs.Rules.{Use, child, number, unused, left_use, right_use, Used, NodeRules, TableRules}
 use Rattle.grammar.specs.Tree.{Tree}
@@ -31,13 +33,13 @@ ruled_alike at bt k e r = record { inside = r.inside; each = λ j l. rw (e j l) 
 -- ---- proper
 
 no_number : (o : Operator) → right_use o ≡ number → ⊥
-no_number constant e = let z : ◌≡◌ {A = ℕ} 0 1 = cc in omega arith
-no_number named e = let z : ◌≡◌ {A = ℕ} 0 1 = cc in omega arith
-no_number negated e = let z : ◌≡◌ {A = ℕ} 0 1 = cc in omega arith
-no_number unknown e = let z : ◌≡◌ {A = ℕ} 0 1 = cc in omega arith
-no_number (joined x) e = let z : ◌≡◌ {A = ℕ} 0 1 = cc in omega arith
-no_number (binary d x) e = let z : ◌≡◌ {A = ℕ} 0 1 = cc in omega arith
-no_number (unary d x) e = let z : ◌≡◌ {A = ℕ} 0 1 = cc in omega arith
+no_number Constant e = let z : ◌≡◌ {A = ℕ} 0 1 = cc in omega arith
+no_number Named e = let z : ◌≡◌ {A = ℕ} 0 1 = cc in omega arith
+no_number Negated e = let z : ◌≡◌ {A = ℕ} 0 1 = cc in omega arith
+no_number Unknown e = let z : ◌≡◌ {A = ℕ} 0 1 = cc in omega arith
+no_number (Joined x) e = let z : ◌≡◌ {A = ℕ} 0 1 = cc in omega arith
+no_number (Binary d x) e = let z : ◌≡◌ {A = ℕ} 0 1 = cc in omega arith
+no_number (Unary d x) e = let z : ◌≡◌ {A = ℕ} 0 1 = cc in omega arith
 
 proper_by : (u v : Use) (n : Node) (k : ℕ) (f : ℕ → Tree) → left_use (operator n.kind) ≡ u → right_use (operator n.kind) ≡ v → NodeRules n k → Used u k n.left → Used v k n.right
     → ((c : ℕ) → c < k → Proper (f c)) → Proper (tree_by u v n f)

@@ -8,9 +8,11 @@ use borrow.Author.Tests.{not-true, not-false}
 use lib.IntN.{ℤ}
 use lib.ListN.{length}
 use Rattle.rows.specs.Cells.{cell}
-use Rattle.logic.specs.Formula.{future}
+use Rattle.logic.specs.declared.Direction.TheVariants.{Future}
 use Rattle.logic.specs.Negation.{turn}
-use Rattle.tables.specs.Kind.{Operator, joined, binary, unary, operator, operator_extremum}
+use Rattle.tables.specs.Kind.{operator, operator_extremum}
+use Rattle.tables.specs.declared.Operator.{Operator}
+use Rattle.tables.specs.declared.Operator.TheVariants.{Joined, Binary, Unary}
 use Rattle.tables.specs.Rules.{timed}
 use Rattle.tables.proofs.EveryKind.{operating, joined_form, temporal_form}
 use Rattle.temporal.specs.declared.Left.TheVariants.{Row, Absent}
@@ -21,14 +23,14 @@ use Rattle.nodes.proofs.node_row.Goals.{After-is_timed, Else-has_right, Then-has
 turned : (c : After-is_timed) → c.turn-e.result ≡ turn c.args.affirmed (operator_extremum (operator c.args.node.kind))
 turned c = c.turn-e.ensures ∙ ap (turn c.args.affirmed) c.extremum_of.ensures
 
-joins : (c : Then-not-is_timed) → operator c.args.node.kind ≡ joined (operator_extremum (operator c.args.node.kind))
+joins : (c : Then-not-is_timed) → operator c.args.node.kind ≡ Joined (operator_extremum (operator c.args.node.kind))
 joins c =
     joined_form _ (operating _ c.requires.known c.if-kind-eq-TRUE.false c.if-kind-eq-PREDICATE.false c.if-kind-eq-NOT.false) (sym c.is_timed.ensures ∙ not-true _ c.if-not-is_timed.true-raw)
 
-binds : (c : Then-has_right) → operator c.args.node.kind ≡ binary future (operator_extremum (operator c.args.node.kind))
+binds : (c : Then-has_right) → operator c.args.node.kind ≡ Binary Future (operator_extremum (operator c.args.node.kind))
 binds c = temporal_form _ (sym c.is_timed.ensures ∙ not-false _ c.if-not-is_timed.false-raw) ∙ (rw (sym c.has_right.ensures ∙ c.if-has_right.true) refl)
 
-looks : (c : Else-has_right) → operator c.args.node.kind ≡ unary future (operator_extremum (operator c.args.node.kind))
+looks : (c : Else-has_right) → operator c.args.node.kind ≡ Unary Future (operator_extremum (operator c.args.node.kind))
 looks c = temporal_form _ (sym c.is_timed.ensures ∙ not-false _ c.if-not-is_timed.false-raw) ∙ (rw (sym c.has_right.ensures ∙ c.if-has_right.false) refl)
 
 pub returns-then-kind-eq-TRUE : goal.returns-then-kind-eq-TRUE
