@@ -2,45 +2,37 @@
 // Differences are compared; nothing is added to a time or a value.
 #![tactic(auto)]
 
-ghost use Rattle.std.specs.Prelude.{◌≡◌, ◌-◌, ◌≤◌, ◌<◌, leb, length};
+ghost use Rattle.std.specs.Prelude.{◌≡◌, suc, ◌-◌, ◌<◌, leb};
 ghost use Rattle.refusals.specs.First.{first};
-ghost use Rattle.recordings.specs.Card.{lent};
+ghost use Rattle.refusals.specs.Number.{number_of};
+ghost use Rattle.recordings.specs.Card.{card_of, rows, scale, value};
 ghost use Rattle.recordings.specs.Accepted.{Recorded};
 ghost use Rattle.sampling.specs.Sampling.{step_obeys, times_close, near, Comparable, channel_near, values_near, checks, Comparables};
 
-use recordings::{LARGEST_DRIFT, LONGEST_STEP, Setup};
+use recordings::{LARGEST_DRIFT, LONGEST_STEP, Recording};
+use refusals::Refusal;
 
+#[tactic(auto, unfolding(crate::specs::Sampling::step_obeys))]
 fn step_obeys(step: u64, drift: u64) -> bool
     ensures { result ≡ step_obeys step drift }
 {
-    (1 <= step) & ((step <= LONGEST_STEP) & (drift <= LARGEST_DRIFT))
+    1 <= step && step <= LONGEST_STEP && drift <= LARGEST_DRIFT
 }
 
 fn close(from: u64, to: u64, step: u64) -> bool
     ensures { result ≡ leb (to - from) step }
 {
-    if to < from {
-        return true;
-    }
-    to - from <= step
+    to.saturating_sub(from) <= step
 }
 
-// `gaps` is the count of neighbours.
+// Asked of each time and the next.
 fn times_close(times: &[u64], step: u64) -> bool
-    requires { 1 ≤ length times.now }
     ensures { result ≡ times_close times.now step }
 {
-    let gaps = times.len() - 1;
-    let mut ok = true;
-    let mut i = 0;
-    while i < gaps {
-        let obeys = close(times[i], times[i + 1], step);
-        ok = ok & obeys;
-        i += 1;
-    }
-    ok
+    times.is_sorted_by(|from, to| close(*from, *to, step))
 }
 
+#[tactic(auto, unfolding(crate::specs::Sampling::near))]
 fn near(scale: u64, from: i64, to: i64, drift: u64) -> bool
     requires { Comparable scale from to drift }
     ensures { result ≡ near scale from to drift }
@@ -49,58 +41,49 @@ fn near(scale: u64, from: i64, to: i64, drift: u64) -> bool
     scale * apart <= 2 * drift
 }
 
-// `gaps` is the count of neighbours.
-fn channel_near(setup: Setup, times: &[u64], values: &[i64], channel: usize, drift: u64) -> bool
-    requires { Comparables (lent setup times values) drift × (channel < setup.channels) }
-    ensures { result ≡ channel_near (lent setup times.entry values.entry) channel drift }
+// Whether the channel's value at sample i is near that at the next.
+fn next_near(recording: &Recording, channel: usize, drift: u64, i: usize) -> bool
+    requires comparable { Comparables (card_of recording.now) drift }
+    requires known { channel < recording.now.setup.channels }
+    requires followed { suc i < rows (card_of recording.now) }
+    ensures { let c = card_of recording.now in result ≡ near (scale c channel) (value c channel i) (value c channel (suc i)) drift }
 {
-    let channels = setup.channels;
-    let scales = setup.scales;
-    let scale = scales.each[channel];
-    let gaps = times.len() - 1;
-    let mut ok = true;
-    let mut i = 0;
-    while i < gaps {
-        let from = values[i * channels + channel];
-        let to = values[(i + 1) * channels + channel];
-        let obeys = near(scale, from, to, drift);
-        ok = ok & obeys;
-        i += 1;
-    }
-    ok
+    let Recording { setup, values, .. } = *recording;
+    let from = values[i * setup.channels + channel];
+    let to = values[(i + 1) * setup.channels + channel];
+    near(setup.scales.each[channel], from, to, drift)
 }
 
-fn values_near(setup: Setup, times: &[u64], values: &[i64], drift: u64) -> bool
-    requires { Comparables (lent setup times values) drift }
-    ensures { result ≡ values_near (lent setup times.entry values.entry) drift }
+fn channel_near(recording: &Recording, channel: usize, drift: u64) -> bool
+    requires comparable { Comparables (card_of recording.now) drift }
+    requires known { channel < recording.now.setup.channels }
+    ensures { result ≡ channel_near (card_of recording.now) channel drift }
 {
-    let channels = setup.channels;
-    let mut ok = true;
-    let mut channel = 0;
-    while channel < channels {
-        let obeys = channel_near(setup, times, values, channel, drift);
-        ok = ok & obeys;
-        channel += 1;
-    }
-    ok
+    let gaps = recording.times.len() - 1;
+    (0..gaps).all(|i| next_near(recording, channel, drift, i))
 }
 
-// The first of refusals 9 to 11 that applies, 0 where none does.
-pub fn refusal(setup: Setup, times: &[u64], values: &[i64], step: u64, drift: u64) -> u64
-    requires { Recorded (lent setup times values) }
-    ensures { result ≡ first (checks (lent setup times.entry values.entry) step drift) }
+fn values_near(recording: &Recording, drift: u64) -> bool
+    requires { Comparables (card_of recording.now) drift }
+    ensures { result ≡ values_near (card_of recording.now) drift }
 {
-    let nine = step_obeys(step, drift);
-    if !nine {
-        return 9;
+    (0..recording.setup.channels).all(|channel| channel_near(recording, channel, drift))
+}
+
+// The first of refusals 9 to 11 that applies.
+#[tactic(auto, unfolding(refusals::specs::First::first))]
+pub fn refusal(recording: &Recording, step: u64, drift: u64) -> Result<(), Refusal>
+    requires { Recorded (card_of recording.now) }
+    ensures { number_of result ≡ first (checks (card_of recording.now) step drift) }
+{
+    if !step_obeys(step, drift) {
+        return Err(Refusal::Step);
     }
-    let ten = times_close(times, step);
-    if !ten {
-        return 10;
+    if !times_close(recording.times, step) {
+        return Err(Refusal::Gap);
     }
-    let eleven = values_near(setup, times, values, drift);
-    if !eleven {
-        return 11;
+    if !values_near(recording, drift) {
+        return Err(Refusal::Jump);
     }
-    0
+    Ok(())
 }

@@ -1,42 +1,11 @@
--- `ok` says of the first i times whether each is within a step of the next.
+-- Each time and the next are tested.
 -- Assumes nothing.
-use Prim.Native.Nat.{◌-◌}
-use native.Mathlib.Omega.{arith}
-use native.Mathlib.Numerals.{add-one}
-use Rattle.lists.proofs.Below.{tested_none, tested_next, tested_all}
+use Rattle.std.proofs.Common.{rules, leb, ◌-◌}
+use Rattle.std.proofs.lemmas.Fn.{always_returns_same}
+use Rattle.lists.proofs.Chains.{all_of_neighbours}
 use Rattle.sampling.specs.Sampling.{times_close}
 use Rattle.sampling.proofs.times_close.Goals as goal
 
-pub overflow_sub-gaps : goal.overflow_sub-gaps
-overflow_sub-gaps c = omega arith
-
-pub loop-i-init : goal.loop-i-init
-loop-i-init c = tested_none
-
-pub offset_bounds-times-i : goal.offset_bounds-times-i
-offset_bounds-times-i c = omega arith
-
-pub bounds-times-i : goal.bounds-times-i
-bounds-times-i c = omega arith
-
-pub overflow_add-i : goal.overflow_add-i
-overflow_add-i c = omega arith
-
-pub offset_bounds-times-i-in-loop-i : goal.offset_bounds-times-i-in-loop-i
-offset_bounds-times-i-in-loop-i c = omega arith
-
-pub bounds-times-i-in-loop-i : goal.bounds-times-i-in-loop-i
-bounds-times-i-in-loop-i c = omega arith
-
-pub overflow_add-i-in-loop-i : goal.overflow_add-i-in-loop-i
-overflow_add-i-in-loop-i c = omega arith
-
-pub loop-i-smaller : goal.loop-i-smaller
-loop-i-smaller c = omega arith
-
-pub loop-i-preserved : goal.loop-i-preserved
-loop-i-preserved c = tested_next c.loop-i.invariant c.loop-i-test.true (rw add-one at c.close-obeys.ensures)
-
 pub returns : goal.returns
 unfolding times_close
-returns c = tested_all c.loop-i.invariant c.loop-i-test.false
+returns c = all_of_neighbours (λ from to. leb (to - from) c.args.step) 0 c.args.times.now (c.is_sorted_by.ensures.cases (λ from to. leb (to - from) c.args.step) (search (rules, always_returns_same)))
