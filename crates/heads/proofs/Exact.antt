@@ -2,15 +2,17 @@
 -- Assumes nothing.
 use mathlib.Core.Path.{◌≡◌, refl, sym, ap, ◌∙◌}
 use mathlib.Core.List.{List, [], ◌∷◌, ◌++◌, append_assoc}
-use mathlib.Core.Bool.{true, false}
+use mathlib.Core.Bool.{false}
 use Prim.Native.Nat.{ℕ, ◌+◌}
 use native.Mathlib.Omega.{arith}
 use lib.ListN.{length, get_or, drop}
 use Rattle.text.specs.Bytes.{bytes}
 use Rattle.text.specs.Mark.{prefix_of}
-use Rattle.text.specs.declared.Field.TheVariants.{Number}
-use Rattle.text.proofs.Tests.{false_true, test_case}
-use Rattle.text.proofs.Fields.{number_case}
+use Rattle.std.specs.Prelude.{Option, Some, IfSome}
+use Rattle.text.specs.Mark.{read}
+use Rattle.text.specs.declared.Read.{Read}
+use Rattle.text.proofs.Fields.{after_case}
+use Rattle.recordings.specs.declared.Scales.{Scales}
 use Rattle.lines.specs.Lines.{lines, size}
 use Rattle.lines.proofs.Counts.{count}
 use Rattle.lines.proofs.Lines.{Fed, Each, none, also, each_append, lines_split, size_append}
@@ -23,35 +25,31 @@ use Rattle.scale_lines.specs.Form.{ScaleLine}
 use Rattle.scale_lines.specs.Reading.{scales_at}
 use Rattle.scale_lines.proofs.Exact.{scales_are, scales_taken, each_scale}
 use Rattle.scale_lines.proofs.Written.{scale_fed, scale_first}
-use Rattle.predicate_lines.specs.declared.Predicates.{Predicates}
 use Rattle.predicate_lines.specs.Form.{PredicateLine, is_predicate, PredicateLines}
 use Rattle.predicate_lines.specs.Reading.{lines_at}
 use Rattle.predicate_lines.proofs.Exact.{predicates_are, predicates_taken, each_line}
 use Rattle.predicate_lines.proofs.Written.{line_fed}
 use Rattle.heads.specs.declared.Head.{Head}
-use Rattle.heads.specs.declared.HeadLines.{HeadLines}
 use Rattle.heads.specs.Form.{HeadForm}
-use Rattle.heads.specs.Reading.{head_place, broken_head, behind_scales, behind_channels, head_of}
+use Rattle.heads.specs.Reading.{head_place, head_of}
 
 -- ---- sound
 
 -- what an answer says of the head
-abbrev HeadHere : List ℕ → HeadLines → Type 0
-HeadHere s p = p.ok ≡ true → (ls : List (List ℕ)) × HeadForm ls p.head × LinesBetween s 0 p.next ls
+abbrev HeadHere : List ℕ → Option (Read Head) → Type 0
+HeadHere s x = IfSome x (λ p. (ls : List (List ℕ)) × HeadForm ls p.value × LinesBetween s 0 p.next ls)
 
-no_head_here : (s : List ℕ) → HeadHere s broken_head
-no_head_here s e = absurd (false_true e)
-
-head_read : (s : List ℕ) (ch a : ℕ) → number_line_at (bytes "chan=") s 0 ≡ Number ch a → (scales_at s a ch).ok ≡ true → (lines_at s (scales_at s a ch).next).ok ≡ true
-    → (step c : ℕ) → number_line_at (bytes "step=") s (lines_at s (scales_at s a ch).next).next ≡ Number step c → (drift d : ℕ) → number_line_at (bytes "drift=") s c ≡ Number drift d
-    → HeadHere s (head_place (record { setup = record { channels = ch; scales = (scales_at s a ch).scales; predicates = (lines_at s (scales_at s a ch).next).all }; step = step; drift = drift }) d)
+head_read : (s : List ℕ) (ch : Read ℕ) → number_line_at (bytes "chan=") s 0 ≡ Some ch → (cs : Read Scales) → scales_at s ch.next ch.value ≡ Some cs
+    → (ps : Read (List Predicate)) → lines_at s cs.next ≡ Some ps
+    → (step : Read ℕ) → number_line_at (bytes "step=") s ps.next ≡ Some step → (drift : Read ℕ) → number_line_at (bytes "drift=") s step.next ≡ Some drift
+    → HeadHere s (head_place (record { setup = record { channels = ch.value; scales = cs.value; predicates = ps.value }; step = step.value; drift = drift.value }) drift.next)
 unfolding count
-head_read s ch a e k o step c f drift d g _ =
-    let x = number_line_is (bytes "chan=") s 0 ch a e in
-    let q = scales_are s a ch k in
-    let p = predicates_are s (scales_at s a ch).next o in
-    let y = number_line_is (bytes "step=") s (lines_at s (scales_at s a ch).next).next step c f in
-    let z = number_line_is (bytes "drift=") s c drift d g in
+head_read s ch e cs k ps o step f drift g =
+    let x = number_line_is (bytes "chan=") s 0 ch e in
+    let q = scales_are s ch.next ch.value cs k in
+    let p = predicates_are s cs.next ps o in
+    let y = number_line_is (bytes "step=") s ps.next step f in
+    let z = number_line_is (bytes "drift=") s step.next drift g in
     let front = one_line x.1 (number_line_fed refl x.2) in
     let behind = lines_both (one_line y.1 (number_line_fed refl y.2)) (one_line z.1 (number_line_fed refl z.2)) in (
       x.0 ∷ (q.taken ++ (p.taken ++ (y.0 ∷ z.0 ∷ []))),
@@ -72,22 +70,22 @@ head_read s ch a e k o step c f drift d g _ =
     )
 
 head_here : (s : List ℕ) → HeadHere s (head_of s)
-unfolding head_of behind_channels behind_scales
+unfolding head_of
 head_here s =
-    number_case (HeadHere s) (number_line_at (bytes "chan=") s 0) _ _
-    (λ ch a e. test_case (HeadHere s) (scales_at s a ch).ok _ _
-    (λ k. test_case (HeadHere s) (lines_at s (scales_at s a ch).next).ok _ _
-    (λ o. number_case (HeadHere s) (number_line_at (bytes "step=") s (lines_at s (scales_at s a ch).next).next) _ _
-    (λ step c f. number_case (HeadHere s) (number_line_at (bytes "drift=") s c) _ _
-    (λ drift d g. head_read s ch a e k o step c f drift d g)
-    (λ g. no_head_here s))
-    (λ f. no_head_here s))
-    (λ o. no_head_here s))
-    (λ k. no_head_here s))
-    (λ e. no_head_here s)
+    after_case (HeadHere s) (number_line_at (bytes "chan=") s 0) _ _
+    (λ ch e. after_case (HeadHere s) (scales_at s ch.next ch.value) _ _
+    (λ cs k. after_case (HeadHere s) (lines_at s cs.next) _ _
+    (λ ps o. after_case (HeadHere s) (number_line_at (bytes "step=") s ps.next) _ _
+    (λ step f. after_case (HeadHere s) (number_line_at (bytes "drift=") s step.next) _ _
+    (λ drift g. head_read s ch e cs k ps o step f drift g)
+    (λ g. tt))
+    (λ f. tt))
+    (λ o. tt))
+    (λ k. tt))
+    (λ e. tt)
 
-pub head_is : (s : List ℕ) → (head_of s).ok ≡ true → (ls : List (List ℕ)) × HeadForm ls (head_of s).head × LinesBetween s 0 (head_of s).next ls
-head_is s e = head_here s e
+pub head_is : (s : List ℕ) (p : Read Head) → head_of s ≡ Some p → (ls : List (List ℕ)) × HeadForm ls p.value × LinesBetween s 0 p.next ls
+head_is s p e = rw e at (head_here s)
 
 -- ---- complete
 
@@ -96,29 +94,27 @@ step_stops : {l : List ℕ} {v : ℕ} (ls : List (List ℕ)) → NumberLine (byt
 unfolding prefix_of
 step_stops {l} ls f x h = let t = lines_split x l ls h in ap is_predicate (t.1 ∙ ap (λ (y : List ℕ). y ++ t.0) f.spelled)
 
-predicates_place : (s : List ℕ) (a b : ℕ) (qs : List Predicate) (ps rest : List (List ℕ)) → lines_at s a ≡ record { ok = true; next = b; all = qs }
+predicates_place : (s : List ℕ) (a b : ℕ) (qs : List Predicate) (ps rest : List (List ℕ)) → lines_at s a ≡ read qs b
     → lines (drop a s) ≡ ps ++ rest → lines (drop b s) ≡ rest → b ≡ a + size ps
 predicates_place s a b qs ps rest e f g =
-    let t = predicates_are s a (ap (λ (x : Predicates). x.ok) e) in
-    let n : (lines_at s a).next ≡ b = ap (λ (x : Predicates). x.next) e in
-    let h : t.taken ++ rest ≡ ps ++ rest = ap (λ (x : List (List ℕ)). t.taken ++ x) (sym (ap (λ (k : ℕ). lines (drop k s)) n ∙ g)) ∙ (sym t.between.cuts ∙ f) in
+    let t = predicates_are s a (record { value = qs; next = b }) e in
+    let h : t.taken ++ rest ≡ ps ++ rest = ap (λ (x : List (List ℕ)). t.taken ++ x) (sym g) ∙ (sym t.between.cuts ∙ f) in
     let k : size t.taken + size rest ≡ size ps + size rest = sym (size_append t.taken rest) ∙ (ap size h ∙ size_append ps rest) in
     omega (arith, t.between.place)
 
 predicates_stage : (s : List ℕ) (a : ℕ) {qs : List Predicate} {ps : List (List ℕ)} {l : List ℕ} {v : ℕ} (ls : List (List ℕ))
     → PredicateLines ps qs → NumberLine (bytes "step=") l v → lines (drop a s) ≡ ps ++ (l ∷ ls)
-    → (b : ℕ) × (lines_at s a ≡ record { ok = true; next = b; all = qs }) × (lines (drop b s) ≡ l ∷ ls) × (b ≡ a + size ps)
+    → (b : ℕ) × (lines_at s a ≡ read qs b) × (lines (drop b s) ≡ l ∷ ls) × (b ≡ a + size ps)
 predicates_stage s a {qs} {ps} {l} ls form step e =
     let t = predicates_taken form s a (l ∷ ls) e (λ x h. step_stops ls step x h) in
     (t.0, t.1, t.2, predicates_place s a t.0 qs ps (l ∷ ls) t.1 e t.2)
 
 -- what the readers give one after the other is the head
-head_made : (s : List ℕ) (h : Head) (a b c d n : ℕ) → number_line_at (bytes "chan=") s 0 ≡ Number h.setup.channels a
-    → scales_at s a h.setup.channels ≡ record { ok = true; next = b; scales = h.setup.scales }
-    → lines_at s b ≡ record { ok = true; next = c; all = h.setup.predicates }
-    → number_line_at (bytes "step=") s c ≡ Number h.step d → number_line_at (bytes "drift=") s d ≡ Number h.drift n
+head_made : (s : List ℕ) (h : Head) (a b c d n : ℕ) → number_line_at (bytes "chan=") s 0 ≡ read h.setup.channels a
+    → scales_at s a h.setup.channels ≡ read h.setup.scales b → lines_at s b ≡ read h.setup.predicates c
+    → number_line_at (bytes "step=") s c ≡ read h.step d → number_line_at (bytes "drift=") s d ≡ read h.drift n
     → head_of s ≡ head_place h n
-unfolding head_of behind_channels behind_scales
+unfolding head_of
 head_made s h a b c d n e k p f g = rw (e, k, p, f, g)
 
 pub head_taken : (s : List ℕ) {ls : List (List ℕ)} {h : Head} (rest : List (List ℕ)) → HeadForm ls h → lines s ≡ ls ++ rest → head_of s ≡ head_place h (size ls)

@@ -1,4 +1,3 @@
--- The chain of line readers (`Chain`), that a head is read exactly where it is written (`Exact`), and that its predicates are in number order (`Order`).
-pub mod Chain
+-- That a head is read exactly where it is written (`Exact`), and that its predicates are in number order (`Order`).
 pub mod Exact
 pub mod Order
