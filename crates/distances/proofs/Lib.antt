@@ -1,3 +1,2 @@
--- The answer by the number that the tests found (`Answers`); what the contract promises, sentence by sentence (`Promises`).
-pub mod Answers
+-- What the contract promises, sentence by sentence.
 pub mod Promises

@@ -1,23 +1,23 @@
 -- The distance's answer: a value's distance from a predicate in its channel's unit, or the number of the first refusal that applies.
 -- Assumes nothing.
-use Rattle.std.specs.Prelude.{List, [], ◌∷◌, ℕ, ℤ, pos}
+use Rattle.std.specs.Prelude.{List, [], ◌∷◌, ℕ, ℤ, pos, Result, Ok, Err}
 use Rattle.recordings.specs.declared.Predicate.{Predicate}
 use Rattle.recordings.specs.Distance.{TOP, scaled_distance}
 use Rattle.recordings.specs.Accepted.{MOST_CHANNELS, ScaleInRange, InRange, Proper}
+use Rattle.refusals.specs.declared.Refusal.{Refusal}
 use Rattle.refusals.specs.First.{Check, first, unless_refused}
+use Rattle.refusals.specs.Number.{number}
 use Rattle.predicates.specs.Predicates.{predicate_obeys, value_obeys}
 use Rattle.scales.specs.Scales.{scale_obeys}
-use Rattle.distances.specs.declared.Answer.{Answer}
-use Rattle.distances.specs.declared.Answer.TheVariants.{Distance, Refused}
 
 -- a number, 0 for no refusal, and a distance, 0 under a refusal
 pub record DistanceOutcome : Type 0 where
   pub number : ℕ
   pub distance : ℤ
 
-abbrev pub distance_outcome : Answer → DistanceOutcome
-distance_outcome (Distance d) = record { number = 0; distance = d }
-distance_outcome (Refused n) = record { number = n; distance = pos 0 }
+abbrev pub distance_outcome : Result ℤ Refusal → DistanceOutcome
+distance_outcome (Ok d) = record { number = 0; distance = d }
+distance_outcome (Err r) = record { number = number r; distance = pos 0 }
 
 -- 4: the predicate is proper on no card, that is, not on one with all channels; then 13: the scale is out of range; then 7: the value is
 abbrev pub distance_checks : Predicate → ℕ → ℤ → List Check

@@ -5,27 +5,21 @@ ghost use Rattle.std.specs.Prelude.{◌≡◌};
 ghost use Rattle.distances.specs.Answers.{distance_outcome, distance_judged};
 
 use recordings::Predicate;
+use refusals::Refusal;
 
-// The distance, or the number of the first refusal that applies.
-#[derive(Clone, Copy)]
-pub enum Answer {
-    Distance(i64),
-    Refused(u64),
-}
-
-// A predicate is refused that no card could have, whatever its channels. An unset one reads as free, as elsewhere.
-pub fn distance(predicate: Predicate, scale: u64, value: i64) -> Answer
+// The distance, or the first refusal that applies. A predicate is refused that no card could have, whatever its channels. An unset one reads as free, as elsewhere.
+#[tactic(auto, unfolding(refusals::specs::First::first, crate::specs::Answers::distance_judged))]
+pub fn distance(predicate: Predicate, scale: u64, value: i64) -> Result<i64, Refusal>
     ensures { distance_outcome result ≡ distance_judged predicate scale value }
 {
     if !predicates::predicate_obeys(predicate, recordings::MOST_CHANNELS) {
-        return Answer::Refused(4);
+        return Err(Refusal::Channels);
     }
     if !scales::scale_obeys(scale) {
-        return Answer::Refused(13);
+        return Err(Refusal::Scales);
     }
     if !predicates::value_obeys(value) {
-        return Answer::Refused(7);
+        return Err(Refusal::Values);
     }
-    let range = predicate.range;
-    Answer::Distance(points::scaled_distance(range, scale, value))
+    Ok(points::scaled_distance(predicate.range, scale, value))
 }
