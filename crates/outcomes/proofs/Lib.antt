@@ -1,9 +1,9 @@
 -- The test of the order is exact (`Tests`), and the order is strict and total (`Laws`); lists in such an order (`Sorted`) and insertion into them (`Insertion`);
--- each list of outcomes has one arrangement (`Arrangements`), and an example has it (`Examples`); the loops of the code (`Steps`).
+-- the one arrangement (`Arrangements`), which sorted keys give (`Keys`); the example computed (`Examples`).
 pub mod Tests
 pub mod Laws
 pub mod Sorted
 pub mod Insertion
 pub mod Arrangements
-pub mod Steps
+pub mod Keys
 pub mod Examples
