@@ -19,10 +19,11 @@ use Rattle.lines.proofs.Counts.{count, count_append}
 use Rattle.lines.proofs.Lines.{Fed, fed_some, Each, none, also as more, lines_split, lines_clear}
 use Rattle.lines.proofs.Places.{LinesBetween, no_line, one_line, lines_both, lines_behind}
 use Rattle.requirement_lines.specs.declared.Place.{Place}
-use Rattle.requirement_lines.specs.declared.Line.{Line}
-use Rattle.requirement_lines.specs.declared.Line.TheVariants.{At, Bad}
+use Rattle.std.specs.Prelude.{Some, None, IfSome}
+use Rattle.text.specs.Mark.{read}
+use Rattle.text.proofs.Fields.{after_case}
 use Rattle.requirement_lines.specs.Form.{requirement_line, requirement_lines, places_from, StandsAt, Over}
-use Rattle.requirement_lines.specs.Reading.{requirement_at, after_requirement, Found, found, broken, also, requirements_from, requirements_at}
+use Rattle.requirement_lines.specs.Reading.{requirement_at, Found, also, requirements_from, requirements_at}
 use Rattle.requirement_lines.proofs.Written.{RequirementIs, requirement_is, line_fed, requirement_taken}
 use Rattle.requirement_lines.proofs.Collecting.{from_over, from_turn}
 use Rattle.requirement_lines.proofs.Over.{over_made, over_is, key_off}
@@ -36,8 +37,7 @@ pub record RequirementsAre (s : List ℕ) (at : ℕ) (ps : List Place) (n : ℕ)
   pub over : Over (lines (drop n s))
 
 abbrev FoundHere : List ℕ → ℕ → Found → Type 0
-FoundHere s at (found ps n) = RequirementsAre s at ps n
-FoundHere s at broken = Unit
+FoundHere s at x = IfSome x (λ r. RequirementsAre s at r.value r.next)
 
 none_here : (s : List ℕ) (at : ℕ) → prefix_of (bytes "req=") (drop at s) ≡ false → RequirementsAre s at [] at
 unfolding requirement_lines places_from
@@ -45,7 +45,7 @@ none_here s at h = record { requirements = []; places = refl; between = no_line 
 
 also_here : (s : List ℕ) (at : ℕ) (p : Place) (n : ℕ) → RequirementIs s at p n → (x : Found) → FoundHere s n x → FoundHere s at (also p x)
 unfolding requirement_lines places_from
-also_here s at p n r (found ps m) h =
+also_here s at p n r (Some f) h =
     let q : places_from n h.requirements ≡ places_from (at + 4 + length r.requirement + 1) h.requirements = ap (λ (k : ℕ). places_from k h.requirements) r.next in
     record {
       requirements = r.requirement ∷ h.requirements;
@@ -53,23 +53,19 @@ also_here s at p n r (found ps m) h =
       between = lines_both (one_line r.between (line_fed r.requirement r.clear)) h.between;
       over = h.over;
     }
-also_here s at p n r broken h = tt
-
-line_case : {A : Type 0} (P : A → Type 0) (x : Line) (f : Place → ℕ → A) (a : A) → ((p : Place) (n : ℕ) → x ≡ At p n → P (f p n)) → P a → P (after_requirement x f a)
-line_case P (At p n) f a h k = h p n refl
-line_case P Bad f a h k = k
+also_here s at p n r None h = tt
 
 found_here : (f : ℕ) (s : List ℕ) (at : ℕ) → length s ≤ at + f → FoundHere s at (requirements_from f s at)
 unfolding requirements_from prefix_of
 found_here zero s at l = none_here s at (rw (drop_of_length-le s {i = at} (omega arith)))
 found_here (suc f) s at l =
     test_case (FoundHere s at) (key_at (bytes "req=") s at) _ _
-    (λ t. line_case (FoundHere s at) (requirement_at s at) _ _
-    (λ p n e. let r = requirement_is s at p n e in also_here s at p n r (requirements_from f s n) (found_here f s n (omega (arith, r.next))))
-    tt)
+    (λ t. after_case (FoundHere s at) (requirement_at s at) _ _
+    (λ x e. let r = requirement_is s at x e in also_here s at x.value x.next r (requirements_from f s x.next) (found_here f s x.next (omega (arith, r.next))))
+    (λ e. tt))
     (λ t. none_here s at (key_off s at t))
 
-pub requirements_are : (s : List ℕ) (at : ℕ) (ps : List Place) (n : ℕ) → requirements_at s at ≡ found ps n → RequirementsAre s at ps n
+pub requirements_are : (s : List ℕ) (at : ℕ) (ps : List Place) (n : ℕ) → requirements_at s at ≡ read ps n → RequirementsAre s at ps n
 requirements_are s at ps n h = rw h at (found_here (length s) s at (omega arith))
 
 -- ---- complete
@@ -113,7 +109,7 @@ requirement_lines_fed s at (r ∷ rs) rest h =
     more (line_fed r f.clear) (requirement_lines_fed s (at + 4 + length r + 1) rs rest (next_front s at r (requirement_lines rs ++ rest) f))
 
 taken_from : (f : ℕ) (s : List ℕ) (at : ℕ) (rs rest : List (List ℕ)) → length s ≤ at + f → lines (drop at s) ≡ requirement_lines rs ++ rest → Over rest
-    → requirements_from f s at ≡ found (places_from at rs) (at + size (requirement_lines rs))
+    → requirements_from f s at ≡ read (places_from at rs) (at + size (requirement_lines rs))
 unfolding requirement_lines places_from size
 taken_from f s at [] rest l h o =
     let e : prefix_of (bytes "req=") (drop at s) ≡ false = over_is rest o (drop at s) h in
@@ -124,13 +120,13 @@ taken_from f s at (r ∷ rs) rest l h o =
     let p : Place = record { from = at + 4; to = at + 4 + length r } in
     let t = requirement_taken s at r w.rest w.bytes_are w.clear in
     let k : key_at (bytes "req=") s at ≡ true = front_key s at r (requirement_lines rs ++ rest) w in
-    let m : requirements_from (f - 1) s n ≡ found (places_from n rs) (n + size (requirement_lines rs)) =
+    let m : requirements_from (f - 1) s n ≡ read (places_from n rs) (n + size (requirement_lines rs)) =
     taken_from (f - 1) s n rs rest (omega arith) (next_front s at r (requirement_lines rs ++ rest) w) o in
     let z : n + size (requirement_lines rs) ≡ at + size (requirement_lines (r ∷ rs)) = omega (arith, size_requirement r rs) in
-    from_turn f s at (At p n) l k (sym t.0) ∙ (ap (also p) m ∙ ap (found (p ∷ places_from n rs)) z)
+    from_turn f s at l k ∙ rw (t.0, m) (ap (read (p ∷ places_from n rs)) z)
 
 pub requirements_taken : (s : List ℕ) (at : ℕ) (rs rest : List (List ℕ)) → lines (drop at s) ≡ requirement_lines rs ++ rest → Over rest
-    → (requirements_at s at ≡ found (places_from at rs) (at + size (requirement_lines rs))) × (lines (drop (at + size (requirement_lines rs)) s) ≡ rest)
+    → (requirements_at s at ≡ read (places_from at rs) (at + size (requirement_lines rs))) × (lines (drop (at + size (requirement_lines rs)) s) ≡ rest)
 requirements_taken s at rs rest h o = (
   taken_from (length s) s at rs rest (omega arith) h o,
   ap lines (sym (drop-drop (size (requirement_lines rs)) at s)) ∙ lines_behind (requirement_lines rs) rest (drop at s) h,
@@ -149,7 +145,7 @@ place_holds s at (r ∷ rs) rest h zero d l =
     record {
       bytes = rw (e, t.1) (take-append_seam r (bytes "\n" ++ w.rest));
       ordered = omega arith;
-      inside = omega (arith, (requirement_is s at _ _ t.0).between.inside);
+      inside = omega (arith, (requirement_is s at _ t.0).between.inside);
     }
 place_holds s at (r ∷ rs) rest h (suc k) d l =
     let w = front s at r (requirement_lines rs ++ rest) h in

@@ -10,20 +10,27 @@ use lib.Seq.{drop-drop}
 use lib.Dec.{eqb}
 use Rattle.text.specs.Bytes.{bytes}
 use Rattle.text.specs.Mark.{mark_at}
-use Rattle.text.specs.declared.Mark.TheVariants.{Next}
+use Rattle.std.specs.Prelude.{Option, Some, not, ◌==◌, IfSome}
+use Rattle.std.specs.List.{take_while}
+use Rattle.std.proofs.lemmas.List.Sums.{take_while-cons}
+use Rattle.text.specs.declared.Read.{Read}
 use Rattle.text.proofs.Tests.{by_test}
 use Rattle.text.proofs.Places.{Between, between_both, after_bytes}
 use Rattle.text.proofs.Answers.{mark_is}
-use Rattle.text.proofs.Fields.{mark_case, mark_taken}
+use Rattle.text.proofs.Fields.{after_case, mark_taken}
 use Rattle.lines.proofs.Counts.{count, count_append}
 use Rattle.lines.proofs.Lines.{Fed}
 use Rattle.requirement_lines.specs.declared.Place.{Place}
-use Rattle.requirement_lines.specs.declared.Line.{Line}
-use Rattle.requirement_lines.specs.declared.Line.TheVariants.{At, Bad}
 use Rattle.requirement_lines.specs.Form.{requirement_line}
 use Rattle.requirement_lines.specs.Reading.{until_feed, placed_line, requirement_at}
 
 -- ---- the bytes before the first line feed
+
+-- the code takes them one after the other
+pub until_taken : (s : List ℕ) → take_while (λ b. not (b == 10)) s ≡ until_feed s
+unfolding until_feed
+until_taken [] = refl
+until_taken (b ∷ s) = rw (take_while-cons (λ b. not (b == 10)) b s) (by_test (eqb b 10) (λ t. rw t) (λ t. rw (t, until_taken s)))
 
 until_split : (s : List ℕ) → s ≡ until_feed s ++ drop (length (until_feed s)) s
 unfolding until_feed
@@ -52,18 +59,17 @@ pub record RequirementIs (s : List ℕ) (at : ℕ) (p : Place) (n : ℕ) : Type 
   pub place : p ≡ record { from = at + 4; to = at + 4 + length requirement }
   pub next : n ≡ at + 4 + length requirement + 1
 
-abbrev RequirementHere : List ℕ → ℕ → Line → Type 0
-RequirementHere s at (At p n) = RequirementIs s at p n
-RequirementHere s at Bad = Unit
+abbrev RequirementHere : List ℕ → ℕ → Option (Read Place) → Type 0
+RequirementHere s at x = IfSome x (λ r. RequirementIs s at r.value r.next)
 
 requirement_here : (s : List ℕ) (at : ℕ) → RequirementHere s at (requirement_at s at)
 unfolding requirement_at
 requirement_here s at =
-    mark_case (RequirementHere s at) (mark_at (bytes "req=") s at) _ _
-    (λ from e. mark_case (RequirementHere s at) (mark_at (bytes "\n") s (from + length (until_feed (drop from s)))) _ _ (λ n f. is from n e f) (λ f. tt))
+    after_case (RequirementHere s at) (mark_at (bytes "req=") s at) _ _
+    (λ from e. after_case (RequirementHere s at) (mark_at (bytes "\n") s (from + length (until_feed (drop from s)))) _ _ (λ n f. is from n e f) (λ f. tt))
     (λ e. tt)
   where
-    is : (from n : ℕ) → mark_at (bytes "req=") s at ≡ Next from → mark_at (bytes "\n") s (from + length (until_feed (drop from s))) ≡ Next n
+    is : (from n : ℕ) → mark_at (bytes "req=") s at ≡ Some from → mark_at (bytes "\n") s (from + length (until_feed (drop from s))) ≡ Some n
         → RequirementIs s at (record { from = from; to = from + length (until_feed (drop from s)) }) n
     is from n e f =
         let a = mark_is (bytes "req=") s at from e in
@@ -83,8 +89,8 @@ requirement_here s at =
           next = omega (arith, b.end);
         }
 
-pub requirement_is : (s : List ℕ) (at : ℕ) (p : Place) (n : ℕ) → requirement_at s at ≡ At p n → RequirementIs s at p n
-requirement_is s at p n h = rw h at (requirement_here s at)
+pub requirement_is : (s : List ℕ) (at : ℕ) (r : Read Place) → requirement_at s at ≡ Some r → RequirementIs s at r.value r.next
+requirement_is s at r h = rw h at (requirement_here s at)
 
 -- a requirement without a line feed has a line that ends in its only one
 pub line_fed : (r : List ℕ) → count 10 r ≡ 0 → Fed (requirement_line r)
@@ -92,13 +98,13 @@ unfolding count
 line_fed r c = record { body = bytes "req=" ++ r; ends = refl; clear = count_append 10 (bytes "req=") r ∙ omega arith }
 
 -- the next line begins past this one's beginning
-pub requirement_past : (s : List ℕ) (at : ℕ) (p : Place) (n : ℕ) → requirement_at s at ≡ At p n → at < n
-requirement_past s at p n h = omega (arith, (requirement_is s at p n h).next)
+pub requirement_past : (s : List ℕ) (at : ℕ) (r : Read Place) → requirement_at s at ≡ Some r → at < r.next
+requirement_past s at r h = omega (arith, (requirement_is s at r h).next)
 
 -- ---- complete
 
-requirement_read : (s : List ℕ) (at from n : ℕ) (w r : List ℕ) → mark_at (bytes "req=") s at ≡ Next from → drop from s ≡ w ++ (10 ∷ r) → count 10 w ≡ 0
-    → mark_at (bytes "\n") s (from + length w) ≡ Next n → requirement_at s at ≡ placed_line from (from + length w) n
+requirement_read : (s : List ℕ) (at from n : ℕ) (w r : List ℕ) → mark_at (bytes "req=") s at ≡ Some from → drop from s ≡ w ++ (10 ∷ r) → count 10 w ≡ 0
+    → mark_at (bytes "\n") s (from + length w) ≡ Some n → requirement_at s at ≡ placed_line from (from + length w) n
 unfolding requirement_at
 requirement_read s at from n w r e f c g =
     let h : until_feed (drop from s) ≡ w = ap until_feed f ∙ until_feed_is w r c in

@@ -1,18 +1,15 @@
--- `requirement_lines::read_line` meets its contract: each branch of the code is a case of the definition.
+-- `requirement_lines::read_line` meets its contract: the place after a mark is inside the text.
 -- Assumes nothing.
-use Rattle.requirement_lines.specs.Reading.{requirement_at}
-use Rattle.requirement_lines.proofs.Steps.{line_open, line_whole}
-use mathlib.Core.Path.{sym, ◌∙◌}
+use Rattle.std.proofs.Common.{◌≤◌, length, sym, ◌∙◌, rules}
+use Rattle.text.proofs.Answers.{mark_is}
 use Rattle.requirement_lines.proofs.read_line.Goals as goal
+use Rattle.requirement_lines.proofs.read_line.Goals.{In_ok-from}
 
-pub returns-in_default : goal.returns-in_default
-unfolding requirement_at
-returns-in_default c = rw (sym c.read_mark.ensures ∙ c.in_default.is)
+inside : (c : In_ok-from) → c.in_ok-from.from ≤ length c.args.s.now
+inside c = (mark_is _ _ _ _ (sym c.read_mark.ensures ∙ c.in_ok-from.was)).inside
 
-pub returns-in_default-read_mark : goal.returns-in_default-read_mark
-returns-in_default-read_mark c =
-    line_open _ _ _ _ (sym c.read_mark.ensures ∙ c.in-Next.is) c.line_end-to.ensures (sym c.read_mark-2.ensures ∙ c.in_default-read_mark.is)
+pub slice_bounds-before_feed-count : goal.slice_bounds-before_feed-count
+slice_bounds-before_feed-count c = inside (goal.at.slice_bounds-before_feed-count c).In_ok-from
 
-pub returns : goal.returns
-returns c =
-    line_whole _ _ _ _ (sym c.read_mark.ensures ∙ c.in-Next.is) c.line_end-to.ensures _ (sym c.read_mark-2.ensures ∙ c.in-Next-read_mark.is)
+pub slice_bounds-before_feed-start : goal.slice_bounds-before_feed-start
+slice_bounds-before_feed-start c = let i = inside (goal.at.slice_bounds-before_feed-start c).In_ok-from in search rules

@@ -5,8 +5,8 @@ use lib.ListN.{length}
 use Rattle.requirement_lines.proofs.Collecting.{Collecting}
 use Rattle.requirement_lines.proofs.read_requirements.Given as goal
 
-abbrev pub invariant-loop-place : goal.invariant-loop-place
-invariant-loop-place l = Collecting l.s l.at l.rs
+abbrev pub invariant-loop-next : goal.invariant-loop-next
+invariant-loop-next l = Collecting l.s l.at l.count l.places l.next
 
-abbrev pub decreases-loop-place : goal.decreases-loop-place
-decreases-loop-place l = length l.s - l.rs.next
+abbrev pub decreases-loop-next : goal.decreases-loop-next
+decreases-loop-next l = length l.s - l.next
