@@ -29,7 +29,6 @@ used_agree unused k x n f h = tt
 pub node_asks : {work : List ℤ} {c : Card} {n : Node} {k left right row : ℕ} → NodeRules n k → (n.left < k → left < row) → (n.right < k → right < row) → Recorded c → (n.kind ≡ predicate_kind → (predicate c n.left).range ≡ Unset → ⊥) → row * rows c + rows c ≤ length work → ((q : ℕ) → q < row → Bounded work (rows c) q) → NodeAsks work c n left right row
 node_asks {n} {k} r place other recorded set room bounded = record {
   recorded = recorded;
-  known = r.known;
   left_earlier = used_earlier (left_use (operator n.kind)) k n.left place r.left;
   right_earlier = used_earlier (right_use (operator n.kind)) k n.right other r.right;
   numbered = λ e. subst (λ (x : ℕ). Used (left_use (operator x)) k n.left) e r.left;

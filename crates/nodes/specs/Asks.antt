@@ -6,7 +6,7 @@ use Rattle.recordings.specs.Card.{Card, rows, predicate}
 use Rattle.recordings.specs.Accepted.{Recorded}
 use Rattle.rows.specs.Cells.{Bounded}
 use Rattle.tables.specs.declared.Node.{Node}
-use Rattle.tables.specs.Kind.{kinds, operator, predicate_kind}
+use Rattle.tables.specs.Kind.{operator, predicate_kind}
 use Rattle.tables.specs.Rules.{Use, child, number, unused, left_use, right_use}
 
 -- a row that an operand is read from stands before the row that is filled
@@ -17,7 +17,6 @@ Earlier unused from row = Unit
 
 pub record NodeAsks (work : List ℤ) (c : Card) (n : Node) (left right row : ℕ) : Type 0 where
   pub recorded : Recorded c
-  pub known : n.kind < length kinds
   pub left_earlier : Earlier (left_use (operator n.kind)) left row
   pub right_earlier : Earlier (right_use (operator n.kind)) right row
   pub numbered : n.kind ≡ predicate_kind → n.left ≤ 15

@@ -1,25 +1,24 @@
 // The row of one node from the rows of its children: the same for a margin, which has a row for each node, and for a verdict, which has two.
 #![tactic(auto)]
 
-ghost use Rattle.std.specs.Prelude.{◌≡◌, ◌*◌, length};
+ghost use Rattle.std.specs.Prelude.{◌≡◌, ◌*◌};
 ghost use Rattle.lists.specs.Fill.{fill};
 ghost use Rattle.rows.specs.Cells.{cell};
 ghost use Rattle.tables.specs.Kind.{operator};
 ghost use Rattle.nodes.specs.Values.{node_value};
 ghost use Rattle.nodes.specs.Asks.{NodeAsks};
-ghost use Rattle.recordings.specs.Card.{lent};
+ghost use Rattle.recordings.specs.Card.{card_of, rows};
 
 use logic::Window;
-use recordings::Setup;
-use tables::Node;
+use recordings::Recording;
+use tables::{Node, Operator};
 use temporal::Left;
 
 // Row `row` gets the node's values, or, where it is not affirmed, those of its negation, from rows `left` and `right`.
+#[tactic(auto, unfolding(crate::specs::Values::node_value))]
 pub fn node_row(
     node: Node,
-    setup: Setup,
-    times: &[u64],
-    values: &[i64],
+    recording: &Recording,
     affirmed: bool,
     window: Window,
     work: &mut [i64],
@@ -27,35 +26,39 @@ pub fn node_row(
     right: usize,
     row: usize,
 )
-    requires { NodeAsks work.old (lent setup times values) node left right row }
-    ensures { work.new ≡ fill (row * length times.now) (length times.now) (node_value (lent setup times.entry values.entry) affirmed window (operator node.kind) node (cell work.old (length times.now) left) (cell work.old (length times.now) right)) work.old }
+    requires { NodeAsks work.old (card_of recording.now) node left right row }
+    ensures { let c = card_of recording.now in work.new ≡ fill (row * rows c) (rows c) (node_value c affirmed window (operator node.kind) node (cell work.old (rows c) left) (cell work.old (rows c) right)) work.old }
 {
+    let times = recording.times;
     let rows = times.len();
-    let kind = node.kind;
-    if kind == tables::TRUE {
-        return rows::true_row(rows, affirmed, work, row);
-    }
-    if kind == tables::PREDICATE {
-        let named = node.left;
-        let predicate = setup.predicates[named];
-        let channels = setup.channels;
-        let scales = setup.scales;
-        let channel = predicate.channel;
-        let scale = scales.each[channel];
-        return rows::predicate_row(
-            predicate, scale, channels, values, rows, affirmed, work, row,
-        );
-    }
-    if kind == tables::NOT {
-        return rows::signed_row(rows, true, work, left, row);
-    }
-    let e = logic::turn(affirmed, tables::extremum_of(kind));
-    if !tables::is_timed(kind) {
-        return rows::joined_row(rows, e, work, left, right, row);
-    }
-    if tables::has_right(kind) {
-        temporal::temporal_row(times, e, window, work, Left::Row(left), right, row)
-    } else {
-        temporal::temporal_row(times, e, window, work, Left::Absent, left, row)
+    match Operator::from(node.kind) {
+        Operator::Constant | Operator::Unknown => rows::true_row(rows, affirmed, work, row),
+        Operator::Named => {
+            let setup = recording.setup;
+            let predicate = setup.predicates[node.left];
+            let scale = setup.scales.each[predicate.channel];
+            rows::predicate_row(
+                predicate,
+                scale,
+                setup.channels,
+                recording.values,
+                rows,
+                affirmed,
+                work,
+                row,
+            )
+        }
+        Operator::Negated => rows::signed_row(rows, true, work, left, row),
+        Operator::Joined(e) => {
+            rows::joined_row(rows, logic::turn(affirmed, e), work, left, right, row)
+        }
+        Operator::Binary(_, e) => {
+            let e = logic::turn(affirmed, e);
+            temporal::temporal_row(times, e, window, work, Left::Row(left), right, row)
+        }
+        Operator::Unary(_, e) => {
+            let e = logic::turn(affirmed, e);
+            temporal::temporal_row(times, e, window, work, Left::Absent, left, row)
+        }
     }
 }
