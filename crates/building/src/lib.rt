@@ -8,7 +8,7 @@ ghost use Rattle.building.specs.Nodes.{node, empty_table};
 ghost use Rattle.building.specs.Storing.{cells_of, step_of, leaf_cells, pushed_step, pushed_cells, parent_step, wrap_cells, join_cells, closed_step, WIDTH as NODE_WIDTH, CELLS as TABLE_CELLS, node_read, node_from, table_from};
 
 use tables::{Node, Span, Table};
-use text::{Field, Mark};
+use text::Field;
 
 // A node has so many numbers.
 pub const WIDTH: usize = 7;
@@ -16,28 +16,21 @@ pub const WIDTH: usize = 7;
 // Cells for all nodes of a table.
 pub const CELLS: usize = WIDTH * tables::NODES;
 
-// A part of the grammar that was read: the place after it, its root's number and the next free number.
+// A part of the grammar that was read, as the nodes of its tree: the place after it, its root's number and the next free number.
 #[derive(Clone, Copy)]
-pub struct Part {
+pub struct Subtree {
     pub end: usize,
     pub root: usize,
     pub free: usize,
 }
 
-// What reading a part gives.
-#[derive(Clone, Copy)]
-pub enum Step {
-    Read(Part),
-    Refused,
-}
-
 // One node more, which is the root; refused where the table is full.
-pub fn push(at: usize, free: usize, x: Node, cells: &mut [u64; CELLS]) -> Step
+pub fn push(at: usize, free: usize, x: Node, cells: &mut [u64; CELLS]) -> Option<Subtree>
     ensures step { result ≡ pushed_step free at }
     ensures cells { cells.new ≡ pushed_cells free x cells.old }
 {
     if tables::NODES <= free {
-        return Step::Refused;
+        return None;
     }
     let first = WIDTH * free;
     cells[first] = x.kind;
@@ -47,7 +40,7 @@ pub fn push(at: usize, free: usize, x: Node, cells: &mut [u64; CELLS]) -> Step
     cells[first + 4] = x.span.hi;
     cells[first + 5] = x.span.openlo;
     cells[first + 6] = x.span.openhi;
-    Step::Read(Part {
+    Some(Subtree {
         end: at,
         root: free,
         free: free + 1,
@@ -55,54 +48,53 @@ pub fn push(at: usize, free: usize, x: Node, cells: &mut [u64; CELLS]) -> Step
 }
 
 // The parent of one reading.
-pub fn wrap(kind: u64, span: Span, inner: Step, cells: &mut [u64; CELLS]) -> Step
+pub fn wrap(
+    kind: u64,
+    span: Span,
+    inner: Option<Subtree>,
+    cells: &mut [u64; CELLS],
+) -> Option<Subtree>
     ensures step { result ≡ parent_step inner }
     ensures cells { cells.new ≡ wrap_cells kind span inner cells.old }
 {
-    let Step::Read(part) = inner else {
-        return Step::Refused;
-    };
+    let part = inner?;
     let x = Node {
-        kind: kind,
+        kind,
         left: part.root,
         right: 0,
-        span: span,
+        span,
     };
     push(part.end, part.free, x, cells)
 }
 
 // The parent of the root `left` and of the reading after it.
-pub fn join(kind: u64, span: Span, left: usize, inner: Step, cells: &mut [u64; CELLS]) -> Step
+pub fn join(
+    kind: u64,
+    span: Span,
+    left: usize,
+    inner: Option<Subtree>,
+    cells: &mut [u64; CELLS],
+) -> Option<Subtree>
     ensures step { result ≡ parent_step inner }
     ensures cells { cells.new ≡ join_cells kind span left inner cells.old }
 {
-    let Step::Read(part) = inner else {
-        return Step::Refused;
-    };
+    let part = inner?;
     let x = Node {
-        kind: kind,
-        left: left,
+        kind,
+        left,
         right: part.root,
-        span: span,
+        span,
     };
     push(part.end, part.free, x, cells)
 }
 
 // A reading and the parenthesis that closes it.
-pub fn close(s: &[u8], inner: Step) -> Step
+pub fn close(s: &[u8], inner: Option<Subtree>) -> Option<Subtree>
     ensures { result ≡ closed_step s.now inner }
 {
-    let Step::Read(part) = inner else {
-        return Step::Refused;
-    };
-    let Mark::Next(next) = text::read_mark(s, part.end, b")") else {
-        return Step::Refused;
-    };
-    Step::Read(Part {
-        end: next,
-        root: part.root,
-        free: part.free,
-    })
+    let part = inner?;
+    let end = text::read_mark(s, part.end, b")")?;
+    Some(Subtree { end, ..part })
 }
 
 // A node without children and window: a predicate's number stands in left.
@@ -110,7 +102,7 @@ fn leaf(kind: u64, number: usize) -> Node
     ensures { result ≡ node kind number 0 no_span }
 {
     Node {
-        kind: kind,
+        kind,
         left: number,
         right: 0,
         span: tables::no_span(),
@@ -170,9 +162,8 @@ pub fn cells_of(nodes: [Node; tables::NODES]) -> [u64; CELLS]
     ensures { result ≡ cells_of nodes }
 {
     let mut cells = [0u64; CELLS];
-    for k in 0..tables::NODES {
-        let node = nodes[k];
-        push(0, k, node, &mut cells);
+    for (k, node) in nodes.iter().enumerate() {
+        push(0, k, *node, &mut cells);
     }
     cells
 }
@@ -194,15 +185,15 @@ pub fn table_from(cells: &[u64], count: usize) -> Table
 }
 
 // True, or a predicate with 0 to 15.
-pub fn read_leaf(s: &[u8], at: usize, free: usize, cells: &mut [u64; CELLS]) -> Step
+pub fn read_leaf(s: &[u8], at: usize, free: usize, cells: &mut [u64; CELLS]) -> Option<Subtree>
     ensures step { result ≡ step_of free (leaf_at s.now at) }
     ensures cells { cells.new ≡ leaf_cells free (leaf_at s.now at) cells.old }
 {
-    if let Mark::Next(next) = operators::read_letter(s, at, tables::TRUE) {
+    if let Some(next) = operators::read_letter(s, at, tables::TRUE) {
         return push(next, free, leaf(tables::TRUE, 0), cells);
     }
     let Field::Number(value, next) = text::read_field(s, at, b"p", 15) else {
-        return Step::Refused;
+        return None;
     };
     push(next, free, leaf(tables::PREDICATE, value as usize), cells)
 }

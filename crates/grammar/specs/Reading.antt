@@ -6,6 +6,8 @@ use Rattle.text.specs.declared.Read.{Read}
 use Rattle.text.specs.declared.Field.{Field}
 use Rattle.text.specs.declared.Field.TheVariants.{Number, Bad as Field_as_Bad}
 use Rattle.text.specs.Number.{number_at, field_at, after_number}
+use Rattle.grammar.specs.declared.Part.{Part}
+use Rattle.grammar.specs.declared.Part.TheVariants.{Alternative, Conjunction, Bind, Unary}
 use Rattle.grammar.specs.declared.Operator.{Operator}
 use Rattle.grammar.specs.declared.Operator.TheVariants.{Absent, Over, Bad}
 use Rattle.tables.specs.Kind.{true_kind, predicate_kind, not_kind, and_kind, or_kind}
@@ -136,6 +138,13 @@ conjunction_at d = conjunction_of (unary_at d)
 
 abbrev pub alternative_at : ℕ → Reads
 alternative_at d = alternative_of (unary_at d)
+
+-- a part of the grammar with at most d enclosings one inside another
+abbrev pub part_at : Part → ℕ → Reads
+part_at Alternative = alternative_at
+part_at Conjunction = conjunction_at
+part_at Bind = bind_at
+part_at Unary = unary_at
 
 -- a reading that ends with the text and has at most 64 nodes
 abbrev pub whole : List ℕ → Reading → Reading

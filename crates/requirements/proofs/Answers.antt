@@ -8,8 +8,7 @@ use Rattle.grammar.specs.Tree.{Tree}
 use Rattle.grammar.specs.Grammar.{Requires}
 use Rattle.grammar.specs.Reading.{Reading, got, none, requirement_tree}
 use Rattle.grammar.proofs.Readings.{reading_sound, reading_complete, reading_refused}
-use Rattle.requirements.specs.declared.Requirement.{Requirement}
-use Rattle.requirements.specs.Requirement.{accepted, refused, answer_of, requirement_of}
+use Rattle.requirements.specs.Requirement.{Requirement, accepted, refused, answer_of, requirement_of}
 
 -- what the grammar derives is answered, with its table
 pub answer_complete : (s : List ℕ) (a : Tree) → Requires s a → requirement_of s ≡ accepted a

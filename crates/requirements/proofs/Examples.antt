@@ -9,8 +9,7 @@ use Rattle.text.specs.Mark.{prefix_of, mark_at}
 use Rattle.text.specs.Number.{digits, value, number_at, field_at}
 use Rattle.grammar.specs.Tree.{size}
 use Rattle.grammar.specs.Reading.{bracket_at, high_end_at, window_at, timed_at, timed_among, leaf_at, more_turns, bind_by, unary_by, unary_at, requirement_tree}
-use Rattle.requirements.specs.declared.Requirement.{Requirement}
-use Rattle.requirements.specs.Requirement.{refused, requirement_of}
+use Rattle.requirements.specs.Requirement.{Requirement, refused, requirement_of}
 use Rattle.requirements.specs.Examples.{Example, examples, is_none}
 
 table : map (λ (e : Example). requirement_of e.text) examples ≡ map (λ (e : Example). e.answer) examples

@@ -5,8 +5,7 @@ use Rattle.text.specs.Bytes.{bytes}
 use Rattle.tables.specs.Kind.{not_kind, and_kind, or_kind, until_kind, release_kind, eventually_kind, always_kind}
 use Rattle.tables.specs.Tree.{NO_END, marked, span, no_span}
 use Rattle.grammar.specs.Tree.{Tree, truth, predicate, one, two}
-use Rattle.requirements.specs.declared.Requirement.{Requirement}
-use Rattle.requirements.specs.Requirement.{accepted, refused}
+use Rattle.requirements.specs.Requirement.{Requirement, accepted, refused}
 
 pub record Example : Type 0 where
   pub text : List ℕ

@@ -4,9 +4,9 @@ use mathlib.Core.Path.{sym, ◌∙◌}
 use Rattle.building.proofs.Stores.{true_stored, predicate_stored, leaf_refused}
 use Rattle.building.proofs.read_leaf.Goals as goal
 
-pub returns-in-Next : goal.returns-in-Next
-returns-in-Next c =
-    let t = true_stored c.args.free c.args.s.now c.args.at _ _ _ _ (sym c.read_letter.ensures ∙ c.in-Next.is) c.push.ensures.step (rw c.leaf.ensures at c.push.ensures.cells) in
+pub returns-in-Some : goal.returns-in-Some
+returns-in-Some c =
+    let t = true_stored c.args.free c.args.s.now c.args.at _ _ _ _ (sym c.read_letter.ensures ∙ c.in-Some.is) c.push.ensures.step (rw c.leaf.ensures at c.push.ensures.cells) in
     record { step = t.0; cells = t.1 }
 
 pub returns-in_default-read_field : goal.returns-in_default-read_field

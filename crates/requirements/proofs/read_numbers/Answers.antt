@@ -3,11 +3,11 @@
 use Rattle.requirements.proofs.Wholes.{whole_refused, whole_read_all, whole_part, none_numbered, started}
 use Rattle.requirements.proofs.read_numbers.Goals as goal
 
+pub returns-in-Some : goal.returns-in-Some
+returns-in-Some c = whole_read_all _ _ _ (started c.requires c.read_part.ensures) _ _ _ c.in-Some.is c.if-whole-text.true
+
 pub returns-in_default : goal.returns-in_default
-returns-in_default c = rw c.uncounted.ensures (none_numbered _ (whole_refused _ _ _ (started c.requires c.read_alternative.ensures) c.in_default.is))
+returns-in_default c = none_numbered _ (whole_part _ _ _ (started c.requires c.read_part.ensures) _ _ _ c.in-Some.is c.if-whole-text.false)
 
-pub returns-then-part-text : goal.returns-then-part-text
-returns-then-part-text c = whole_read_all _ _ _ (started c.requires c.read_alternative.ensures) _ _ _ c.in-Read.is c.if-part-text.true
-
-pub returns-else-part-text : goal.returns-else-part-text
-returns-else-part-text c = rw c.uncounted-else-part-text.ensures (none_numbered _ (whole_part _ _ _ (started c.requires c.read_alternative.ensures) _ _ _ c.in-Read.is c.if-part-text.false))
+pub returns-in_default-2 : goal.returns-in_default-2
+returns-in_default-2 c = none_numbered _ (whole_refused _ _ _ (started c.requires c.read_part.ensures) c.in_default.is)
