@@ -1,3 +1,4 @@
 pub mod Fold
 pub mod Fill
 pub mod Front
+pub mod Each
