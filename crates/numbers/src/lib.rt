@@ -11,13 +11,13 @@ ghost use Rattle.numbers.specs.Order.{smaller_of, larger_of};
 pub fn smaller(a: i64, b: i64) -> i64
     ensures { result ≡ smaller_of a b }
 {
-    if b < a { b } else { a }
+    a.min(b)
 }
 
 pub fn larger(a: i64, b: i64) -> i64
     ensures { result ≡ larger_of a b }
 {
-    if a < b { b } else { a }
+    a.max(b)
 }
 
 // Whether a is not above b.
@@ -48,14 +48,9 @@ pub fn product(a: i64, b: i64) -> i64
     a * b
 }
 
-// The number without its sign. The least number's is one more than any signed number, so it is taken in two steps.
+// The number without its sign.
 pub fn magnitude(a: i64) -> u64
     ensures { result ≡ nat_abs a }
 {
-    if a < 0 {
-        let less = -(a + 1);
-        (less as u64) + 1
-    } else {
-        a as u64
-    }
+    a.unsigned_abs()
 }

@@ -38,26 +38,14 @@ pub enum Range {
 pub fn is_unset(range: Range) -> bool
     ensures { result ≡ is_unset range }
 {
-    match range {
-        Range::Unset => true,
-        Range::Free => false,
-        Range::AtLeast(_) => false,
-        Range::AtMost(_) => false,
-        Range::Between(_, _) => false,
-    }
+    matches!(range, Range::Unset)
 }
 
 // Whether every number is inside the range; unset reads as free.
 pub fn is_free(range: Range) -> bool
     ensures { result ≡ is_free range }
 {
-    match range {
-        Range::Unset => true,
-        Range::Free => true,
-        Range::AtLeast(_) => false,
-        Range::AtMost(_) => false,
-        Range::Between(_, _) => false,
-    }
+    matches!(range, Range::Unset | Range::Free)
 }
 
 // A channel together with a range. A requirement names one of sixteen of them by its number.

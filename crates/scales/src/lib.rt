@@ -6,6 +6,7 @@ ghost use Rattle.scales.specs.Scales.{scale_obeys, passed_obeys, scales_obey};
 
 use recordings::{MOST_CHANNELS, MOST_SCALE, Scales};
 
+#[tactic(auto, unfolding(crate::specs::Scales::scale_obeys))]
 pub fn scale_obeys(scale: u64) -> bool
     ensures { result ≡ scale_obeys scale }
 {
@@ -13,24 +14,15 @@ pub fn scale_obeys(scale: u64) -> bool
 }
 
 // A place from the count on holds no scale that was passed.
+#[tactic(auto, unfolding(crate::specs::Scales::passed_obeys))]
 fn passed_obeys(count: usize, channel: usize, scale: u64) -> bool
     ensures { result ≡ passed_obeys count channel scale }
 {
-    let obeys = scale_obeys(scale);
-    (count <= channel) | obeys
+    (count <= channel) | scale_obeys(scale)
 }
 
 pub fn scales_obey(scales: Scales) -> bool
     ensures { result ≡ scales_obey scales }
 {
-    let count = scales.count;
-    let mut ok = true;
-    let mut channel = 0;
-    while channel < MOST_CHANNELS {
-        let scale = scales.each[channel];
-        let obeys = passed_obeys(count, channel, scale);
-        ok = ok & obeys;
-        channel += 1;
-    }
-    ok
+    (0..MOST_CHANNELS).all(|channel| passed_obeys(scales.count, channel, scales.each[channel]))
 }
