@@ -1,2 +1,3 @@
--- The lines of a text (`Lines`).
+-- The lines of a text (`Lines`), and parts that are read one after another (`Reading`).
 pub mod Lines
+pub mod Reading

@@ -9,12 +9,13 @@ use lib.ListN.{length, set, length-append}
 use Rattle.text.specs.Bytes.{bytes}
 use Rattle.text.specs.Mark.{key_at}
 use Rattle.text.proofs.Marks.{key_inside}
+use Rattle.lines.specs.Reading.{also}
 use Rattle.requirement_lines.specs.declared.Place.{Place}
 use Rattle.std.specs.Prelude.{Some, None}
 use Rattle.text.specs.Mark.{after, read}
 use Rattle.text.specs.declared.Read.{Read}
 use Rattle.requirement_lines.specs.Form.{nowhere, sixteen}
-use Rattle.requirement_lines.specs.Reading.{requirement_at, Found, also, requirements_from, requirements_at, stored}
+use Rattle.requirement_lines.specs.Reading.{requirement_at, Found, requirements_from, requirements_at, stored}
 use Rattle.requirement_lines.proofs.Written.{requirement_past}
 use Rattle.requirement_lines.proofs.Sixteen.{sixteen_more}
 

@@ -18,12 +18,13 @@ use Rattle.lines.specs.Lines.{lines, size}
 use Rattle.lines.proofs.Counts.{count, count_append}
 use Rattle.lines.proofs.Lines.{Fed, fed_some, Each, none, also as more, lines_split, lines_clear}
 use Rattle.lines.proofs.Places.{LinesBetween, no_line, one_line, lines_both, lines_behind}
+use Rattle.lines.specs.Reading.{also}
 use Rattle.requirement_lines.specs.declared.Place.{Place}
 use Rattle.std.specs.Prelude.{Some, None, IfSome}
 use Rattle.text.specs.Mark.{read}
 use Rattle.text.proofs.Fields.{after_case}
 use Rattle.requirement_lines.specs.Form.{requirement_line, requirement_lines, places_from, StandsAt, Over}
-use Rattle.requirement_lines.specs.Reading.{requirement_at, Found, also, requirements_from, requirements_at}
+use Rattle.requirement_lines.specs.Reading.{requirement_at, Found, requirements_from, requirements_at}
 use Rattle.requirement_lines.proofs.Written.{RequirementIs, requirement_is, line_fed, requirement_taken}
 use Rattle.requirement_lines.proofs.Collecting.{from_over, from_turn}
 use Rattle.requirement_lines.proofs.Over.{over_made, over_is, key_off}

@@ -1,9 +1,10 @@
 -- The requirement lines of a text, read from a place on. `Exact` in proofs/ shows that they are read exactly where the form of Form.antt stands.
 -- Assumes nothing.
-use Rattle.std.specs.Prelude.{ℕ, zero, suc, ◌+◌, cond, List, [], ◌∷◌, Option, Some, None, length, drop, eqb}
+use Rattle.std.specs.Prelude.{ℕ, zero, suc, ◌+◌, cond, List, [], ◌∷◌, Option, None, length, drop, eqb}
 use Rattle.text.specs.Bytes.{bytes}
 use Rattle.text.specs.Mark.{key_at, mark_at, after, read}
 use Rattle.text.specs.declared.Read.{Read}
+use Rattle.lines.specs.Reading.{also}
 use Rattle.requirement_lines.specs.declared.Place.{Place}
 use Rattle.requirement_lines.specs.declared.Requirements.{Requirements}
 use Rattle.requirement_lines.specs.Form.{sixteen}
@@ -26,10 +27,6 @@ requirement_at s at =
 -- the places of the requirements whose lines follow one another from a place on, and the place behind them; none where a line lacks its line feed
 abbrev pub Found : Type 0
 Found = Option (Read (List Place))
-
-abbrev pub also : Place → Found → Found
-also p (Some r) = read (p ∷ r.value) r.next
-also p None = None
 
 -- up to f lines
 unfoldable pub requirements_from : ℕ → List ℕ → ℕ → Found

@@ -13,30 +13,31 @@ use borrow.Author.Tests.{leb-true, le-leb, lt-leb}
 use Rattle.text.proofs.Tests.{false_true, test_case}
 use Rattle.text.proofs.Places.{place_inside}
 use Rattle.row_lines.specs.declared.RowLine.{RowLine}
-use Rattle.row_lines.specs.declared.RowLine.TheVariants.{Measured, Filled, Bad}
+use Rattle.row_lines.specs.declared.RowLine.TheVariants.{Measured, Filled}
+use Rattle.std.specs.Prelude.{Option, Some, None}
 use Rattle.lines.specs.Lines.{lines}
 use Rattle.lines.proofs.Lines.{Fed, fed_some, lines_split, lines_none, Each, none, also}
 use Rattle.lines.proofs.Places.{fed_lines, fed_past}
 use Rattle.row_lines.specs.Form.{Row, Sample, Rows, no_row, measured, filled, AreRows}
-use Rattle.row_lines.specs.Reading.{measured_row, row_at, after_row, Listing, listed, broken, is_broken, also_measured, also_filled, sample_at, rows_from, rows_of}
+use Rattle.row_lines.specs.Reading.{measured_row, filled_row, row_at, after_row, Listing, listed, broken, is_broken, also_measured, also_filled, sample_at, rows_from, rows_of}
 use Rattle.row_lines.specs.Same.{Alike, no_line, same, filled as Alike·filled, SameButFilled}
 use Rattle.row_lines.proofs.Written.{RowHere, row_here, row_taken}
 use Rattle.row_lines.proofs.Lines.{row_fed, one_width, one_source}
 
 -- ---- a row has a byte at least
 
-abbrev pub Past : ℕ → RowLine → Type 0
-Past at (Measured r) = at < r.next
-Past at (Filled n) = at < n
-Past at Bad = Unit
+abbrev pub Past : ℕ → Option RowLine → Type 0
+Past at (Some (Measured r)) = at < r.next
+Past at (Some (Filled n)) = at < n
+Past at None = Unit
 
-past_of : (ch : ℕ) (s : List ℕ) (at : ℕ) (x : RowLine) → RowHere ch s at x → Past at x
-past_of ch s at (Measured r) h = fed_past h.1 (row_fed h.2)
-past_of ch s at (Filled n) h = fed_past h.3 (row_fed h.4)
-past_of ch s at Bad h = tt
+past_of : (ch : ℕ) (s : List ℕ) (at : ℕ) (x : Option RowLine) → RowHere ch s at x → Past at x
+past_of ch s at (Some (Measured r)) h = fed_past h.1 (row_fed h.2)
+past_of ch s at (Some (Filled n)) h = fed_past h.3 (row_fed h.4)
+past_of ch s at None h = tt
 
 -- the next line begins past this one's beginning
-pub row_past : (ch : ℕ) (s : List ℕ) (at : ℕ) (x : RowLine) → x ≡ row_at s at ch → Past at x
+pub row_past : (ch : ℕ) (s : List ℕ) (at : ℕ) (x : Option RowLine) → x ≡ row_at s at ch → Past at x
 row_past ch s at x e = rw e (past_of ch s at (row_at s at ch) (row_here ch s at))
 
 -- ---- the rows from a place on, one by one
@@ -50,13 +51,13 @@ module _ (f ch : ℕ) (s : List ℕ) (at : ℕ) where
       go zero = rw (le-leb _ _ l)
       go (suc k) = rw (le-leb _ _ l)
 
-rows_suc : (f ch : ℕ) (s : List ℕ) (at : ℕ) (x : RowLine) → at < length s → x ≡ row_at s at ch
+rows_suc : (f ch : ℕ) (s : List ℕ) (at : ℕ) (x : Option RowLine) → at < length s → x ≡ row_at s at ch
     → rows_from (suc f) ch s at ≡ after_row x (λ t a n. also_measured (sample_at s ch t a) (rows_from f ch s n)) (λ n. also_filled (rows_from f ch s n)) broken
 unfolding rows_from
 rows_suc f ch s at x l e = rw (lt-leb _ _ l, e)
 
 -- f lines are enough from a place on
-pub rows_turn : (f ch : ℕ) (s : List ℕ) (at : ℕ) (x : RowLine) → length s ≤ at + f → at < length s → x ≡ row_at s at ch
+pub rows_turn : (f ch : ℕ) (s : List ℕ) (at : ℕ) (x : Option RowLine) → length s ≤ at + f → at < length s → x ≡ row_at s at ch
     → rows_from f ch s at ≡ after_row x (λ t a n. also_measured (sample_at s ch t a) (rows_from (f - 1) ch s n)) (λ n. also_filled (rows_from (f - 1) ch s n)) broken
 rows_turn f ch s at x h l e = let g : f ≡ suc (f - 1) = omega arith in ap (λ (k : ℕ). rows_from k ch s at) g ∙ rows_suc (f - 1) ch s at x l e
 
@@ -70,15 +71,15 @@ measured_here : (ch : ℕ) (s : List ℕ) (at t a n : ℕ) (y : Listing) → Row
 measured_here ch s at t a n (listed xs k) h r = rw (fed_lines h.1 (row_fed h.2)) (measured h.2 r)
 measured_here ch s at t a n broken h r = tt
 
-filled_here : (ch : ℕ) (s : List ℕ) (at n : ℕ) (y : Listing) → RowHere ch s at (Filled n) → RowsHere ch s n y → RowsHere ch s at (also_filled y)
+filled_here : (ch : ℕ) (s : List ℕ) (at n : ℕ) (y : Listing) → RowHere ch s at (filled_row n) → RowsHere ch s n y → RowsHere ch s at (also_filled y)
 filled_here ch s at n (listed xs k) h r = rw (fed_lines h.3 (row_fed h.4)) (filled h.4 r)
 filled_here ch s at n broken h r = tt
 
-turn_here : (f ch : ℕ) (s : List ℕ) (at : ℕ) (x : RowLine) → RowHere ch s at x → ((n : ℕ) → RowsHere ch s n (rows_from f ch s n))
+turn_here : (f ch : ℕ) (s : List ℕ) (at : ℕ) (x : Option RowLine) → RowHere ch s at x → ((n : ℕ) → RowsHere ch s n (rows_from f ch s n))
     → RowsHere ch s at (after_row x (λ t a n. also_measured (sample_at s ch t a) (rows_from f ch s n)) (λ n. also_filled (rows_from f ch s n)) broken)
-turn_here f ch s at (Measured r) h more = measured_here ch s at r.time r.values r.next (rows_from f ch s r.next) h (more r.next)
-turn_here f ch s at (Filled n) h more = filled_here ch s at n (rows_from f ch s n) h (more n)
-turn_here f ch s at Bad h more = tt
+turn_here f ch s at (Some (Measured r)) h more = measured_here ch s at r.time r.values r.next (rows_from f ch s r.next) h (more r.next)
+turn_here f ch s at (Some (Filled n)) h more = filled_here ch s at n (rows_from f ch s n) h (more n)
+turn_here f ch s at None h more = tt
 
 end_here : (ch : ℕ) (s : List ℕ) (at : ℕ) → length s ≤ at → RowsHere ch s at (listed [] 0)
 unfolding lines
@@ -113,9 +114,9 @@ rows_taken {ch} (filled {l} {ls} {t} {vs} {samples = xs} {filled = k} row rest) 
     let p = lines_split (drop at s) l ls e in
     let a = row_taken false s at p.0 row p.1 in
     let n : ℕ = a.0 in
-    let past : at < n = row_past ch s at (Filled n) (sym a.1) in
+    let past : at < n = row_past ch s at (filled_row n) (sym a.1) in
     let more : rows_from (f - 1) ch s n ≡ listed xs k = rows_taken rest (f - 1) s n (omega arith) (ap lines a.2 ∙ p.2) in
-    rows_turn f ch s at (Filled n) h (starts s at l p.0 p.1 (row_fed row)) (sym a.1) ∙ rw more
+    rows_turn f ch s at (filled_row n) h (starts s at l p.0 p.1 (row_fed row)) (sym a.1) ∙ rw more
 
 -- a text is read as rows exactly when its lines are rows
 pub rows_exact : (ch : ℕ) (s : List ℕ) (xs : List Sample) (k : ℕ) → (rows_of ch s ≡ listed xs k) ↔ Rows ch (lines s) xs k
