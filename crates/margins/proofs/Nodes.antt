@@ -7,7 +7,6 @@ use mathlib.Core.List.{List}
 use Prim.Native.Nat.{ℕ, ◌*◌, ◌<◌}
 use lib.Dec.{T}
 use lib.IntN.{ℤ, neg_ℤ}
-use Rattle.numbers.proofs.Parts.{holds}
 use Rattle.lists.specs.Fill.{fill}
 use Rattle.lists.proofs.Filled.{fill_cong}
 use Rattle.logic.specs.declared.Extremum.TheVariants.{Largest, Smallest}

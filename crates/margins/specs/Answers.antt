@@ -1,15 +1,15 @@
 -- The margin's answer: the recording's margin, or the number of the first refusal that applies; and what the cells hold afterwards.
 -- Assumes nothing.
-use Rattle.std.specs.Prelude.{List, [], ◌∷◌, ◌++◌, ℕ, ◌*◌, ◌≤◌, leb, ℤ, pos, length}
+use Rattle.std.specs.Prelude.{List, [], ◌∷◌, ◌++◌, ℕ, ◌*◌, ◌≤◌, leb, ℤ, pos, length, Result, Ok, Err}
 use Rattle.lists.specs.Fill.{fill_rows}
 use Rattle.recordings.specs.Card.{Card, rows}
 use Rattle.recordings.specs.Margin.{margin}
 use Rattle.tables.specs.declared.Table.{Table}
 use Rattle.tables.specs.Tree.{tree, root}
+use Rattle.refusals.specs.declared.Refusal.{Refusal}
 use Rattle.refusals.specs.First.{Check, first, unless_refused}
+use Rattle.refusals.specs.Number.{number}
 use Rattle.rules.specs.Refusals.{checks}
-use Rattle.margins.specs.declared.Answer.{Answer}
-use Rattle.margins.specs.declared.Answer.TheVariants.{Margin, Refused}
 
 -- what document 01 hands back: a number, 0 for no refusal, and a margin, 0 under a refusal
 pub record MarginOutcome : Type 0 where
@@ -17,9 +17,9 @@ pub record MarginOutcome : Type 0 where
   pub margin : ℤ
 
 -- the paper's number and margin of each answer
-abbrev pub margin_outcome : Answer → MarginOutcome
-margin_outcome (Margin m) = record { number = 0; margin = m }
-margin_outcome (Refused n) = record { number = n; margin = pos 0 }
+abbrev pub margin_outcome : Result ℤ Refusal → MarginOutcome
+margin_outcome (Ok m) = record { number = 0; margin = m }
+margin_outcome (Err r) = record { number = number r; margin = pos 0 }
 
 -- 8: work shorter than n × rows cells
 abbrev pub margin_room : Card → Table → ℕ → Check

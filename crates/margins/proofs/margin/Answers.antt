@@ -1,55 +1,41 @@
 -- A refusal changes no cell. Else the rows are filled, and the root's margin is read back from its row.
 -- Assumes nothing.
-use mathlib.Core.Path.{sym, ◌∙◌}
-use Prim.Native.Nat.{◌+◌, ◌*◌, ◌-◌, ◌≤◌, ◌<◌}
-use native.Mathlib.Omega.{arith}
-use lib.ListN.{length}
+use Rattle.std.proofs.Common.{sym, ap, ◌∙◌, ◌*◌, ◌≤◌, length, arith}
 use Rattle.numbers.proofs.Bits.{back_ok}
-use Rattle.recordings.specs.Card.{Card, card}
+use Rattle.recordings.specs.Card.{card_of, rows}
 use Rattle.rules.specs.Refusals.{Sound}
-use Rattle.lists.proofs.Filled.{earlier_row}
-use Rattle.margins.proofs.Answers.{accepted, few_cells, refused_outcome, accepted_outcome, cells_kept, cells_filled, root_cell}
+use Rattle.refusals.proofs.Number.{handed_on}
+use Rattle.margins.specs.Answers.{margin_outcome}
+use Rattle.margins.proofs.Answers.{accepted, refused_outcome, accepted_outcome, cells_kept, cells_filled, root_inside, root_cell}
 use Rattle.margins.proofs.margin.Goals as goal
-use Rattle.margins.proofs.margin.Goals.{After-work-1, Else-number-ne0}
+use Rattle.margins.proofs.margin.Goals.{In_ok-refusal_of}
 
--- what number 0 says
-fine : (c : Else-number-ne0) → Sound (card c.args.setup c.args.times.now c.args.values.now) c.args.table × (c.args.table.count * length c.args.times.now ≤ length c.args.work.now)
-fine c =
-    accepted (card c.args.setup c.args.times.now c.args.values.now) c.args.table (length c.args.work.now) (sym c.refusal_of-number.ensures ∙ c.if-number-ne0.false)
+-- nothing is refused
+fine : (c : In_ok-refusal_of) → Sound (card_of c.args.recording.now) c.args.table × (c.args.table.count * rows (card_of c.args.recording.now) ≤ length c.args.work.now)
+fine c = accepted (card_of c.args.recording.now) c.args.table (length c.args.work.now) (sym c.in_ok-refusal_of.ensures)
 
--- the root's row lies in the cells, which are few
-last_row : (c : After-work-1) → ((c.args.table.count - 1) * length c.args.times.now < length c.args.work.now) × ((c.args.table.count - 1) * length c.args.times.now ≤ 262_144)
-last_row c =
-    let f = accepted (card c.args.setup c.args.times.now c.args.values.now) c.args.table (length c.args.work.now) (sym c.refusal_of-number.ensures ∙ c.if-number-ne0.false) in
-    let n = length c.args.times.now in
-    let r : (c.args.table.count - 1) * n + n ≤ c.args.table.count * n = earlier_row (c.args.table.count - 1) c.args.table.count n (omega (arith, f.0.ruled.some_node)) in
-    let a : 1 ≤ n = f.0.recorded.lengths.some_row in
-    let b : c.args.table.count * n ≤ length c.args.work.now = f.1 in
-    let d : c.args.table.count * n ≤ 262_144 = few_cells f.0 in
-    (omega arith, omega arith)
+pub returns-in_err-refusal_of-clause-answer : goal.returns-in_err-refusal_of-clause-answer
+returns-in_err-refusal_of-clause-answer c =
+    ap margin_outcome (handed_on c.from_residual.result c.from_residual.ensures.1) ∙ refused_outcome (card_of c.args.recording.now) c.args.table (length c.args.work.now) _ c.in_err-refusal_of.ensures
 
-pub returns-then-number-ne0 : goal.returns-then-number-ne0
-returns-then-number-ne0 c =
-    let e = c.refusal_of-number.ensures in
-    record { answer = refused_outcome (card c.args.setup c.args.times.now c.args.values.now) c.args.table (length c.args.work.now) _ e c.if-number-ne0.true; cells = cells_kept (card c.args.setup c.args.times.now c.args.values.now) c.args.table c.args.work.now _ e c.if-number-ne0.true }
+pub returns-in_err-refusal_of-clause-cells : goal.returns-in_err-refusal_of-clause-cells
+returns-in_err-refusal_of-clause-cells c = cells_kept (card_of c.args.recording.now) c.args.table c.args.work.now _ c.in_err-refusal_of.ensures
 
 pub fill_margins-requires : goal.fill_margins-requires
-fill_margins-requires c = let t = fine (goal.at.fill_margins-requires c).Else-number-ne0 in record { sound = t.0; room = t.1 }
+fill_margins-requires c = let f = fine (goal.at.fill_margins-requires c).In_ok-refusal_of in record { sound = f.0; room = f.1 }
 
-pub overflow_sub-at : goal.overflow_sub-at
-overflow_sub-at c = omega (arith, (fine (goal.at.overflow_sub-at c).Else-number-ne0).0.ruled.some_node)
+pub overflow_sub-table : goal.overflow_sub-table
+overflow_sub-table c = (fine (goal.at.overflow_sub-table c).In_ok-refusal_of).0.ruled.some_node
 
-pub overflow_mul-at : goal.overflow_mul-at
-overflow_mul-at c = omega (arith, last_row (goal.at.overflow_mul-at c).After-work-1)
+pub cell_at-requires : goal.cell_at-requires
+cell_at-requires c =
+    let f = fine (goal.at.cell_at-requires c).In_ok-refusal_of in
+    omega (arith, c.fill_margins.auto.work, root_inside (card_of c.args.recording.now) c.args.table c.args.work.now f.0 f.1)
 
-pub offset_bounds-work-at : goal.offset_bounds-work-at
-offset_bounds-work-at c = omega (arith, last_row (goal.at.offset_bounds-work-at c).After-work-1)
+pub returns-clause-answer : goal.returns-clause-answer
+returns-clause-answer c =
+    let f = fine (goal.at.returns-clause-answer c).In_ok-refusal_of in
+    accepted_outcome (card_of c.args.recording.now) c.args.table (length c.args.work.now) _ c.in_ok-refusal_of.ensures (back_ok _ c.cell_at.type_inv ∙ c.cell_at.ensures ∙ root_cell (card_of c.args.recording.now) c.args.table c.args.work.now f.0 f.1 c.fill_margins.ensures)
 
-pub slice_copy_out-value : goal.slice_copy_out-value
-slice_copy_out-value c = omega (arith, last_row (goal.at.slice_copy_out-value c).After-work-1, c.fill_margins.auto.work)
-
-pub returns : goal.returns
-returns c =
-    let f = fine (goal.at.returns c).Else-number-ne0 in
-    let z = sym c.refusal_of-number.ensures ∙ c.if-number-ne0.false in
-    let g = c.fill_margins.ensures in record { answer = accepted_outcome (card c.args.setup c.args.times.now c.args.values.now) c.args.table (length c.args.work.now) _ z (back_ok _ c.value-1.given ∙ root_cell (card c.args.setup c.args.times.now c.args.values.now) c.args.table c.args.work.now f.0.ruled.some_node f.0.recorded.lengths.some_row f.1 g); cells = cells_filled (card c.args.setup c.args.times.now c.args.values.now) c.args.table c.args.work.now z g }
+pub returns-clause-cells : goal.returns-clause-cells
+returns-clause-cells c = cells_filled (card_of c.args.recording.now) c.args.table c.args.work.now (sym c.in_ok-refusal_of.ensures) c.fill_margins.ensures
