@@ -6,6 +6,7 @@ use Rattle.recordings.specs.declared.Predicate.{Predicate}
 use Rattle.recordings.specs.declared.Range.{Range}
 use Rattle.recordings.specs.declared.Range.TheVariants.{Unset, Free, AtLeast, AtMost, Between}
 use Rattle.predicate_lines.specs.Form.{unset}
+use Rattle.flat.specs.declared.Parts.{Parts}
 
 -- ---- written
 
@@ -30,6 +31,10 @@ hi_of Free = pos 0
 hi_of (AtLeast lo) = pos 0
 hi_of (AtMost hi) = hi
 hi_of (Between lo hi) = hi
+
+-- all three
+abbrev pub parts_of : Range → Parts
+parts_of range = record { number = range_number range; lo = lo_of range; hi = hi_of range }
 
 -- two numbers for each of a list, one after the other
 unfoldable pub pairs : {A X : Type 0} → (A → X) → (A → X) → List A → List X

@@ -1,16 +1,12 @@
--- The front of the array is the numbers of the first k places.
+-- Each place gives a pair of numbers.
 -- Assumes nothing.
-use mathlib.Core.Path.{refl}
-use Prim.Native.Nat.{◌-◌}
-use Rattle.flat.proofs.Laid.{pairs_start, pairs_next, pairs_over}
-use borrow.Author.Rules.{rules}
+use mathlib.Core.Path.{◌∙◌}
+use Rattle.std.proofs.Common.{rules}
+use Rattle.requirement_lines.specs.declared.Place.{Place}
+use Rattle.flat.proofs.Laid.{pairs_mapped}
 use Rattle.flat.proofs.places_of.Goals as goal
 
-pub loop-k-init : goal.loop-k-init
-loop-k-init c = pairs_start _ _ _ _ (search rules)
-
-pub loop-k-preserved : goal.loop-k-preserved
-loop-k-preserved c = pairs_next _ _ _ _ _ _ _ _ c.loop-k.invariant (search rules) refl refl
-
 pub returns : goal.returns
-returns c = pairs_over _ _ _ _ _ c.loop-k.invariant (search rules)
+returns c =
+    let m = c.map-pairs.ensures.items in
+    c.copy_from_slice.ensures.after ∙ (c.as_flattened.ensures.value ∙ pairs_mapped (λ (p : Place). p.from) (λ p. p.to) c.args.places c.map-pairs.result (search rules) (λ i d e h. let k = m.at i d e (search rules) in search rules))

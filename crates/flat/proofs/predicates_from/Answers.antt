@@ -1,11 +1,10 @@
 -- The first p places are the predicates that the numbers give; the others are unset.
 -- Assumes nothing.
 use mathlib.Core.Path.{◌∙◌}
-use Prim.Native.Nat.{◌-◌}
 use native.Mathlib.Nat.{zero-add}
 use native.Mathlib.Omega.{arith}
 use Rattle.lists.proofs.Filled.{fill_none, fill_next, fill_to}
-use Rattle.flat.specs.Predicates.{predicate_from, predicates_from}
+use Rattle.flat.specs.Predicates.{predicates_from}
 use borrow.Author.Rules.{rules}
 use Rattle.flat.proofs.predicates_from.Goals as goal
 

@@ -1,6 +1,7 @@
 -- Each arm is an entry of the table; the last is every number that no range has.
 -- Assumes nothing.
 use mathlib.Core.Path.{sym}
+use native.Mathlib.Omega.{arith}
 use borrow.Author.Rules.{rules}
 use Rattle.flat.specs.Predicates.{range_from}
 use Rattle.flat.proofs.Laid.{no_range}
@@ -23,4 +24,4 @@ unfolding range_from
 returns-in-4 c = rw c.in-4.is (search rules)
 
 pub returns-in_default : goal.returns-in_default
-returns-in_default c = let n = c.in_default.in_default-own.rest in sym (no_range _ _ _ n.0.0.0.1 n.0.0.1 n.0.1 n.1)
+returns-in_default c = sym (no_range c.args.number _ _ (λ e. absurd (omega arith)) (λ e. absurd (omega arith)) (λ e. absurd (omega arith)) (λ e. absurd (omega arith)))

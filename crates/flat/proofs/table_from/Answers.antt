@@ -11,4 +11,4 @@ returns-then-numbers-ge-CELLS c = c.table_from.ensures
 pub returns : goal.returns
 returns c =
     let a = c.args in
-    rw (c.table_from-2.ensures, c.write_numbers.ensures) (padded_table a.numbers.now a.count)
+    rw (c.table_from-2.ensures, c.write_front.ensures) (padded_table a.numbers.now a.count)
