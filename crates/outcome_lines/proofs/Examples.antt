@@ -18,6 +18,6 @@ pub single : entry_lines (outcome 0 (pos 5) ∷ []) ≡ bytes "rows=4 filled=1 m
 unfolding entry_lines line_of digits
 single = refl
 
-pub refused_whole : lines_of (record { number = 12; count = 2; entries = outcomes }) ≡ bytes "refused=12\n"
+pub refused_whole : lines_of (record { number = 12; entries = outcomes }) ≡ bytes "refused=12\n"
 unfolding lines_of digits
 refused_whole = refl

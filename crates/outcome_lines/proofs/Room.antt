@@ -1,6 +1,6 @@
 -- A line of 64-bit numbers has at most `LINE` bytes: each key its own, each number twenty digits and a sign. A number of two digits in front makes it at most `NUMBERED`.
 -- Assumes nothing.
-use mathlib.Core.Path.{◌≡◌, refl, ap, subst}
+use mathlib.Core.Path.{◌≡◌, refl, ap}
 use mathlib.Core.List.{List, [], ◌∷◌, ◌++◌}
 use Prim.Native.Nat.{ℕ, zero, suc, ◌+◌, ◌/◌, ◌≤◌, ◌<◌}
 use Prim.Native.String.{String}
@@ -16,7 +16,7 @@ use Rattle.text.specs.Bytes.{bytes}
 use Rattle.printing.specs.Decimal.{digit_of, decimal, decimal_signed}
 use Rattle.printing.proofs.Decimal.{decimal_one, decimal_more}
 use Rattle.printing.proofs.Lengths.{decimal_few, signed_few}
-use Rattle.outcomes.specs.declared.Outcome.{Outcome}
+use Rattle.outcomes.specs.Outcome.{Outcome}
 use Rattle.outcome_lines.specs.Printed.{LINE, NUMBERED, word_of, field, figures_line, refusal_line, line_by, line_of, numbered_line}
 
 -- at most n bytes
@@ -68,8 +68,7 @@ numbered_few k x h l =
     let s = joined (joined (said "req=" (two k h)) (says (bytes " "))) n in
     omega (arith, s.few)
 
--- ---- by the outcome's number
-
+-- a refused outcome's line
 pub line_refused : (o : Outcome) → (o.number ≡ 0 → ⊥) → refusal_line o.number ≡ line_of o
 unfolding line_of
 line_refused o h = go o.number h
@@ -77,16 +76,3 @@ line_refused o h = go o.number h
     go : (n : ℕ) → (n ≡ 0 → ⊥) → refusal_line n ≡ line_by n o
     go zero h = absurd (h refl)
     go (suc n) h = refl
-
-pub line_judged : (o : Outcome) → o.number ≡ 0 → figures_line o.rows o.filled o.margin o.hold o.fail o.verdict ≡ line_of o
-unfolding line_of
-line_judged o h = rw h refl
-
--- and its room
-pub room_refused : (o : Outcome) → (o.number ≡ 0 → ⊥) → length (refusal_line o.number) ≤ LINE → length (line_of o) ≤ LINE
-room_refused o h r = subst (λ (bs : List ℕ). length bs ≤ LINE) (line_refused o h) r
-
-pub room_judged : (o : Outcome) {m h f : ℤ} → m ≡ o.margin → h ≡ o.hold → f ≡ o.fail → o.number ≡ 0 → length (figures_line o.rows o.filled m h f o.verdict) ≤ LINE → length (line_of o) ≤ LINE
-room_judged o {m} {h} {f} p q s e r =
-    let l : figures_line o.rows o.filled m h f o.verdict ≡ line_of o = rw (p, q, s) (line_judged o e) in
-    subst (λ (bs : List ℕ). length bs ≤ LINE) l r

@@ -1,14 +1,13 @@
 -- The lines that the program prints for the outcomes of a sheet's requirements.
 -- Assumes nothing.
-use Rattle.std.specs.Prelude.{List, [], ◌∷◌, ◌++◌, ℕ, zero, suc, take, ℤ}
+use Rattle.std.specs.Prelude.{List, [], ◌∷◌, ◌++◌, ℕ, zero, suc, ℤ}
 use Prim.Native.String.{String}
 use Rattle.recordings.specs.declared.Verdict.{Verdict}
 use Rattle.recordings.specs.declared.Verdict.TheVariants.{Holds, Fails, NotShown}
 use Rattle.text.specs.Bytes.{bytes}
 use Rattle.printing.specs.Decimal.{decimal, decimal_signed}
 use Rattle.refusals.specs.First.{unless_refused}
-use Rattle.outcomes.specs.declared.Outcome.{Outcome}
-use Rattle.outcomes.specs.declared.Outcomes.{Outcomes}
+use Rattle.outcomes.specs.Outcome.{Outcome, TextOutcome}
 use Rattle.outcomes.specs.Order.{entry}
 use Rattle.outcomes.specs.Arrangement.{arrangement}
 
@@ -59,8 +58,8 @@ entry_lines (x ∷ []) = line_of x
 entry_lines (x ∷ y ∷ xs) = lines_in (x ∷ y ∷ xs) (arrangement (x ∷ y ∷ xs))
 
 -- all that is printed: a refusal of the whole text is one bare line
-unfoldable pub lines_of : Outcomes → List ℕ
-lines_of a = unless_refused a.number (entry_lines (take a.count a.entries)) (refusal_line a.number)
+unfoldable pub lines_of : TextOutcome → List ℕ
+lines_of a = unless_refused a.number (entry_lines a.entries) (refusal_line a.number)
 
 -- no line is longer: the longest that 64-bit numbers give has 153 bytes
 abbrev pub LINE : ℕ

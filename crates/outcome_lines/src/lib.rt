@@ -1,145 +1,121 @@
-// The printed lines of a sheet's outcomes, in a lent slice from a place on. Each function answers the place behind what it printed.
-#![tactic(auto)]
+// The printed lines of a text's outcomes.
+#![tactic(auto, using(printing::proofs::Printed::printed_append))]
 
-ghost use Rattle.std.specs.Prelude.{◌≡◌, ◌++◌, ◌≤◌, ◌<◌, length, take};
+ghost use Rattle.std.specs.Prelude.{◌≡◌, ◌++◌, ◌≤◌, ◌<◌, length, map};
 ghost use Rattle.printing.specs.Decimal.{decimal, decimal_signed};
-ghost use Rattle.printing.specs.Output.{output, printed};
+ghost use Rattle.printing.specs.Output.{printed};
+ghost use Rattle.refusals.specs.Number.{number};
+ghost use Rattle.outcomes.specs.Outcome.{judged_as, outcome_of, text_outcome_of};
 ghost use Rattle.outcomes.specs.Arrangement.{arrangement};
-ghost use Rattle.outcome_lines.specs.Printed.{LINE, NUMBERED, LINES as ALL_LINES, word_of, figures_line, refusal_line, line_of, numbered_line, lines_in, entry_lines, lines_of};
+ghost use Rattle.outcome_lines.specs.Printed.{LINE, NUMBERED, LINES as ALL_LINES, word_of, refusal_line, line_of, numbered_line, lines_in, entry_lines, lines_of};
 
-use outcomes::{Outcome, Outcomes};
+use outcomes::{Figures, Outcomes};
+use printing::Output;
 use recordings::Verdict;
+use refusals::Refusal;
 
 // Sixteen lines with their numbers are not longer.
 pub const LINES: usize = 2688;
 
-fn verdict_word(out: &mut [u8], at: usize, verdict: Verdict) -> usize
-    ensures { output out.new result ≡ printed (output out.old at) (word_of verdict) }
+fn word_of(verdict: Verdict) -> &'static [u8]
+    ensures { result.now ≡ word_of verdict }
 {
     match verdict {
-        Verdict::Holds => printing::word(out, at, b"holds"),
-        Verdict::Fails => printing::word(out, at, b"fails"),
-        Verdict::NotShown => printing::word(out, at, b"unshown"),
+        Verdict::Holds => b"holds",
+        Verdict::Fails => b"fails",
+        Verdict::NotShown => b"unshown",
     }
 }
 
 // A key and a number.
-fn number_field(out: &mut [u8], at: usize, key: &[u8], n: u64) -> usize
-    ensures { output out.new result ≡ printed (output out.old at) (key.now ++ decimal n) }
+fn number_field<const N: usize>(out: &mut Output<N>, key: &[u8], n: u64)
+    ensures { out.new ≡ printed out.old (key.now ++ decimal n) }
 {
-    let digits = printing::word(out, at, key);
-    printing::number(out, digits, n)
+    out.word(key);
+    out.number(n);
 }
 
-fn signed_field(out: &mut [u8], at: usize, key: &[u8], v: i64) -> usize
-    ensures { output out.new result ≡ printed (output out.old at) (key.now ++ decimal_signed v) }
+fn signed_field<const N: usize>(out: &mut Output<N>, key: &[u8], v: i64)
+    ensures { out.new ≡ printed out.old (key.now ++ decimal_signed v) }
 {
-    let digits = printing::word(out, at, key);
-    printing::signed(out, digits, v)
+    out.word(key);
+    out.signed(v);
 }
 
-fn figures_line(
-    out: &mut [u8],
-    at: usize,
-    rows: usize,
-    filled: usize,
-    margin: i64,
-    hold: i64,
-    fail: i64,
-    verdict: Verdict,
-) -> usize
-    ensures result_value { output out.new result ≡ printed (output out.old at) (figures_line rows filled margin hold fail verdict) }
-    ensures room { length (figures_line rows filled margin hold fail verdict) ≤ LINE }
+fn figures_line<const N: usize>(out: &mut Output<N>, figures: Figures)
+    ensures result_value { out.new ≡ printed out.old (line_of (judged_as figures)) }
+    ensures room { length (line_of (judged_as figures)) ≤ LINE }
 {
-    let at = number_field(out, at, b"rows=", rows as u64);
-    let at = number_field(out, at, b" filled=", filled as u64);
-    let at = signed_field(out, at, b" margin=", margin);
-    let at = signed_field(out, at, b" hold=", hold);
-    let at = signed_field(out, at, b" fail=", fail);
-    let at = printing::word(out, at, b" verdict=");
-    let at = verdict_word(out, at, verdict);
-    printing::word(out, at, b"\n")
+    number_field(out, b"rows=", figures.rows as u64);
+    number_field(out, b" filled=", figures.filled as u64);
+    signed_field(out, b" margin=", figures.margin);
+    signed_field(out, b" hold=", figures.hold);
+    signed_field(out, b" fail=", figures.fail);
+    out.word(b" verdict=");
+    out.word(word_of(figures.verdict));
+    out.word(b"\n");
 }
 
-fn refusal_line(out: &mut [u8], at: usize, number: u64) -> usize
-    ensures result_value { output out.new result ≡ printed (output out.old at) (refusal_line number) }
-    ensures room { length (refusal_line number) ≤ LINE }
+fn refusal_line<const N: usize>(out: &mut Output<N>, refusal: Refusal)
+    ensures result_value { out.new ≡ printed out.old (refusal_line (number refusal)) }
+    ensures room { length (refusal_line (number refusal)) ≤ LINE }
 {
-    let at = number_field(out, at, b"refused=", number);
-    printing::word(out, at, b"\n")
+    number_field(out, b"refused=", u64::from(refusal));
+    out.word(b"\n");
 }
 
-fn line(out: &mut [u8], at: usize, outcome: Outcome) -> usize
-    ensures result_value { output out.new result ≡ printed (output out.old at) (line_of outcome) }
-    ensures room { length (line_of outcome) ≤ LINE }
+fn line<const N: usize>(out: &mut Output<N>, outcome: &Result<Figures, Refusal>)
+    ensures result_value { out.new ≡ printed out.old (line_of (outcome_of outcome.now)) }
+    ensures room { length (line_of (outcome_of outcome.now)) ≤ LINE }
 {
-    let number = outcome.number;
-    if number != 0 {
-        return refusal_line(out, at, number);
+    match outcome {
+        Ok(figures) => figures_line(out, *figures),
+        Err(refusal) => refusal_line(out, *refusal),
     }
-    let verdict = outcome.verdict;
-    figures_line(
-        out,
-        at,
-        outcome.rows,
-        outcome.filled,
-        outcome.margin,
-        outcome.hold,
-        outcome.fail,
-        verdict,
-    )
 }
 
 // A line with its requirement's number in front.
-fn numbered_line(out: &mut [u8], at: usize, k: usize, outcome: Outcome) -> usize
+fn numbered_line<const N: usize>(out: &mut Output<N>, k: usize, outcome: &Result<Figures, Refusal>)
     requires { k < 16 }
-    ensures result_value { output out.new result ≡ printed (output out.old at) (numbered_line k outcome) }
-    ensures room { length (numbered_line k outcome) ≤ NUMBERED }
+    ensures result_value { out.new ≡ printed out.old (numbered_line k (outcome_of outcome.now)) }
+    ensures room { length (numbered_line k (outcome_of outcome.now)) ≤ NUMBERED }
 {
-    let at = number_field(out, at, b"req=", k as u64);
-    let at = printing::word(out, at, b" ");
-    line(out, at, outcome)
+    number_field(out, b"req=", k as u64);
+    out.word(b" ");
+    line(out, outcome);
 }
 
-// The numbered lines of the first `count` outcomes, in the order in which they come.
-fn numbered_lines(out: &mut [u8], at: usize, entries: [Outcome; 16], count: usize) -> usize
-    ensures result_value { output out.new result ≡ printed (output out.old at) (lines_in (take count entries) (arrangement (take count entries))) }
-    ensures room { length (lines_in (take count entries) (arrangement (take count entries))) ≤ ALL_LINES }
+// The numbered lines of the outcomes, in the order in which they come.
+fn numbered_lines<const N: usize>(out: &mut Output<N>, outcomes: &Outcomes)
+    ensures result_value { out.new ≡ printed out.old (lines_in (map outcome_of outcomes.now) (arrangement (map outcome_of outcomes.now))) }
+    ensures room { length (lines_in (map outcome_of outcomes.now) (arrangement (map outcome_of outcomes.now))) ≤ ALL_LINES }
 {
-    let order = outcomes::arrange(entries, count);
-    let mut next = at;
-    let mut n: usize = 0;
-    while (n < count) & (n < 16) {
-        let k = order[n];
-        let outcome = entries[k];
-        next = numbered_line(out, next, k, outcome);
-        n += 1;
+    let order = outcomes::arrange(outcomes);
+    let entries = outcomes.as_slice();
+    for k in order.as_slice().iter() {
+        numbered_line(out, *k, &entries[*k]);
     }
-    next
 }
 
 // Lines have their requirements' numbers, except a single one.
-fn entry_lines(out: &mut [u8], at: usize, entries: [Outcome; 16], count: usize) -> usize
-    ensures result_value { output out.new result ≡ printed (output out.old at) (entry_lines (take count entries)) }
-    ensures room { length (entry_lines (take count entries)) ≤ ALL_LINES }
+fn entry_lines<const N: usize>(out: &mut Output<N>, outcomes: &Outcomes)
+    ensures result_value { out.new ≡ printed out.old (entry_lines (map outcome_of outcomes.now)) }
+    ensures room { length (entry_lines (map outcome_of outcomes.now)) ≤ ALL_LINES }
 {
-    if count != 1 {
-        return numbered_lines(out, at, entries, count);
+    let entries = outcomes.as_slice();
+    if entries.len() != 1 {
+        return numbered_lines(out, outcomes);
     }
-    let outcome = entries[0];
-    line(out, at, outcome)
+    line(out, &entries[0]);
 }
 
 // All that is printed for a text. With LINES places it is whole.
-pub fn lines(out: &mut [u8], at: usize, all: Outcomes) -> usize
-    ensures result_value { output out.new result ≡ printed (output out.old at) (lines_of all) }
-    ensures room { length (lines_of all) ≤ ALL_LINES }
+pub fn lines<const N: usize>(out: &mut Output<N>, all: &Result<Outcomes, Refusal>)
+    ensures result_value { out.new ≡ printed out.old (lines_of (text_outcome_of all.now)) }
+    ensures room { length (lines_of (text_outcome_of all.now)) ≤ ALL_LINES }
 {
-    let number = all.number;
-    if number != 0 {
-        return refusal_line(out, at, number);
+    match all {
+        Ok(outcomes) => entry_lines(out, outcomes),
+        Err(refusal) => refusal_line(out, *refusal),
     }
-    let count = all.count;
-    let entries = all.entries;
-    entry_lines(out, at, entries, count)
 }

@@ -1,65 +1,36 @@
 -- Each turn of the loop prints the line that comes next in the order.
 -- Assumes nothing.
-use mathlib.Core.Path.{◌≡◌, ap, ◌∙◌}
-use Prim.Native.Nat.{◌-◌, ◌<◌}
-use native.Mathlib.Omega.{arith}
-use lib.ListN.{length, get_or}
-use borrow.Author.Rules.{rules}
-use Rattle.printing.specs.Output.{Output}
-use Rattle.printing.proofs.Printed.{printed_length}
-use Rattle.outcomes.proofs.Arrangements.{order_below}
-use Rattle.outcomes.proofs.Steps.{test_taken, test_left}
-use Rattle.outcome_lines.proofs.Several.{printing_none, printing_next, printing_all, printing_room}
+use Rattle.std.proofs.Common.{◌<◌, length, get_or, map, ap, ◌∙◌, arith, rules}
+use Rattle.outcomes.specs.Outcome.{outcome_of}
+use Rattle.outcomes.proofs.Arrangements.{length_arrangement}
+use Rattle.outcome_lines.proofs.Several.{printing_none, next_place, printing_next, entry_of}
 use Rattle.outcome_lines.proofs.numbered_lines.Goals as goal
-use Rattle.outcome_lines.proofs.numbered_lines.Goals.{After-arrange-order, In-loop-n}
 
-long : (c : After-arrange-order) → length c.args.entries ≡ 16
-long c = search rules
-
-taken : (c : In-loop-n) → (c.loop-n.n < 16) × (c.loop-n.n < c.args.count)
-taken c = test_taken _ _ c.loop-n-test.true
-
--- the place that comes next is one of the sixteen, as the turn is
-small : (c : In-loop-n) → (c.loop-n.n < 16) × (get_or c.arrange-order.result c.loop-n.n 0 < 16)
-small c =
-    let t = taken c in
-    let sixteen : length c.args.entries ≡ 16 = search rules in
-    (t.0, rw c.arrange-order.ensures (omega (arith, order_below c.args.entries c.args.count c.loop-n.n t.1 (omega (arith, t.0, sixteen)), sixteen)))
-
-pub loop-n-init : goal.loop-n-init
-loop-n-init c = printing_none _ _
-
-pub offset_bounds-order-n : goal.offset_bounds-order-n
-offset_bounds-order-n c = let t = test_taken c.loop-n.n c.args.count c.loop-n-test.true in search rules
-
-pub bounds-order-n : goal.bounds-order-n
-bounds-order-n c = let t = test_taken c.loop-n.n c.args.count c.loop-n-test.true in search rules
-
-pub offset_bounds-entries-k : goal.offset_bounds-entries-k
-offset_bounds-entries-k c = let s = small (goal.at.offset_bounds-entries-k c).In-loop-n in search rules
+pub loop-k-init : goal.loop-k-init
+loop-k-init g c = printing_none _ _
 
 pub bounds-entries-k : goal.bounds-entries-k
-bounds-entries-k c = let s = small (goal.at.bounds-entries-k c).In-loop-n in search rules
+bounds-entries-k g c = rw c.as_slice-entries.ensures.value (next_place outcome_of c.args.outcomes.now (c.as_slice-k-items.ensures.value ∙ c.arrange-order.ensures) c.loop-k-test.true)
 
-pub numbered_line-next-requires : goal.numbered_line-next-requires
-numbered_line-next-requires c = let s = small (goal.at.numbered_line-next-requires c).In-loop-n in search rules
+pub offset_bounds-entries-k : goal.offset_bounds-entries-k
+offset_bounds-entries-k g c =
+    let k = get_or c.as_slice-k-items.result.now c.loop-k.k-index 0 in
+    let p = next_place outcome_of c.args.outcomes.now (c.as_slice-k-items.ensures.value ∙ c.arrange-order.ensures) c.loop-k-test.true in
+    let s : k < 16 = omega (arith, p, ap length c.as_slice-entries.ensures.value, c.as_slice-entries.ensures.fits) in
+    search rules
 
-pub overflow_add-n : goal.overflow_add-n
-overflow_add-n c = let t = taken (goal.at.overflow_add-n c).In-loop-n in search rules
+pub numbered_line-requires : goal.numbered_line-requires
+numbered_line-requires g c =
+    let k = get_or c.as_slice-k-items.result.now c.loop-k.k-index 0 in
+    let p = next_place outcome_of c.args.outcomes.now (c.as_slice-k-items.ensures.value ∙ c.arrange-order.ensures) c.loop-k-test.true in
+    let s : k < 16 = omega (arith, p, ap length c.as_slice-entries.ensures.value, c.as_slice-entries.ensures.fits) in
+    search rules
 
-pub loop-n-smaller : goal.loop-n-smaller
-loop-n-smaller c = let t = taken (goal.at.loop-n-smaller c).In-loop-n in search rules
-
-pub loop-n-preserved : goal.loop-n-preserved
-loop-n-preserved c =
-    printing_next _ _ c.loop-n.invariant (taken (goal.at.loop-n-preserved c).In-loop-n).1 (omega (arith, (taken (goal.at.loop-n-preserved c).In-loop-n).0, long (goal.at.loop-n-preserved c).After-arrange-order)) c.arrange-order.ensures c.numbered_line-next.ensures.result_value c.numbered_line-next.ensures.room
-
-pub shape_of-out : goal.shape_of-out
-shape_of-out c = ap (λ (o : Output). length o.bytes) c.loop-n.invariant.so_far ∙ printed_length _ _
-
-pub returns : goal.returns
-returns c =
-    let i = c.loop-n.invariant in
-    let l = long (goal.at.returns c).After-arrange-order in
-    let d = test_left _ _ c.loop-n-test.false in
-    record { result_value = printing_all _ _ l i d; room = printing_room _ _ l i d }
+pub loop-k-preserved : goal.loop-k-preserved
+loop-k-preserved g c =
+    let ys = c.args.outcomes.now in
+    let k = get_or c.as_slice-k-items.result.now c.loop-k.k-index 0 in
+    let e = c.as_slice-k-items.ensures.value ∙ c.arrange-order.ensures in
+    let p = next_place outcome_of ys e c.loop-k-test.true in
+    let n : c.loop-k.k-index < length (map outcome_of ys) = omega (arith, c.loop-k-test.true, ap length e, length_arrangement (map outcome_of ys)) in
+    printing_next (map outcome_of ys) c.loop-k.invariant n (ap (λ xs. get_or xs c.loop-k.k-index 0) e) (rw c.as_slice-entries.ensures.value (entry_of outcome_of ys k _ p)) c.numbered_line.ensures.result_value c.numbered_line.ensures.room
