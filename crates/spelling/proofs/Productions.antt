@@ -1,28 +1,24 @@
 -- Which production a kind has: the list of kinds is tested once by computing, and the laws read the test. A kind that asks for one child is "not" or stands before a window; one that asks for two is "and", "or" or stands between with a window.
 -- Assumes nothing.
-use mathlib.Core.Path.{◌≡◌, refl, sym, ap, subst, ◌∙◌}
+use mathlib.Core.Path.{◌≡◌, refl, sym, subst}
 use mathlib.Core.List.Memᴰ
 use mathlib.Core.List.{List, [], ◌∷◌}
-use mathlib.Core.Bool.{Bool, true, false, cond, ◌&&◌, ◌||◌}
+use mathlib.Core.Bool.{Bool, true, false, cond, ◌||◌}
 use mathlib.Core.Logic.{◌⊎◌, inl, inr}
 use Prim.Native.Nat.{ℕ}
-use native.Mathlib.Omega.{arith}
-use lib.ListN.{get_or}
 use lib.Dec.{T, eqb, eqb→eq}
-use borrow.Author.Tests.{ne_eqb}
 use mir.Facts.{or_yes}
 use Rattle.text.proofs.Tests.{by_test}
 use Rattle.tables.specs.Kind.{operator, not_kind, and_kind, or_kind}
 use Rattle.tables.specs.declared.Operator.{Operator}
 use Rattle.tables.specs.Rules.{child, unused, is_child, left_use, right_use, timed, WindowRules, EndsRules}
-use Rattle.tables.proofs.EveryKind.{known_kind, every_kind}
+use Rattle.tables.proofs.EveryKind.{known_kind}
 use Rattle.tables.specs.declared.Span.{Span}
-use Rattle.grammar.specs.declared.Part.{Part}
-use Rattle.grammar.specs.declared.Part.TheVariants.{Alternative as alternative, Conjunction as conjunction, Bind as bind, Unary as unary}
+use Rattle.grammar.specs.declared.Part.TheVariants.{Bind as bind}
 use Rattle.grammar.specs.Operators.{binders, prefixes, ◌∈◌}
 use Rattle.tables.specs.Tree.{no_span}
 use Rattle.requirements.proofs.Rules.{KindRules}
-use Rattle.spelling.specs.Text.{operator_part, part_of, rank}
+use Rattle.spelling.specs.Text.{part_of}
 
 -- ---- the test
 
@@ -80,23 +76,3 @@ binder_timed m = each_in (λ k. timed (operator k) ≡ true) m (refl, (refl, tt)
 
 pub binder_part : {k : ℕ} → k ∈ binders → part_of k ≡ bind
 binder_part m = each_in (λ k. part_of k ≡ bind) m (refl, (refl, tt))
-
--- ---- a kind's part from tests
-
-abbrev part_ranked : ℕ → Part
-part_ranked n = get_or (alternative ∷ conjunction ∷ bind ∷ unary ∷ []) n unary
-
-ranked : (p : Part) → part_ranked (rank p) ≡ p
-ranked alternative = refl
-ranked conjunction = refl
-ranked bind = refl
-ranked unary = refl
-
-same_rank : (p q : Part) → T (eqb (rank p) (rank q)) → p ≡ q
-same_rank p q t = let e : rank p ≡ rank q = eqb→eq (rank p) (rank q) t in sym (ranked p) ∙ (ap part_ranked e ∙ ranked q)
-
-abbrev part_by : Operator → ℕ → Part
-part_by o k = cond (eqb k or_kind) alternative (cond (eqb k and_kind) conjunction (cond (timed o && is_child (right_use o)) bind unary))
-
-pub part_is : (k : ℕ) → part_of k ≡ part_by (operator k) k
-part_is k = same_rank _ _ (every_kind (λ o k. eqb (rank (operator_part o)) (rank (part_by o k))) tt (λ k h. rw (ne_eqb k or_kind (λ (e : k ≡ or_kind). omega arith), ne_eqb k and_kind (λ (e : k ≡ and_kind). omega arith)) tt) k)

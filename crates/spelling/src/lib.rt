@@ -1,32 +1,28 @@
 // The text of a requirement's tree, in pieces that hold no other requirement: parts of the grammar, and an operator's letter and window. What the whole text is, specs/Text says.
-// Each function that writes answers the place behind what it wrote; a byte that the slice has no place for is left out.
-#![tactic(auto)]
+#![tactic(auto, using(printing::proofs::Printed::printed_append))]
 
-ghost use Rattle.std.specs.Prelude.{◌≡◌, ◌++◌, true, cond, ltb};
+ghost use Rattle.std.specs.Prelude.{◌≡◌, ◌++◌, [], true, cond, ltb};
 ghost use Rattle.printing.specs.Decimal.{decimal};
-ghost use Rattle.printing.specs.Output.{output, printed};
+ghost use Rattle.printing.specs.Output.{printed};
 ghost use Rattle.tables.specs.Kind.{predicate_kind};
 ghost use Rattle.grammar.specs.Operators.{letter};
-ghost use Rattle.spelling.specs.Text.{part_of, left_part, right_part, rank, stands_as, end_text, window_text, sign};
-ghost use Rattle.spelling.specs.Pieces.{opening, closing};
+ghost use Rattle.spelling.specs.Text.{part_of, left_part, right_part, stands_as, end_text, window_text, sign};
 
 use grammar::Part;
-use tables::Span;
+use logic::Extremum;
+use printing::Output;
+use tables::{Operator, Span};
 
 // The part of the grammar that a kind makes. A number that is no kind's makes a unary, as the definitions have it.
 pub fn part_of(kind: u64) -> Part
     ensures { result ≡ part_of kind }
 {
-    if kind == tables::OR {
-        return Part::Alternative;
+    match Operator::from(kind) {
+        Operator::Joined(Extremum::Largest) => Part::Alternative,
+        Operator::Joined(Extremum::Smallest) => Part::Conjunction,
+        Operator::Binary(_, _) => Part::Bind,
+        _ => Part::Unary,
     }
-    if kind == tables::AND {
-        return Part::Conjunction;
-    }
-    if tables::is_timed(kind) & tables::has_right(kind) {
-        return Part::Bind;
-    }
-    Part::Unary
 }
 
 // The part that is due left of a part's operator: alternatives and conjunctions group to the left.
@@ -53,98 +49,64 @@ pub fn right_part(part: Part) -> Part
     }
 }
 
-fn rank(part: Part) -> u64
-    ensures { result ≡ rank part }
-{
-    match part {
-        Part::Alternative => 0,
-        Part::Conjunction => 1,
-        Part::Bind => 2,
-        Part::Unary => 3,
-    }
-}
-
 // Whether a part may stand, without parentheses, where another is due.
 pub fn stands_as(due: Part, own: Part) -> bool
     ensures { result ≡ stands_as due own }
 {
-    rank(due) <= rank(own)
+    due <= own
 }
 
-// What stands before a part where another is due: a parenthesis, or nothing.
-pub fn write_opening(out: &mut [u8], at: usize, due: Part, own: Part) -> usize
-    ensures { output out.new result ≡ printed (output out.old at) (opening due own) }
+// A parenthesis, unless the part may stand without where the other is due.
+pub fn write_parenthesis<const N: usize>(out: &mut Output<N>, due: Part, own: Part, mark: &[u8])
+    ensures { out.new ≡ printed out.old (cond (stands_as due own) [] mark.now) }
 {
-    if stands_as(due, own) {
-        return at;
+    if !stands_as(due, own) {
+        out.word(mark);
     }
-    printing::word(out, at, b"(")
-}
-
-// What stands behind it.
-pub fn write_closing(out: &mut [u8], at: usize, due: Part, own: Part) -> usize
-    ensures { output out.new result ≡ printed (output out.old at) (closing due own) }
-{
-    if stands_as(due, own) {
-        return at;
-    }
-    printing::word(out, at, b")")
-}
-
-fn write_letter(out: &mut [u8], at: usize, kind: u64) -> usize
-    ensures { output out.new result ≡ printed (output out.old at) (letter kind) }
-{
-    let mark = [operators::letter_of(kind)];
-    printing::word(out, at, &mark)
 }
 
 // The bracket at an end of a window: another where a mark excludes that end.
-fn write_bracket(out: &mut [u8], at: usize, mark: u64, counted: &[u8], excluded: &[u8]) -> usize
-    ensures { output out.new result ≡ printed (output out.old at) (cond (ltb 0 mark) excluded.now counted.now) }
+fn write_bracket<const N: usize>(out: &mut Output<N>, mark: u64, counted: &[u8], excluded: &[u8])
+    ensures { out.new ≡ printed out.old (cond (ltb 0 mark) excluded.now counted.now) }
 {
-    if 0 < mark {
-        return printing::word(out, at, excluded);
-    }
-    printing::word(out, at, counted)
+    out.word(if 0 < mark { excluded } else { counted });
 }
 
 // What follows a window's comma: its end, or `*` where it has none.
-fn write_end(out: &mut [u8], at: usize, span: Span) -> usize
-    ensures { output out.new result ≡ printed (output out.old at) (end_text span) }
+fn write_end<const N: usize>(out: &mut Output<N>, span: Span)
+    ensures { out.new ≡ printed out.old (end_text span) }
 {
-    let hi = span.hi;
-    if hi == tables::NO_END {
-        return printing::word(out, at, b"*]");
+    if span.hi == tables::NO_END {
+        return out.word(b"*]");
     }
-    let at = printing::number(out, at, hi);
-    write_bracket(out, at, span.openhi, b"]", b")")
+    out.number(span.hi);
+    write_bracket(out, span.openhi, b"]", b")");
 }
 
 // A window: `[lo,hi]` or `[lo,*]`, with `(` and `)` for excluded ends.
-fn write_window(out: &mut [u8], at: usize, span: Span) -> usize
-    ensures { output out.new result ≡ printed (output out.old at) (window_text true span) }
+fn write_window<const N: usize>(out: &mut Output<N>, span: Span)
+    ensures { out.new ≡ printed out.old (window_text true span) }
 {
-    let at = write_bracket(out, at, span.openlo, b"[", b"(");
-    let at = printing::number(out, at, span.lo);
-    let at = printing::word(out, at, b",");
-    write_end(out, at, span)
+    write_bracket(out, span.openlo, b"[", b"(");
+    out.number(span.lo);
+    out.word(b",");
+    write_end(out, span);
 }
 
 // An operator: its letter, and its window where its kind has one.
-pub fn write_sign(out: &mut [u8], at: usize, kind: u64, span: Span) -> usize
-    ensures { output out.new result ≡ printed (output out.old at) (sign kind span) }
+pub fn write_sign<const N: usize>(out: &mut Output<N>, kind: u64, span: Span)
+    ensures { out.new ≡ printed out.old (sign kind span) }
 {
-    let at = write_letter(out, at, kind);
+    out.byte(operators::letter_of(kind));
     if tables::is_timed(kind) {
-        return write_window(out, at, span);
+        write_window(out, span);
     }
-    at
 }
 
 // A predicate by its number.
-pub fn write_predicate(out: &mut [u8], at: usize, number: usize) -> usize
-    ensures { output out.new result ≡ printed (output out.old at) (letter predicate_kind ++ decimal number) }
+pub fn write_predicate<const N: usize>(out: &mut Output<N>, number: usize)
+    ensures { out.new ≡ printed out.old (letter predicate_kind ++ decimal number) }
 {
-    let at = write_letter(out, at, tables::PREDICATE);
-    printing::number(out, at, number as u64)
+    out.byte(operators::letter_of(tables::PREDICATE));
+    out.number(number as u64);
 }

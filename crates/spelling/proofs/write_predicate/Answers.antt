@@ -4,4 +4,4 @@ use Rattle.printing.proofs.Printed.{printed_then}
 use Rattle.spelling.proofs.write_predicate.Goals as goal
 
 pub returns : goal.returns
-returns c = printed_then _ _ _ c.write_letter-at.ensures c.number.ensures
+returns g c = printed_then _ _ _ (rw c.letter_of.ensures at c.byte.ensures) c.number.ensures
