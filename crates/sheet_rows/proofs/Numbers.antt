@@ -13,7 +13,8 @@ use borrow.Author.Tests.{leb-true, le-leb}
 use Rattle.text.proofs.Tests.{both}
 use Rattle.recordings.specs.Accepted.{MOST_ROWS, MOST_CHANNELS}
 use Rattle.refusals.specs.First.{first, unless_refused}
-use Rattle.row_lines.specs.declared.Counts.TheVariants.{Found, Bad as Counts_as_Bad}
+use Rattle.std.specs.Prelude.{Some, None}
+use Rattle.row_lines.specs.declared.Counts.{Counts}
 use Rattle.row_lines.specs.Form.{Sample, ChannelsInRange}
 use Rattle.row_lines.specs.Reading.{limit, channels_in_range, Listing, listed, broken, rows_of, counts}
 use Rattle.row_lines.specs.Same.{SameButFilled}
@@ -22,11 +23,11 @@ use Rattle.lists.specs.Front.{in_front}
 use Rattle.sheet_rows.specs.Answer.{has_room, RoomFor, no_rows, answer_of, times_of, values_of}
 use Rattle.sheet_rows.specs.Room.{Fitting}
 
-listed_as : (x : Listing) (m k : ℕ) → counts x ≡ Found m k → (xs : List Sample) × (x ≡ listed xs k) × (length xs ≡ m)
-listed_as (listed xs j) m k h = let e : j ≡ k = cc in (xs, rw e, cc)
-listed_as broken m k h = let z : ◌≡◌ {A = ℕ} 0 1 = cc in absurd (omega arith)
+listed_as : (x : Listing) (c : Counts) → counts x ≡ Some c → (xs : List Sample) × (x ≡ listed xs c.filled) × (length xs ≡ c.rows)
+listed_as (listed xs j) c h = let e : j ≡ c.filled = cc in (xs, rw e, cc)
+listed_as broken c h = let z : ◌≡◌ {A = ℕ} 0 1 = cc in absurd (omega arith)
 
-uncounted : (x : Listing) → counts x ≡ Counts_as_Bad → x ≡ broken
+uncounted : (x : Listing) → counts x ≡ None → x ≡ broken
 uncounted (listed xs k) h = let z : ◌≡◌ {A = ℕ} 0 1 = cc in absurd (omega arith)
 uncounted broken h = refl
 
@@ -60,24 +61,24 @@ module _ (s : List ℕ) (ch nt nv : ℕ) where
     answer_width w = rw (l, w)
 
     module _ (w : channels_in_range ch ≡ true) where
-      pub answer_broken : counts (rows_of ch s) ≡ Counts_as_Bad → no_rows 1 ≡ answer_of s ch nt nv
+      pub answer_broken : counts (rows_of ch s) ≡ None → no_rows 1 ≡ answer_of s ch nt nv
       unfolding first
       answer_broken h = rw (l, w, uncounted (rows_of ch s) h)
 
-      module _ (m k : ℕ) (h : counts (rows_of ch s) ≡ Found m k) where
-        pub answer_many : has_room m ch nt nv ≡ false → no_rows 5 ≡ answer_of s ch nt nv
+      module _ (n : Counts) (h : counts (rows_of ch s) ≡ Some n) where
+        pub answer_many : has_room n.rows ch nt nv ≡ false → no_rows 5 ≡ answer_of s ch nt nv
         unfolding first
-        answer_many t = let c = listed_as (rows_of ch s) m k h in rw (l, w, c.1, c.2, t)
+        answer_many t = let c = listed_as (rows_of ch s) n h in rw (l, w, c.1, c.2, t)
 
-        pub answer_fits : has_room m ch nt nv ≡ true → record { number = 0; rows = m; filled = k } ≡ answer_of s ch nt nv
+        pub answer_fits : has_room n.rows ch nt nv ≡ true → record { number = 0; rows = n.rows; filled = n.filled } ≡ answer_of s ch nt nv
         unfolding first
-        answer_fits t = let c = listed_as (rows_of ch s) m k h in rw (l, w, c.1, c.2, t)
+        answer_fits t = let c = listed_as (rows_of ch s) n h in rw (l, w, c.1, c.2, t)
 
-        pub fitting : has_room m ch nt nv ≡ true → Fitting s ch nt nv
+        pub fitting : has_room n.rows ch nt nv ≡ true → Fitting s ch nt nv
         fitting t =
-            let c = listed_as (rows_of ch s) m k h in
-            let r = room_for m ch nt nv t in
-            record { samples = c.0; filled = k; reads = c.1; rows_fit = rw c.2 r.times_hold; values_fit = rw c.2 r.values_hold }
+            let c = listed_as (rows_of ch s) n h in
+            let r = room_for n.rows ch nt nv t in
+            record { samples = c.0; filled = n.filled; reads = c.1; rows_fit = rw c.2 r.times_hold; values_fit = rw c.2 r.values_hold }
 
 -- ---- two texts within the size limit that differ in filled rows alone
 

@@ -19,8 +19,7 @@ use Rattle.row_lines.specs.Form.{Sample, Rows}
 use Rattle.row_lines.specs.Reading.{limit, channels_in_range, Listing, listed, broken, is_broken, rows_of}
 use Rattle.row_lines.proofs.Exact.{rows_exact, unbroken_rows, rows_unbroken}
 use Rattle.lists.specs.Front.{in_front}
-use Rattle.sheet_rows.specs.declared.Answer.{Answer}
-use Rattle.sheet_rows.specs.Answer.{measured_of, has_room, RoomFor, Readable, text_check, room_check, row_checks, refusal, no_rows, counted, answer_of, times_in, values_in, times_of, values_of}
+use Rattle.sheet_rows.specs.Answer.{Answer, measured_of, has_room, RoomFor, Readable, text_check, room_check, row_checks, refusal, no_rows, counted, answer_of, times_in, values_in, times_of, values_of}
 use Rattle.sheet_rows.proofs.Numbers.{channels_are, are_channels, room_for, for_room}
 
 -- a test that holds is an equation

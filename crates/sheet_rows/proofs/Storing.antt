@@ -9,11 +9,13 @@ use native.Mathlib.Omega.{arith}
 use lib.ListN.{length, set, length-set, length-append}
 use lib.Seq.{sets, length-sets}
 use lib.IntN.{ℤ}
-use Rattle.text.specs.declared.signed.Field.TheVariants.{Number as Signed_as_Number, Bad as Signed_as_Bad}
+use Rattle.std.specs.Prelude.{Option, Some, None}
+use Rattle.text.specs.Mark.{read}
+use Rattle.text.specs.declared.Field.TheVariants.{Number, Bad}
+use Rattle.lines.specs.Reading.{also}
 use Rattle.row_lines.specs.declared.RowLine.{RowLine}
-use Rattle.row_lines.specs.declared.RowLine.TheVariants.{Filled, Bad}
 use Rattle.row_lines.specs.Form.{Sample, Rows, no_row, measured, filled}
-use Rattle.row_lines.specs.Reading.{value_at, ValuesAt, read, missing, also, values_from, all_of, measured_row, row_at, Listing, listed, broken, also_measured, also_filled, sample_at, rows_from, rows_of}
+use Rattle.row_lines.specs.Reading.{value_at, ValuesAt, values_from, end_of, all_of, measured_row, filled_row, row_at, Listing, listed, broken, also_measured, also_filled, sample_at, rows_from, rows_of}
 use Rattle.row_lines.proofs.Steps.{values_over, values_none, values_next}
 use Rattle.row_lines.proofs.Written.{RowHere, row_here, values_length}
 use Rattle.row_lines.proofs.Exact.{row_past, rows_over, rows_turn, rows_exact}
@@ -25,12 +27,11 @@ use Rattle.sheet_rows.specs.Room.{Storable, Fitting}
 -- ---- the values of a row
 
 also_split : (v : ℤ) (x : ValuesAt) (vs : List ℤ) (n : ℕ) → also v x ≡ read vs n → (ws : List ℤ) × (x ≡ read ws n) × (vs ≡ v ∷ ws)
-also_split v (read ws m) vs n h = let e : m ≡ n = cc in (ws, rw e, cc)
-also_split v missing vs n h = let z : ◌≡◌ {A = ℕ} 0 1 = cc in absurd (omega arith)
+also_split v (Some r) vs n h = let e : Some r.next ≡ Some n = ap end_of h in let f : r.next ≡ n = cc in (r.value, rw (← f), sym (ap all_of h))
+also_split v None vs n h = let z : ◌≡◌ {A = ℕ} 0 1 = cc in absurd (omega arith)
 
 -- the values of the channels below c are stored
 pub record Storing (s : List ℕ) (at ch place : ℕ) (values₀ values : List ℤ) (next c : ℕ) : Type 0 where
-  pub upto : c ≤ ch
   pub rest : List ℤ
   pub end : ℕ
   pub reads : values_from (ch - c) c s next ≡ read rest end
@@ -40,7 +41,6 @@ pub record Storing (s : List ℕ) (at ch place : ℕ) (values₀ values : List �
 pub store_start : (s : List ℕ) (at ch place : ℕ) (values : List ℤ) → Storable s at ch place (length values) → Storing s at ch place values values at 0
 store_start s at ch place values p =
     record {
-      upto = omega arith;
       rest = p.worth;
       end = p.end;
       reads = rw sub-zero p.reads;
@@ -52,22 +52,21 @@ module _ (s : List ℕ) (at ch place : ℕ) (values₀ values : List ℤ) (next 
   pub store_over : ch ≤ c → values ≡ sets values₀ place (all_of (values_from ch 0 s at))
   store_over l =
       let e : read i.rest i.end ≡ read [] next = sym i.reads ∙ values_over ch c s next l in
-      let f : i.rest ≡ [] = cc in
+      let f : i.rest ≡ [] = ap all_of e in
       rw f at i.same
 
   module _ (l : c < ch) where
-    pub store_bad : value_at s next c ≡ Signed_as_Bad → ⊥
+    pub store_bad : value_at s next c ≡ Bad → ⊥
     store_bad h =
-        let e : read i.rest i.end ≡ missing = sym i.reads ∙ values_none ch c s next l h in
+        let e : read i.rest i.end ≡ None = sym i.reads ∙ values_none ch c s next l h in
         let z : ◌≡◌ {A = ℕ} 0 1 = cc in
         omega arith
 
-    pub store_next : (v : ℤ) (n : ℕ) → value_at s next c ≡ Signed_as_Number v n → Storing s at ch place values₀ (set values (place + c) v) n (c + 1)
+    pub store_next : (v : ℤ) (n : ℕ) → value_at s next c ≡ Number v n → Storing s at ch place values₀ (set values (place + c) v) n (c + 1)
     store_next v n h =
         let p = also_split v (values_from (ch - (c + 1)) (c + 1) s n) i.rest i.end (sym (values_next ch c s next v n l h) ∙ i.reads) in
         let e : place + (c + 1) ≡ suc (place + c) = omega arith in
         record {
-          upto = omega arith;
           rest = p.0;
           end = i.end;
           reads = p.1;
@@ -146,18 +145,18 @@ module _ (s : List ℕ) (ch : ℕ) (times₀ : List ℕ) (values₀ : List ℤ) 
       let f : i.rest ≡ [] = cc in
       (rw f at i.t_same, rw f at i.v_same)
 
-  module _ (x : RowLine) (l : at < length s) (e : x ≡ row_at s at ch) where
-    pub fill_bad : x ≡ Bad → ⊥
+  module _ (x : Option RowLine) (l : at < length s) (e : x ≡ row_at s at ch) where
+    pub fill_bad : x ≡ None → ⊥
     fill_bad h =
-        let f : broken ≡ listed i.rest i.filled = sym (rows_turn i.fuel ch s at Bad i.enough l (sym h ∙ e)) ∙ i.reads in
+        let f : broken ≡ listed i.rest i.filled = sym (rows_turn i.fuel ch s at None i.enough l (sym h ∙ e)) ∙ i.reads in
         let z : ◌≡◌ {A = ℕ} 0 1 = cc in
         omega arith
 
     -- a filled row is skipped
-    pub fill_filled : (m : ℕ) → x ≡ Filled m → (at < m) × Filling s ch times₀ values₀ times values m n
+    pub fill_filled : (m : ℕ) → x ≡ filled_row m → (at < m) × Filling s ch times₀ values₀ times values m n
     fill_filled m h =
-        let p : at < m = row_past ch s at (Filled m) (sym h ∙ e) in
-        let q = filled_split (rows_from (i.fuel - 1) ch s m) i.rest i.filled (sym (rows_turn i.fuel ch s at (Filled m) i.enough l (sym h ∙ e)) ∙ i.reads) in (
+        let p : at < m = row_past ch s at (filled_row m) (sym h ∙ e) in
+        let q = filled_split (rows_from (i.fuel - 1) ch s m) i.rest i.filled (sym (rows_turn i.fuel ch s at (filled_row m) i.enough l (sym h ∙ e)) ∙ i.reads) in (
           p,
           record {
             fuel = i.fuel - 1;
@@ -176,7 +175,7 @@ module _ (s : List ℕ) (ch : ℕ) (times₀ : List ℕ) (values₀ : List ℤ) 
 
     module _ (t a m : ℕ) (h : x ≡ measured_row t a m) where
       here : RowHere ch s at (measured_row t a m)
-      here = subst (λ (r : RowLine). RowHere ch s at r) (sym e ∙ h) (row_here ch s at)
+      here = subst (λ (r : Option RowLine). RowHere ch s at r) (sym e ∙ h) (row_here ch s at)
 
       turn : (ys : List Sample) × (rows_from (i.fuel - 1) ch s m ≡ listed ys i.filled) × (i.rest ≡ sample_at s ch t a ∷ ys)
       turn =

@@ -1,12 +1,20 @@
 -- The row reader's answer and what it leaves in the slices: functions of the text's measured rows and of the count of its filled ones.
 -- Assumes nothing.
-use Rattle.std.specs.Prelude.{ℕ, ◌*◌, ◌≤◌, Bool, not, ◌&&◌, List, [], ◌∷◌, ◌++◌, length, ℤ, leb}
+use Rattle.std.specs.Prelude.{ℕ, ◌*◌, ◌≤◌, Bool, not, ◌&&◌, List, [], ◌∷◌, ◌++◌, length, ℤ, leb, Result, Ok, Err}
 use Rattle.recordings.specs.Accepted.{MOST_ROWS}
 use Rattle.refusals.specs.First.{Check, first, unless_refused}
+use Rattle.refusals.specs.Number.{number}
 use Rattle.lines.specs.Lines.{lines}
 use Rattle.row_lines.specs.Form.{Sample, Rows, AreRows, ChannelsInRange}
 use Rattle.row_lines.specs.Reading.{limit, channels_in_range, Listing, listed, broken, is_broken, rows_of}
-use Rattle.sheet_rows.specs.declared.Answer.{Answer}
+use Rattle.refusals.specs.declared.Refusal.{Refusal}
+use Rattle.row_lines.specs.declared.Counts.{Counts}
+
+-- the number of the refusal that counts, 0 where none applies, and how many rows are measured and how many filled
+pub record Answer : Type 0 where
+  pub number : ℕ
+  pub rows : ℕ
+  pub filled : ℕ
 
 abbrev pub measured_of : Listing → ℕ
 measured_of (listed xs k) = length xs
@@ -70,6 +78,11 @@ no_rows number = record { number = number; rows = 0; filled = 0 }
 -- the counts of measured and of filled rows
 abbrev pub counted : Listing → Answer
 counted x = record { number = 0; rows = measured_of x; filled = filled_of x }
+
+-- what the row reader hands back, as an answer
+abbrev pub outcome : Result Counts Refusal → Answer
+outcome (Ok c) = record { number = 0; rows = c.rows; filled = c.filled }
+outcome (Err r) = no_rows (number r)
 
 -- the answer to a text, for slices of `times` and `values` places
 abbrev pub answer_of : List ℕ → ℕ → ℕ → ℕ → Answer

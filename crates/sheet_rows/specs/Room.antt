@@ -1,8 +1,9 @@
 -- What the storing functions ask of their callers: the text was checked through, and the slices have room.
 -- Assumes nothing.
 use Rattle.std.specs.Prelude.{ℕ, ◌+◌, ◌*◌, ◌≤◌, ◌≡◌, List, length, ℤ}
+use Rattle.text.specs.Mark.{read}
 use Rattle.row_lines.specs.Form.{Sample}
-use Rattle.row_lines.specs.Reading.{read, values_from, listed, rows_of}
+use Rattle.row_lines.specs.Reading.{values_from, listed, rows_of}
 
 pub record Storable (s : List ℕ) (at channels place room : ℕ) : Type 0 where
   pub worth : List ℤ

@@ -1,11 +1,7 @@
 -- `sheet_rows::store_values` meets its contract: with the values that are left behind it, the slice is what it will be at the end.
 -- Assumes nothing.
-use Prim.Native.Nat.{◌-◌}
 use Rattle.sheet_rows.proofs.Storing.{Storing}
 use Rattle.sheet_rows.proofs.store_values.Given as goal
 
 abbrev pub invariant-loop-channel : goal.invariant-loop-channel
 invariant-loop-channel l = Storing l.s l.at l.channels l.place l.initial.values l.values l.next l.channel
-
-abbrev pub decreases-loop-channel : goal.decreases-loop-channel
-decreases-loop-channel l = l.channels - l.channel
