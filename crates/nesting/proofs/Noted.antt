@@ -99,10 +99,6 @@ module _ (t : Table) (rules : TableRules t) (k : ℕ) (h : k < t.count) where
   abbrev node : Node
   node = node_at t.nodes k
 
-  -- every number that a node may name has a place
-  pub places : ((node_at t.nodes k).left < NODES) × ((node_at t.nodes k).right < NODES)
-  places = named_small (rules.each k h) (omega (arith, rules.few_nodes))
-
   pub noted_next : (notes : List Bool) {ok a b : Bool} → Noted t k notes ok → a ≡ timed (operator (node_at t.nodes k).kind)
       → b ≡ in_operands (operator (node_at t.nodes k).kind) (get_or notes (node_at t.nodes k).left false) (get_or notes (node_at t.nodes k).right false)
       → Noted t (k + 1) (set notes k (a || b)) (ok && not (a && b))

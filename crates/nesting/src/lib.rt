@@ -13,9 +13,7 @@ use tables::Table;
 fn operands_timed(kind: u64, left: bool, right: bool) -> bool
     ensures { result ≡ in_operands (operator kind) left right }
 {
-    let has_left = tables::has_left(kind);
-    let has_right = tables::has_right(kind);
-    (has_left & left) | (has_right & right)
+    (tables::has_left(kind) & left) | (tables::has_right(kind) & right)
 }
 
 // A node's operands are earlier nodes, so one walk from the first node on is enough.
@@ -23,16 +21,13 @@ pub fn unnested(table: Table) -> bool
     requires { TableRules table }
     ensures { result ≡ nodes_unnested table.nodes table.count }
 {
-    let count = table.count;
     let mut timed = [false; tables::NODES];
     let mut ok = true;
-    for k in 0..count {
+    for k in 0..table.count {
         let node = table.nodes[k];
-        let left = node.left;
-        let right = node.right;
         let here = tables::is_timed(node.kind);
-        let below = operands_timed(node.kind, timed[left], timed[right]);
-        ok = ok & !(here & below);
+        let below = operands_timed(node.kind, timed[node.left], timed[node.right]);
+        ok &= !(here & below);
         timed[k] = here | below;
     }
     ok

@@ -42,8 +42,7 @@ fn clearance_of(a: i64, b: i64) -> i64
     ensures { result ≡ clearance a b }
 {
     let apart = numbers::difference(b, a);
-    let kept = numbers::at_most(a, b);
-    if kept { apart + 1 } else { apart }
+    if numbers::at_most(a, b) { apart + 1 } else { apart }
 }
 
 // The distance of a value from a range.
@@ -52,8 +51,7 @@ fn distance_of(range: Range, value: i64) -> i64
     ensures { result ≡ distance TOP range value }
 {
     match range {
-        Range::Unset => recordings::TOP,
-        Range::Free => recordings::TOP,
+        Range::Unset | Range::Free => recordings::TOP,
         Range::AtLeast(lo) => clearance_of(lo, value),
         Range::AtMost(hi) => clearance_of(value, hi),
         Range::Between(lo, hi) => numbers::smaller(
@@ -68,12 +66,10 @@ pub fn scaled_distance(range: Range, scale: u64, value: i64) -> i64
     requires { InRange value × Ends range × (scale ≤ MOST_SCALE) }
     ensures { result ≡ scaled_distance TOP scale range value }
 {
-    let far = distance_of(range, value);
-    let free = recordings::is_free(range);
-    if free {
+    if recordings::is_free(range) {
         return recordings::TOP;
     }
-    numbers::product(scale as i64, far)
+    numbers::product(scale as i64, distance_of(range, value))
 }
 
 // A value, or, where it is denied, its negative.
