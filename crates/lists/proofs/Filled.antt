@@ -7,10 +7,11 @@ use native.Mathlib.Nat.{zero-add, suc-add, mul-le-mul_right}
 use native.Mathlib.Numerals.{add-one}
 use native.Mathlib.Decide.{dec_lt}
 use mathlib.Core.List.{List, [], ◌∷◌, ◌++◌}
-use lib.ListN.{length, get_or, set, take, length-set, length-take, length-drop}
+use Rattle.std.proofs.lemmas.Grind.{common_steps}
+use lib.ListN.{length, get_or, set, take, drop, replicate, length-set, length-take, length-drop}
 use borrow.Rule.Slice.PartMut.{mid_of, post_of, put_mid, put_same}
 use lib.Seq.{set-append_left, set_comm, get_or-set_same, get_or-set_other, length-take-le}
-use Rattle.std.proofs.lemmas.List.{same_lists, get_or_default}
+use Rattle.std.proofs.lemmas.List.{ext_get_or, same_lists, get_or_default}
 use Rattle.lists.specs.Fill.{fill, fill_rows}
 
 module _ {X : Type 0} where
@@ -79,6 +80,20 @@ module _ {X : Type 0} where
   -- a place before the run is as it was, so rows of earlier nodes may be read while a later row is filled
   pub fill_before : (b n : ℕ) (f : ℕ → X) (w : List X) {l : List X} (m : ℕ) (d : X) → l ≡ fill b n f w → m < b → get_or l m d ≡ get_or w m d
   fill_before b n f w m d e h = rw e (fill_out b n f w m d (λ p q. omega arith))
+
+  -- a front that has one value at every place
+  pub fill_same_value : (n : ℕ) (v : X) (w : List X) → n ≤ length w → replicate n v ++ drop n w ≡ fill 0 n (λ i. v) w
+  fill_same_value n v w h = ext_get_or v (replicate n v ++ drop n w) (fill 0 n (λ i. v) w) (grind (arith, common_steps, length_fill 0 n (λ i. v) w)) each
+    where
+      each : (i : ℕ) → i < length (replicate n v ++ drop n w) → get_or (replicate n v ++ drop n w) i v ≡ get_or (fill 0 n (λ i. v) w) i v
+      each i l = elim (dec_lt i n) [
+        | yes p ↦
+            let e : get_or (replicate n v ++ drop n w) i v ≡ v = grind (arith, common_steps) in
+            e ∙ sym (rw zero-add at (fill_in 0 n (λ i. v) w i v p (omega arith)))
+        | no p ↦
+            let e : get_or (replicate n v ++ drop n w) i v ≡ get_or w i v = grind (arith, common_steps) in
+            e ∙ sym (fill_out 0 n (λ i. v) w i v (λ _ q. omega arith))
+      ]
 
   -- ---- a part that was lent, `&mut w[a..]` or `&mut w[a..a + k]`
   set_append : (p q : List X) (i : ℕ) (v : X) → set (p ++ q) (length p + i) v ≡ p ++ set q i v

@@ -42,7 +42,11 @@ fn clearance_of(a: i64, b: i64) -> i64
     ensures { result ≡ clearance a b }
 {
     let apart = numbers::difference(b, a);
-    if numbers::at_most(a, b) { apart + 1 } else { apart }
+    if numbers::at_most(a, b) {
+        apart + 1
+    } else {
+        apart
+    }
 }
 
 // The distance of a value from a range.

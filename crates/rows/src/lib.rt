@@ -26,11 +26,7 @@ pub fn fill_same(rows: usize, value: i64, part: &mut [i64])
     requires { rows ≤ length part.old }
     ensures { part.new ≡ fill 0 rows (λ i. value) part.old }
 {
-    let mut i = 0;
-    while i < rows {
-        part[i] = value;
-        i += 1;
-    }
+    part[..rows].fill(value);
 }
 
 // The row of true, or of its negation.
@@ -59,12 +55,10 @@ fn fill_distances(
 {
     let channel = predicate.channel;
     let range = predicate.range;
-    let mut i = 0;
-    while i < rows {
+    for i in 0..rows {
         let value = values[i * channels + channel];
         let far = points::scaled_distance(range, scale, value);
         part[i] = points::signed_of(affirmed, far);
-        i += 1;
     }
 }
 
@@ -101,11 +95,8 @@ pub fn signed_row(rows: usize, affirmed: bool, work: &mut [i64], child: usize, r
     ensures { work.new ≡ fill (row * rows) rows (λ i. signed affirmed (cell work.old rows child i)) work.old }
 {
     let base = row * rows;
-    let mut i = 0;
-    while i < rows {
-        let value = cell_at(rows, work, child, i);
-        work[base + i] = points::signed_of(affirmed, value);
-        i += 1;
+    for i in 0..rows {
+        work[base + i] = points::signed_of(affirmed, cell_at(rows, work, child, i));
     }
 }
 
@@ -115,11 +106,11 @@ pub fn joined_row(rows: usize, e: Extremum, work: &mut [i64], left: usize, right
     ensures { work.new ≡ fill (row * rows) rows (λ i. margin_extreme e (cell work.old rows left i) (cell work.old rows right i)) work.old }
 {
     let base = row * rows;
-    let mut i = 0;
-    while i < rows {
-        let first = cell_at(rows, work, left, i);
-        let second = cell_at(rows, work, right, i);
-        work[base + i] = points::extreme(e, first, second);
-        i += 1;
+    for i in 0..rows {
+        work[base + i] = points::extreme(
+            e,
+            cell_at(rows, work, left, i),
+            cell_at(rows, work, right, i),
+        );
     }
 }

@@ -1,8 +1,8 @@
 -- The loop's invariant is the contract for the first i places.
 -- Assumes nothing.
 use mathlib.Core.Path.{◌≡◌}
-use Prim.Native.Nat.{◌+◌, ◌*◌, ◌-◌, ◌≤◌}
-use lib.ListN.{length, get_or}
+use Prim.Native.Nat.{◌+◌, ◌*◌}
+use lib.ListN.{get_or}
 use lib.IntN.{pos}
 use Rattle.lists.specs.Fill.{fill}
 use Rattle.recordings.specs.Distance.{TOP, scaled_distance}
@@ -10,10 +10,4 @@ use Rattle.points.specs.Point.{signed}
 use Rattle.rows.proofs.fill_distances.Given as goal
 
 abbrev pub invariant-loop-i : goal.invariant-loop-i
-invariant-loop-i l =
-    (l.i ≤ l.rows)
-    × (l.part ≡ fill 0 l.i (λ j. signed l.affirmed (scaled_distance TOP l.scale l.range (get_or l.values (j * l.channels + l.channel) (pos 0)))) l.initial.part)
-    × (length l.part ≡ length l.initial.part)
-
-abbrev pub decreases-loop-i : goal.decreases-loop-i
-decreases-loop-i l = l.rows - l.i
+invariant-loop-i l = l.part ≡ fill 0 l.i (λ j. signed l.affirmed (scaled_distance TOP l.scale l.range (get_or l.values (j * l.channels + l.channel) (pos 0)))) l.initial.part
