@@ -1,5 +1,6 @@
 -- The entry point's answer, by the number that its tests found: the list of refusals in parts, and the root's two cells.
 -- Assumes nothing.
+use Rattle.std.proofs.Common.{Ok, Err}
 use mathlib.Core.Path.{◌≡◌, refl, sym, ap, ◌∙◌}
 use mathlib.Core.Bool.{Bool, true, false}
 use mathlib.Core.List.{List, ◌∷◌}
@@ -7,6 +8,7 @@ use Prim.Native.Nat.{ℕ, ◌+◌, ◌*◌, ◌-◌, ◌≤◌, ◌<◌}
 use native.Mathlib.Omega.{arith}
 use native.Mathlib.Nat.{mul-le-mul_right}
 use borrow.Author.Tests.{le-leb, lt-leb}
+use lib.Dec.{leb→le}
 use lib.IntN.{ℤ, pos}
 use lib.ListN.{length}
 use Rattle.lists.proofs.Filled.{rows_in, length_rows, earlier_row}
@@ -14,14 +16,19 @@ use Rattle.recordings.specs.declared.Verdict.{Verdict}
 use Rattle.recordings.specs.declared.Verdict.TheVariants.{NotShown}
 use Rattle.recordings.specs.Card.{Card, rows}
 use Rattle.recordings.specs.Verdict.{hold, fail, verdict}
+use Rattle.recordings.specs.Accepted.{Accepted}
 use Rattle.tables.specs.declared.Table.{Table}
 use Rattle.tables.specs.Tree.{NODES, root}
 use Rattle.rows.specs.Cells.{cell}
+use Rattle.refusals.specs.declared.Refusal.{Refusal}
 use Rattle.refusals.specs.First.{first}
-use Rattle.rules.specs.Refusals.{checks}
-use Rattle.refusals.proofs.First.{first_stays, first_here, first_behind, unless_none, unless_some}
+use Rattle.refusals.specs.Number.{number}
+use Rattle.refusals.proofs.Number.{not_none}
+use Rattle.rules.specs.Refusals.{checks, Sound}
+use Rattle.rules.proofs.Refusals.{sound}
+use Rattle.refusals.proofs.First.{first_stays, first_here, first_behind, parts_none, unless_none, unless_some}
 use Rattle.sampling.specs.Sampling.{checks as sampling_checks}
-use Rattle.verdicts.specs.declared.Answer.TheVariants.{Judged, Refused}
+use Rattle.sampling.proofs.Sampling.{accepted}
 use Rattle.verdicts.specs.Cells.{strong, row_value, cells}
 use Rattle.verdicts.specs.Rows.{row_of, Ready}
 use Rattle.verdicts.specs.Answer.{verdict_outcome, verdict_room, verdict_refusal, verdict_judged, verdict_cells}
@@ -40,21 +47,30 @@ module _ (c : Card) (t : Table) (step drift size : ℕ) where
   unfolding verdict_refusal
   refused_late e h = first_behind (checks c t) (verdict_room c t size) (sampling_checks c step drift) tt e (le-leb _ _ h)
 
-  -- ---- the answer: under a number other than 0 that number, and what was lent stays
-  pub refused_outcome : (m : ℕ) → verdict_refusal c t step drift size ≡ m → (m ≡ 0 → ⊥) → verdict_outcome (Refused m) ≡ verdict_judged c t step drift size
+  -- number 0 says that none of refusals 3 to 11 applies
+  pub nothing_refused : verdict_refusal c t step drift size ≡ 0 → Ready c t step size × Accepted c step drift
+  unfolding verdict_refusal
+  nothing_refused e =
+      let p = parts_none (checks c t) (verdict_room c t size) (sampling_checks c step drift) tt tt e in
+      let s : Sound c t = sound c t p.0 in
+      let a : Accepted c step drift = accepted c step drift s.recorded p.2 in
+      (record { sound = s; step_bound = a.stepped.short_step; room = leb→le (2 * t.count * rows c) size p.1 }, a)
+
+  -- ---- the answer: under a refusal its number, and what was lent stays
+  pub refused_outcome : (r : Refusal) → number r ≡ verdict_refusal c t step drift size → verdict_outcome (Err r) ≡ verdict_judged c t step drift size
   unfolding verdict_judged
-  refused_outcome m e h =
-      let z : verdict_refusal c t step drift size ≡ 0 → ⊥ = λ z. h (sym e ∙ z) in
+  refused_outcome r e =
+      let z : verdict_refusal c t step drift size ≡ 0 → ⊥ = λ z. not_none r (e ∙ z) in
       rw (unless_some (verdict_refusal c t step drift size) (verdict c step drift (root t)) NotShown z, unless_some (verdict_refusal c t step drift size) (hold c step (root t)) (pos 0) z, unless_some (verdict_refusal c t step drift size) (fail c step (root t)) (pos 0) z, e) refl
 
-  pub accepted_outcome : {v : Verdict} {h f : ℤ} → verdict_refusal c t step drift size ≡ 0 → v ≡ verdict c step drift (root t) → h ≡ hold c step (root t) → f ≡ fail c step (root t) → verdict_outcome (Judged (record { verdict = v; hold = h; fail = f })) ≡ verdict_judged c t step drift size
+  pub accepted_outcome : {v : Verdict} {h f : ℤ} → verdict_refusal c t step drift size ≡ 0 → v ≡ verdict c step drift (root t) → h ≡ hold c step (root t) → f ≡ fail c step (root t) → verdict_outcome (Ok (record { verdict = v; hold = h; fail = f })) ≡ verdict_judged c t step drift size
   unfolding verdict_judged
   accepted_outcome e p q r = rw (e, p, q, r) refl
 
 module _ (c : Card) (t : Table) (step drift : ℕ) (w : List ℤ) where
-  pub cells_kept : (m : ℕ) → verdict_refusal c t step drift (length w) ≡ m → (m ≡ 0 → ⊥) → w ≡ verdict_cells c t step drift w
+  pub cells_kept : (r : Refusal) → number r ≡ verdict_refusal c t step drift (length w) → w ≡ verdict_cells c t step drift w
   unfolding verdict_cells
-  cells_kept m e h = sym (unless_some _ _ _ (λ z. h (sym e ∙ z)))
+  cells_kept r e = sym (unless_some _ _ _ (λ z. not_none r (e ∙ z)))
 
   pub cells_filled : {l : List ℤ} → verdict_refusal c t step drift (length w) ≡ 0 → l ≡ cells c step t.nodes t.count w → l ≡ verdict_cells c t step drift w
   unfolding verdict_cells

@@ -1,6 +1,6 @@
 -- What the verdict function promises, in the customer's words: each is read off its contract, `verdict_outcome r ≡ verdict_judged ..` and `verdict_cells ..`, whose number 0 is acceptance.
 -- Assumes nothing.
-use mathlib.Core.Path.{◌≡◌, sym, ap, ◌∙◌}
+use mathlib.Core.Path.{◌≡◌, sym, ◌∙◌}
 use mathlib.Core.Bool.{Bool, true, false}
 use mathlib.Core.List.{List, ◌∷◌}
 use Prim.Native.Nat.{ℕ, ◌+◌, ◌*◌, ◌≤◌, ◌<◌}
@@ -16,31 +16,26 @@ use Rattle.recordings.specs.Margin.{margin}
 use Rattle.recordings.specs.Verdict.{hold, fail, verdict}
 use Rattle.recordings.specs.Accepted.{Accepted}
 use Rattle.recordings.specs.Shown.{Shown}
-use Rattle.recordings.proofs.Margins.{measured, measured_positive, margin_not_zero}
 use Rattle.recordings.proofs.Verdicts.{holds_shown, fails_shown}
 use Rattle.tables.specs.declared.Table.{Table}
 use Rattle.tables.specs.Tree.{tree, root}
 use Rattle.refusals.specs.First.{AllExact, Refused}
 use Rattle.rules.specs.Refusals.{checks, Sound}
-use Rattle.refusals.proofs.First.{refused, first_is, parts_none, exact_append, unless_none, unless_some}
-use Rattle.rules.proofs.Refusals.{exact, sound, sound_passes}
+use Rattle.refusals.proofs.First.{refused, first_is, exact_append, unless_none, unless_some}
+use Rattle.rules.proofs.Refusals.{exact, sound_passes}
 use Rattle.sampling.specs.Sampling.{checks as sampling_checks}
-use Rattle.sampling.proofs.Sampling.{accepted, accepted_passes, exact as sampling_exact}
-use Rattle.verdicts.specs.declared.Answer.TheVariants.{Refused as RefusedBy}
+use Rattle.sampling.proofs.Sampling.{accepted_passes, exact as sampling_exact}
 use Rattle.verdicts.specs.Cells.{strong, row_value, cells}
 use Rattle.verdicts.specs.Rows.{row_of}
-use Rattle.verdicts.specs.Answer.{VerdictOutcome, verdict_outcome, verdict_room, verdict_checks, verdict_refusal, verdict_judged, verdict_cells}
+use Rattle.verdicts.specs.Answer.{verdict_room, verdict_checks, verdict_refusal, verdict_judged, verdict_cells}
 use Rattle.verdicts.proofs.Rows.{row_value_of}
-use Rattle.verdicts.proofs.Entry.{refused_late}
+use Rattle.verdicts.proofs.Entry.{refused_late, nothing_refused}
 
 module _ (c : Card) (t : Table) (step drift size : ℕ) where
   -- 0 is answered exactly when none of refusals 3 to 11 applies: the recording, requirement, step and drift are accepted
   pub number_none : (verdict_judged c t step drift size).number ≡ 0 → Sound c t × (2 * t.count * rows c ≤ size) × Accepted c step drift
-  unfolding verdict_judged verdict_refusal
-  number_none e =
-      let p = parts_none (checks c t) (verdict_room c t size) (sampling_checks c step drift) tt tt e in
-      let s : Sound c t = sound c t p.0 in
-      (s, leb→le (2 * t.count * rows c) size p.1, accepted c step drift s.recorded p.2)
+  unfolding verdict_judged
+  number_none e = let r = nothing_refused c t step drift size e in (r.0.sound, r.0.room, r.1)
 
   pub none_number : Sound c t → 2 * t.count * rows c ≤ size → Accepted c step drift → (verdict_judged c t step drift size).number ≡ 0
   unfolding verdict_judged
@@ -61,12 +56,6 @@ module _ (c : Card) (t : Table) (step drift size : ℕ) where
   pub fail_is : (verdict_judged c t step drift size).number ≡ 0 → (verdict_judged c t step drift size).fail ≡ fail c step (root t)
   unfolding verdict_judged
   fail_is e = unless_none _ _ e
-
-  -- hold is never 0, so the number of a refused answer is not 0 either
-  pub refused_some : {n : ℕ} → verdict_outcome (RefusedBy n) ≡ verdict_judged c t step drift size → n ≡ 0 → ⊥
-  refused_some e z =
-      let m : (verdict_judged c t step drift size).number ≡ 0 = ap (λ (o : VerdictOutcome). o.number) (sym e) ∙ z in
-      margin_not_zero (measured_positive (measured (number_none m).0.recorded)) (strengthened step true (root t)) 0 (sym (hold_is m) ∙ ap (λ (o : VerdictOutcome). o.hold) (sym e))
 
   pub refused_values : ((verdict_judged c t step drift size).number ≡ 0 → ⊥) → ((verdict_judged c t step drift size).verdict ≡ NotShown) × ((verdict_judged c t step drift size).hold ≡ pos 0) × ((verdict_judged c t step drift size).fail ≡ pos 0)
   unfolding verdict_judged

@@ -3,7 +3,7 @@
 use mathlib.Core.Path.{◌≡◌, refl, sym, ap, ◌∙◌, subst}
 use mathlib.Core.Bool.{Bool, true, false}
 use mathlib.Core.List.{List}
-use Prim.Native.Nat.{ℕ, ◌+◌, ◌*◌, ◌/◌, ◌%◌, ◌≤◌, ◌<◌}
+use Prim.Native.Nat.{ℕ, ◌+◌, ◌*◌, ◌/◌, ◌%◌, ◌<◌}
 use native.Mathlib.Omega.{arith}
 use borrow.Author.Tests.{eq-eqb, ne_eqb}
 use lib.IntN.{ℤ}
@@ -17,9 +17,8 @@ use Rattle.tables.specs.declared.Node.{Node}
 use Rattle.tables.specs.declared.Table.{Table}
 use Rattle.tables.specs.Kind.{operator}
 use Rattle.tables.specs.declared.Operator.{Operator}
-use Rattle.tables.specs.Tree.{NODES, node_at}
+use Rattle.tables.specs.Tree.{node_at}
 use Rattle.tables.specs.Rules.{left_use, right_use, NodeRules}
-use Rattle.tables.proofs.Rules.{named_small}
 use Rattle.nodes.specs.Values.{node_value}
 use Rattle.nodes.specs.Asks.{NodeAsks}
 use Rattle.nodes.proofs.Values.{value_same}
@@ -78,15 +77,6 @@ module _ {c : Card} {t : Table} {step : ℕ} {work : List ℤ} {r : ℕ} (f : Fi
   rules : NodeRules n k
   rules = f.ready.sound.ruled.each k node_inside
 
-  named : (n.left < NODES) × (n.right < NODES)
-  named = named_small rules (omega (arith, node_inside, f.ready.sound.ruled.few_nodes))
-
-  left_small : n.left ≤ NODES
-  left_small = omega (arith, named.0)
-
-  right_small : n.right ≤ NODES
-  right_small = omega (arith, named.1)
-
   -- a filled row's cells are its node's values
   filled_cell : (s : Bool) (x : ℕ) → x < k → (i : ℕ) → i < rows c → cell work (rows c) (row_of s x) i ≡ strong c step t.nodes s x i
   filled_cell s x h i l = f.done (row_of s x) i (earlier_rows s x r h) l ∙ row_value_of c step t.nodes s x i
@@ -114,15 +104,6 @@ module _ {c : Card} {t : Table} {step : ℕ} {work : List ℤ} {r : ℕ} (f : Fi
 module _ {c : Card} {t : Table} {n : Node} {step : ℕ} {work : List ℤ} {r : ℕ} (d : Due c t n step work r) where
   handed_on : (P : Node → Type 0) → P (node_at t.nodes (r / 2)) → P n
   handed_on P h = subst P (sym d.node_is) h
-
-  pub due_rules : NodeRules n (r / 2)
-  due_rules = handed_on (λ m. NodeRules m (r / 2)) (rules d.filled)
-
-  pub due_left : n.left ≤ NODES
-  due_left = handed_on (λ m. m.left ≤ NODES) (left_small d.filled)
-
-  pub due_right : n.right ≤ NODES
-  due_right = handed_on (λ m. m.right ≤ NODES) (right_small d.filled)
 
   pub due_asks : (x y : ℕ) → x ≡ row_of (left_sign (sign_of_row r) (operator n.kind)) n.left → y ≡ row_of (sign_of_row r) n.right → NodeAsks work c n x y r
   due_asks = handed_on (λ m. (x y : ℕ) → x ≡ row_of (left_sign (sign_of_row r) (operator m.kind)) m.left → y ≡ row_of (sign_of_row r) m.right → NodeAsks work c m x y r) (asks_at d.filled)

@@ -1,17 +1,18 @@
 -- The verdict's answer in document 01's numbers and values, and what the cells hold afterwards.
 -- Assumes nothing.
-use Rattle.std.specs.Prelude.{List, ◌∷◌, ◌++◌, ℕ, ◌*◌, ◌≤◌, leb, ℤ, pos, length}
+use Rattle.std.specs.Prelude.{List, ◌∷◌, ◌++◌, ℕ, ◌*◌, ◌≤◌, leb, ℤ, pos, length, Result, Ok, Err}
 use Rattle.recordings.specs.declared.Verdict.{Verdict}
 use Rattle.recordings.specs.declared.Verdict.TheVariants.{NotShown}
 use Rattle.recordings.specs.Card.{Card, rows}
 use Rattle.recordings.specs.Verdict.{hold, fail, verdict}
 use Rattle.tables.specs.declared.Table.{Table}
 use Rattle.tables.specs.Tree.{root}
+use Rattle.refusals.specs.declared.Refusal.{Refusal}
 use Rattle.refusals.specs.First.{Check, first, unless_refused}
+use Rattle.refusals.specs.Number.{number}
 use Rattle.rules.specs.Refusals.{checks}
 use Rattle.sampling.specs.Sampling.{checks as sampling_checks}
-use Rattle.verdicts.specs.declared.Answer.{Answer}
-use Rattle.verdicts.specs.declared.Answer.TheVariants.{Judged, Refused}
+use Rattle.verdicts.specs.declared.Judgement.{Judgement}
 use Rattle.verdicts.specs.Cells.{cells}
 
 -- what document 01 hands back: a number, 0 for no refusal; the verdict, hold and fail, under a refusal "not shown", 0, 0
@@ -21,9 +22,9 @@ pub record VerdictOutcome : Type 0 where
   pub hold : ℤ
   pub fail : ℤ
 
-abbrev pub verdict_outcome : Answer → VerdictOutcome
-verdict_outcome (Judged j) = record { number = 0; verdict = j.verdict; hold = j.hold; fail = j.fail }
-verdict_outcome (Refused n) = record { number = n; verdict = NotShown; hold = pos 0; fail = pos 0 }
+abbrev pub verdict_outcome : Result Judgement Refusal → VerdictOutcome
+verdict_outcome (Ok j) = record { number = 0; verdict = j.verdict; hold = j.hold; fail = j.fail }
+verdict_outcome (Err r) = record { number = number r; verdict = NotShown; hold = pos 0; fail = pos 0 }
 
 -- 8: work shorter than 2 × n × rows cells
 abbrev pub verdict_room : Card → Table → ℕ → Check

@@ -4,7 +4,9 @@
 ghost use Rattle.std.specs.Prelude.{◌≡◌, ◌*◌, ◌≤◌, pos, length};
 ghost use Rattle.std.specs.Int.Signed.{lt_z};
 ghost use Rattle.recordings.specs.Accepted.{LONGEST_STEP, LARGEST_DRIFT};
+ghost use Rattle.recordings.specs.Card.{card_of};
 ghost use Rattle.recordings.specs.Verdict.{decide};
+ghost use Rattle.refusals.specs.Number.{number_of};
 ghost use Rattle.tables.specs.declared.Table.{Table};
 ghost use Rattle.tables.specs.Kind.{operator};
 ghost use Rattle.tables.specs.Tree.{NODES, window};
@@ -12,11 +14,11 @@ ghost use Rattle.tables.specs.Rules.{WindowRules};
 ghost use Rattle.windows.specs.Bounds.{Short};
 ghost use Rattle.verdicts.specs.Cells.{cells};
 ghost use Rattle.verdicts.specs.Rows.{strong_window, left_sign, row_of, Ready, Due, Fills};
-ghost use Rattle.verdicts.specs.Answer.{verdict_outcome, verdict_judged, verdict_cells};
-ghost use Rattle.recordings.specs.Card.{lent};
+ghost use Rattle.verdicts.specs.Answer.{verdict_outcome, verdict_refusal, verdict_judged, verdict_cells};
 
 use logic::Window;
-use recordings::{Setup, Verdict};
+use recordings::{Recording, Verdict};
+use refusals::Refusal;
 use tables::{Node, Table};
 
 // The verdict, and the strengthened margins that it was decided by.
@@ -25,13 +27,6 @@ pub struct Judgement {
     pub verdict: Verdict,
     pub hold: i64,
     pub fail: i64,
-}
-
-// What the verdict hands back: the judgement, or the number of a refusal.
-#[derive(Clone, Copy)]
-pub enum Answer {
-    Judged(Judgement),
-    Refused(u64),
 }
 
 // The row of node k, or of its negation.
@@ -56,57 +51,32 @@ fn left_row(node: Node, affirmed: bool) -> usize
     requires { node.left ≤ NODES }
     ensures { result ≡ row_of (left_sign affirmed (operator node.kind)) node.left }
 {
-    let kind = node.kind;
-    let left = node.left;
-    if kind == tables::NOT {
-        row_for(!affirmed, left)
+    if node.kind == tables::NOT {
+        row_for(!affirmed, node.left)
     } else {
-        row_for(affirmed, left)
+        row_for(affirmed, node.left)
     }
 }
 
 // Row `row` of the cells, that of a node or of its negation, the rows before it being filled. It takes the node alone: a table by value would be copied for each row.
-fn strong_row(
-    node: Node,
-    setup: Setup,
-    times: &[u64],
-    values: &[i64],
-    step: u64,
-    work: &mut [i64],
-    row: usize,
-)
-    requires { (t : Table) × Due (lent setup times values) t node step work.old row }
-    ensures { Fills (lent setup times.entry values.entry) node step work.old row work.new }
+fn strong_row(node: Node, recording: &Recording, step: u64, work: &mut [i64], row: usize)
+    requires { (t : Table) × Due (card_of recording.now) t node step work.old row }
+    ensures { Fills (card_of recording.now) node step work.old row work.new }
 {
     let affirmed = row % 2 == 0;
     let window = row_window(node, affirmed, step);
     let left = left_row(node, affirmed);
     let right = row_for(affirmed, node.right);
-    nodes::node_row(
-        node, setup, times, values, affirmed, window, work, left, right, row,
-    )
+    nodes::node_row(node, recording, affirmed, window, work, left, right, row)
 }
 
 // All rows of the cells.
-fn strong_rows(
-    table: Table,
-    setup: Setup,
-    times: &[u64],
-    values: &[i64],
-    step: u64,
-    work: &mut [i64],
-)
-    requires { Ready (lent setup times values) table step (length work.old) }
-    ensures { work.new ≡ cells (lent setup times.entry values.entry) step table.nodes table.count work.old }
+fn strong_rows(table: Table, recording: &Recording, step: u64, work: &mut [i64])
+    requires { Ready (card_of recording.now) table step (length work.old) }
+    ensures { work.new ≡ cells (card_of recording.now) step table.nodes table.count work.old }
 {
-    let end = 2 * table.count;
-    let nodes = table.nodes;
-    let mut row = 0;
-    while row < end {
-        let k = row / 2;
-        let node = nodes[k];
-        strong_row(node, setup, times, values, step, work, row);
-        row += 1;
+    for row in 0..2 * table.count {
+        strong_row(table.nodes[row / 2], recording, step, work, row);
     }
 }
 
@@ -115,8 +85,7 @@ fn exceeds(drift: u64, margin: i64) -> bool
     requires { drift ≤ LARGEST_DRIFT }
     ensures { result ≡ lt_z (pos drift) margin }
 {
-    let bound = drift as i64;
-    bound < margin
+    (drift as i64) < margin
 }
 
 fn decided(drift: u64, hold: i64, fail: i64) -> Verdict
@@ -124,48 +93,51 @@ fn decided(drift: u64, hold: i64, fail: i64) -> Verdict
     ensures { result ≡ decide drift hold fail }
 {
     if exceeds(drift, hold) {
-        return Verdict::Holds;
+        Verdict::Holds
+    } else if exceeds(drift, fail) {
+        Verdict::Fails
+    } else {
+        Verdict::NotShown
     }
-    if exceeds(drift, fail) {
-        return Verdict::Fails;
+}
+
+// The first of refusals 3 to 11 that applies. `cells` is the count of cells.
+fn refusal_of(
+    table: Table,
+    recording: &Recording,
+    step: u64,
+    drift: u64,
+    cells: usize,
+) -> Result<(), Refusal>
+    ensures { number_of result ≡ verdict_refusal (card_of recording.now) table step drift cells }
+{
+    rules::refusal(table, recording)?;
+    if cells < 2 * table.count * recording.times.len() {
+        return Err(Refusal::Work);
     }
-    Verdict::NotShown
+    sampling::refusal(recording, step, drift)
 }
 
 // Judges a recording against a requirement table. The work slice gets 2 × n × rows cells; under a refusal it stays as it was.
 pub fn verdict(
     table: Table,
-    setup: Setup,
-    times: &[u64],
-    values: &[i64],
+    recording: &Recording,
     step: u64,
     drift: u64,
     work: &mut [i64],
-) -> Answer
-    ensures answer { verdict_outcome result ≡ verdict_judged (lent setup times.entry values.entry) table step drift (length work.old) }
-    ensures cells { work.new ≡ verdict_cells (lent setup times.entry values.entry) table step drift work.old }
+) -> Result<Judgement, Refusal>
+    ensures answer { verdict_outcome result ≡ verdict_judged (card_of recording.now) table step drift (length work.old) }
+    ensures cells { work.new ≡ verdict_cells (card_of recording.now) table step drift work.old }
 {
-    let early = rules::refusal(table, setup, times, values);
-    if early != 0 {
-        return Answer::Refused(early);
-    }
-    let count = table.count;
-    let rows = times.len();
-    if work.len() < 2 * count * rows {
-        return Answer::Refused(8);
-    }
-    let late = sampling::refusal(setup, times, values, step, drift);
-    if late != 0 {
-        return Answer::Refused(late);
-    }
-    strong_rows(table, setup, times, values, step, work);
-    let root = 2 * (count - 1);
-    let hold = rows::cell_at(rows, work, root, 0);
-    let fail = rows::cell_at(rows, work, root + 1, 0);
-    let judgement = Judgement {
+    refusal_of(table, recording, step, drift, work.len())?;
+    strong_rows(table, recording, step, work);
+    let rows = recording.times.len();
+    let root = table.count - 1;
+    let hold = rows::cell_at(rows, work, row_for(true, root), 0);
+    let fail = rows::cell_at(rows, work, row_for(false, root), 0);
+    Ok(Judgement {
         verdict: decided(drift, hold, fail),
-        hold: hold,
-        fail: fail,
-    };
-    Answer::Judged(judgement)
+        hold,
+        fail,
+    })
 }

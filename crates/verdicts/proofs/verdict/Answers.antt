@@ -1,101 +1,58 @@
--- The tests follow the list of refusals: each return says which of them passed and which failed. Where none fails, the rows are filled and the root's two cells are
--- hold and fail.
+-- A refusal changes no cell. Where none applies the rows are filled, and the root's two cells are hold and fail.
 -- Assumes nothing.
-use mathlib.Core.Path.{◌≡◌, sym, ap₂, ◌∙◌}
-use mathlib.Core.Bool.{true, false}
-use Prim.Native.Nat.{ℕ, ◌-◌, ◌≤◌}
-use native.Mathlib.Omega.{arith}
-use lib.ListN.{length}
+use Rattle.std.proofs.Common.{true, false, sym, ap, ap₂, ◌∙◌, length, arith}
 use Rattle.numbers.proofs.Bits.{back_ok}
-use Rattle.recordings.specs.Card.{Card, card}
+use Rattle.recordings.specs.Accepted.{Accepted}
+use Rattle.recordings.specs.Card.{card_of}
 use Rattle.recordings.specs.Verdict.{decide}
-use Rattle.refusals.specs.First.{first}
-use Rattle.rules.specs.Refusals.{checks, Sound}
-use Rattle.rules.proofs.Refusals.{sound}
-use Rattle.sampling.specs.Sampling.{checks as sampling_checks}
-use Rattle.sampling.proofs.Sampling.{accepted}
+use Rattle.refusals.proofs.Number.{handed_on}
 use Rattle.verdicts.specs.Cells.{strong}
 use Rattle.verdicts.specs.Rows.{Ready}
-use Rattle.verdicts.specs.Answer.{verdict_refusal}
-use Rattle.verdicts.proofs.Entry.{refused_early, refused_room, refused_late, refused_outcome, accepted_outcome, cells_kept, cells_filled, few_cells, root_cell, root_inside}
-use Rattle.recordings.specs.Accepted.{LONGEST_STEP, LARGEST_DRIFT}
+use Rattle.verdicts.specs.Answer.{verdict_outcome}
+use Rattle.verdicts.proofs.Entry.{nothing_refused, refused_outcome, accepted_outcome, cells_kept, cells_filled, root_cell, root_inside}
 use Rattle.verdicts.proofs.verdict.Goals as goal
-use Rattle.verdicts.proofs.verdict.Goals.{Else-early-ne0, Else-late-ne0}
+use Rattle.verdicts.proofs.verdict.Goals.{In_ok-refusal_of}
 
--- past the first branch refusals 3 to 7 do not apply
-early_zero : (c : Else-early-ne0) → first (checks (card c.args.setup c.args.times.now c.args.values.now) c.args.table) ≡ 0
-early_zero c = sym c.refusal-early.ensures ∙ c.if-early-ne0.false
+-- nothing is refused
+fine : (c : In_ok-refusal_of) → Ready (card_of c.args.recording.now) c.args.table c.args.step (length c.args.work.now) × Accepted (card_of c.args.recording.now) c.args.step c.args.drift
+fine c = nothing_refused (card_of c.args.recording.now) c.args.table c.args.step c.args.drift (length c.args.work.now) (sym c.in_ok-refusal_of.ensures)
 
-sound_at : (c : Else-early-ne0) → Sound (card c.args.setup c.args.times.now c.args.values.now) c.args.table
-sound_at c = sound (card c.args.setup c.args.times.now c.args.values.now) c.args.table (early_zero c)
+pub returns-in_err-refusal_of-clause-answer : goal.returns-in_err-refusal_of-clause-answer
+returns-in_err-refusal_of-clause-answer c =
+    ap verdict_outcome (handed_on c.from_residual.result c.from_residual.ensures.1) ∙ refused_outcome (card_of c.args.recording.now) c.args.table c.args.step c.args.drift (length c.args.work.now) _ c.in_err-refusal_of.ensures
 
--- past the third refusals 9 to 11 do not either
-late_zero : (c : Else-late-ne0) → first (sampling_checks (card c.args.setup c.args.times.now c.args.values.now) c.args.step c.args.drift) ≡ 0
-late_zero c = sym c.refusal-late.ensures ∙ c.if-late-ne0.false
-
-small_at : (c : Else-late-ne0) → (c.args.step ≤ LONGEST_STEP) × (c.args.drift ≤ LARGEST_DRIFT)
-small_at c =
-    let a = accepted (card c.args.setup c.args.times.now c.args.values.now) _ _ (sound (card c.args.setup c.args.times.now c.args.values.now) c.args.table (sym c.refusal-early.ensures ∙ c.if-early-ne0.false)).recorded (late_zero c) in
-    (a.stepped.short_step, a.stepped.small_drift)
-
-ready_at : (c : Else-late-ne0) → Ready (card c.args.setup c.args.times.now c.args.values.now) c.args.table c.args.step (length c.args.work.now)
-ready_at c = record { sound = sound (card c.args.setup c.args.times.now c.args.values.now) c.args.table (sym c.refusal-early.ensures ∙ c.if-early-ne0.false); step_bound = (small_at c).0; room = c.if-work-count.false }
-
-pub returns-then-early-ne0 : goal.returns-then-early-ne0
-returns-then-early-ne0 c =
-    let e = c.refusal-early.ensures in
-    let n : first (checks (card c.args.setup c.args.times.now c.args.values.now) c.args.table) ≡ 0 → ⊥ = λ z. c.if-early-ne0.true (e ∙ z) in
-    let r : verdict_refusal (card c.args.setup c.args.times.now c.args.values.now) c.args.table c.args.step c.args.drift (length c.args.work.now) ≡ c.refusal-early.result = refused_early (card c.args.setup c.args.times.now c.args.values.now) c.args.table c.args.step c.args.drift (length c.args.work.now) n ∙ sym e in
-    record { answer = refused_outcome (card c.args.setup c.args.times.now c.args.values.now) c.args.table c.args.step c.args.drift (length c.args.work.now) _ r c.if-early-ne0.true; cells = cells_kept (card c.args.setup c.args.times.now c.args.values.now) c.args.table c.args.step c.args.drift c.args.work.now _ r c.if-early-ne0.true }
-
-pub overflow_mul-count : goal.overflow_mul-count
-overflow_mul-count c = omega (arith, (sound_at (goal.at.overflow_mul-count c).Else-early-ne0).ruled.few_nodes)
-
-pub overflow_mul-count-2 : goal.overflow_mul-count-2
-overflow_mul-count-2 c = omega (arith, few_cells c.args.table.count (length c.args.times.now) (sound_at (goal.at.overflow_mul-count-2 c).Else-early-ne0).ruled.few_nodes (sound_at (goal.at.overflow_mul-count-2 c).Else-early-ne0).recorded.lengths.few_rows)
-
-pub returns-then-work-count : goal.returns-then-work-count
-returns-then-work-count c =
-    let r = refused_room (card c.args.setup c.args.times.now c.args.values.now) c.args.table c.args.step c.args.drift (length c.args.work.now) (early_zero (goal.at.returns-then-work-count c).Else-early-ne0) c.if-work-count.true in
-    let n : ◌≡◌ {A = ℕ} 8 0 → ⊥ = λ z. omega arith in
-    record { answer = refused_outcome (card c.args.setup c.args.times.now c.args.values.now) c.args.table c.args.step c.args.drift (length c.args.work.now) _ r n; cells = cells_kept (card c.args.setup c.args.times.now c.args.values.now) c.args.table c.args.step c.args.drift c.args.work.now _ r n }
-
-pub refusal-late-requires : goal.refusal-late-requires
-refusal-late-requires c = (sound_at (goal.at.refusal-late-requires c).Else-early-ne0).recorded
-
-pub returns-then-late-ne0 : goal.returns-then-late-ne0
-returns-then-late-ne0 c =
-    let r = refused_late (card c.args.setup c.args.times.now c.args.values.now) c.args.table c.args.step c.args.drift (length c.args.work.now) (early_zero (goal.at.returns-then-late-ne0 c).Else-early-ne0) c.if-work-count.false ∙ sym c.refusal-late.ensures in
-    record { answer = refused_outcome (card c.args.setup c.args.times.now c.args.values.now) c.args.table c.args.step c.args.drift (length c.args.work.now) _ r c.if-late-ne0.true; cells = cells_kept (card c.args.setup c.args.times.now c.args.values.now) c.args.table c.args.step c.args.drift c.args.work.now _ r c.if-late-ne0.true }
+pub returns-in_err-refusal_of-clause-cells : goal.returns-in_err-refusal_of-clause-cells
+returns-in_err-refusal_of-clause-cells c = cells_kept (card_of c.args.recording.now) c.args.table c.args.step c.args.drift c.args.work.now _ c.in_err-refusal_of.ensures
 
 pub strong_rows-requires : goal.strong_rows-requires
-strong_rows-requires c = ready_at (goal.at.strong_rows-requires c).Else-late-ne0
+strong_rows-requires c = (fine (goal.at.strong_rows-requires c).In_ok-refusal_of).0
 
 pub overflow_sub-root : goal.overflow_sub-root
-overflow_sub-root c = omega (arith, (sound_at (goal.at.overflow_sub-root c).Else-early-ne0).ruled.some_node)
+overflow_sub-root c = (fine (goal.at.overflow_sub-root c).In_ok-refusal_of).0.sound.ruled.some_node
 
-pub overflow_mul-root : goal.overflow_mul-root
-overflow_mul-root c = omega (arith, (sound_at (goal.at.overflow_mul-root c).Else-early-ne0).ruled.few_nodes)
+pub row_for-requires : goal.row_for-requires
+row_for-requires c = omega (arith, (fine (goal.at.row_for-requires c).In_ok-refusal_of).0.sound.ruled.few_nodes)
 
 pub cell_at-hold-requires : goal.cell_at-hold-requires
-cell_at-hold-requires c = root_inside _ _ _ _ (ready_at (goal.at.cell_at-hold-requires c).Else-late-ne0) c.strong_rows.ensures true
+cell_at-hold-requires c = rw c.row_for.ensures (root_inside _ _ _ _ (fine (goal.at.cell_at-hold-requires c).In_ok-refusal_of).0 c.strong_rows.ensures true)
 
-pub overflow_add-root : goal.overflow_add-root
-overflow_add-root c = omega (arith, (sound_at (goal.at.overflow_add-root c).Else-early-ne0).ruled.few_nodes)
+pub row_for-requires-2 : goal.row_for-requires-2
+row_for-requires-2 c = omega (arith, (fine (goal.at.row_for-requires-2 c).In_ok-refusal_of).0.sound.ruled.few_nodes)
 
 pub cell_at-fail-requires : goal.cell_at-fail-requires
-cell_at-fail-requires c = omega (arith, root_inside _ _ _ _ (ready_at (goal.at.cell_at-fail-requires c).Else-late-ne0) c.strong_rows.ensures false)
+cell_at-fail-requires c = rw c.row_for-2.ensures (root_inside _ _ _ _ (fine (goal.at.cell_at-fail-requires c).In_ok-refusal_of).0 c.strong_rows.ensures false)
 
 pub decided-requires : goal.decided-requires
-decided-requires c = (small_at (goal.at.decided-requires c).Else-late-ne0).1
+decided-requires c = (fine (goal.at.decided-requires c).In_ok-refusal_of).1.stepped.small_drift
 
-pub returns : goal.returns
+pub returns-clause-answer : goal.returns-clause-answer
 unfolding strong
-returns c =
-    let w = c.strong_rows.ensures in
-    let r : verdict_refusal (card c.args.setup c.args.times.now c.args.values.now) c.args.table c.args.step c.args.drift (length c.args.work.now) ≡ 0 = refused_late (card c.args.setup c.args.times.now c.args.values.now) c.args.table c.args.step c.args.drift (length c.args.work.now) (early_zero (goal.at.returns c).Else-early-ne0) c.if-work-count.false ∙ late_zero (goal.at.returns c).Else-late-ne0 in
-    let h = c.cell_at-hold.ensures ∙ root_cell (card c.args.setup c.args.times.now c.args.values.now) c.args.table c.args.step c.args.work.now (ready_at (goal.at.returns c).Else-late-ne0) w true in
-    let f = c.cell_at-fail.ensures ∙ root_cell (card c.args.setup c.args.times.now c.args.values.now) c.args.table c.args.step c.args.work.now (ready_at (goal.at.returns c).Else-late-ne0) w false in
-    let bh = back_ok _ c.cell_at-hold.type_inv ∙ h in
-    let bf = back_ok _ c.cell_at-fail.type_inv ∙ f in
-    record { answer = accepted_outcome (card c.args.setup c.args.times.now c.args.values.now) c.args.table c.args.step c.args.drift (length c.args.work.now) r (c.decided.ensures ∙ ap₂ (decide c.args.drift) bh bf) bh bf; cells = cells_filled (card c.args.setup c.args.times.now c.args.values.now) c.args.table c.args.step c.args.drift c.args.work.now r w }
+returns-clause-answer c =
+    let r = card_of c.args.recording.now in
+    let ready = (fine (goal.at.returns-clause-answer c).In_ok-refusal_of).0 in
+    let h = back_ok _ c.cell_at-hold.type_inv ∙ (rw c.row_for.ensures at c.cell_at-hold.ensures) ∙ root_cell r c.args.table c.args.step c.args.work.now ready c.strong_rows.ensures true in
+    let f = back_ok _ c.cell_at-fail.type_inv ∙ (rw c.row_for-2.ensures at c.cell_at-fail.ensures) ∙ root_cell r c.args.table c.args.step c.args.work.now ready c.strong_rows.ensures false in
+    accepted_outcome r c.args.table c.args.step c.args.drift (length c.args.work.now) (sym c.in_ok-refusal_of.ensures) (c.decided.ensures ∙ ap₂ (decide c.args.drift) h f) h f
+
+pub returns-clause-cells : goal.returns-clause-cells
+returns-clause-cells c = cells_filled (card_of c.args.recording.now) c.args.table c.args.step c.args.drift c.args.work.now (sym c.in_ok-refusal_of.ensures) c.strong_rows.ensures
