@@ -11,11 +11,10 @@ use Rattle.requirement_lines.specs.declared.Place.{Place}
 use Rattle.requirement_lines.specs.Form.{requirement_lines, places_from, StandsAt, MOST_REQUIREMENTS, no_place}
 use Rattle.requirement_lines.proofs.Exact.{place_holds, places_length}
 use Rattle.requirement_lines.proofs.Sixteen.{sixteen_long, sixteen_at, sixteen_behind}
-use Rattle.sheets.specs.declared.Sheet.{Sheet}
-use Rattle.sheets.specs.Form.{Form}
+use Rattle.sheets.specs.Form.{SheetAnswer, Form}
 use Rattle.sheets.proofs.Exact.{written_rows, written_size}
 
-module _ (s : List ℕ) (x : Sheet) (f : Form s x) where
+module _ (s : List ℕ) (x : SheetAnswer) (f : Form s x) where
   pub rows_behind : lines (drop x.rows s) ≡ f.rows
   rows_behind = rw f.behind (written_rows f.written)
 

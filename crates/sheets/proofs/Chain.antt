@@ -1,6 +1,6 @@
 -- The parts' readers one after the other: the first that fails refuses the sheet, and the last gives it.
 -- Assumes nothing.
-use mathlib.Core.Path.{◌≡◌, sym}
+use mathlib.Core.Path.{◌≡◌, refl, sym}
 use mathlib.Core.List.{List}
 use mathlib.Core.Bool.{Bool, true, false}
 use Prim.Native.Nat.{ℕ, ◌≤◌, ◌<◌}
@@ -10,37 +10,38 @@ use borrow.Author.Tests.{le-leb, lt-leb}
 use Rattle.refusals.proofs.First.{unless_some}
 use Rattle.row_lines.specs.Reading.{limit}
 use Rattle.heads.specs.declared.Head.{Head}
-use Rattle.heads.specs.declared.HeadLines.{HeadLines}
+use Rattle.std.specs.Prelude.{Option, Some, None}
+use Rattle.text.specs.declared.Read.{Read}
 use Rattle.heads.specs.Reading.{head_of}
 use Rattle.requirement_lines.specs.declared.Requirements.{Requirements}
 use Rattle.requirement_lines.specs.Form.{MOST_REQUIREMENTS}
 use Rattle.requirement_lines.specs.Reading.{requirements_at, stored}
-use Rattle.sheets.specs.declared.Sheet.{Sheet}
-use Rattle.sheets.specs.Form.{blank}
+use Rattle.sheets.specs.Form.{SheetAnswer, blank}
 use Rattle.sheets.specs.Sheets.{rows_kept, lines_kept, sheet_refusal, behind_head, sheet_of}
 
 -- ---- what follows the head
 
-module _ (s : List ℕ) (h : Head) (rs : Requirements) where
-  pub lines_broken : rs.ok ≡ false → false ≡ lines_kept s h rs
-  lines_broken o = rw o
+module _ (s : List ℕ) (h : Head) where
+  pub behind_none : blank 1 ≡ behind_head s h None
+  unfolding behind_head
+  behind_none = refl
 
-  module _ (o : rs.ok ≡ true) where
-    pub lines_missing : rs.count < 1 → false ≡ lines_kept s h rs
-    lines_missing l = rw (o, lt-leb _ _ l)
+  module _ (rs : Read Requirements) where
+    pub lines_missing : rs.value.count < 1 → lines_kept s h rs ≡ false
+    lines_missing l = rw (lt-leb _ _ l)
 
-    pub lines_there : 1 ≤ rs.count → (b : Bool) → b ≡ rows_kept s rs.next h.setup.channels → b ≡ lines_kept s h rs
-    lines_there l b e = rw (o, le-leb _ _ l) e
+    pub lines_there : 1 ≤ rs.value.count → lines_kept s h rs ≡ rows_kept s rs.next h.setup.channels
+    lines_there l = rw (le-leb _ _ l)
 
-  -- by the refusal's number
-  module _ (n : ℕ) (e : n ≡ sheet_refusal (lines_kept s h rs) rs.count) where
-    pub behind_refused : (n ≡ 0 → ⊥) → blank n ≡ behind_head s h rs
-    unfolding behind_head
-    behind_refused z = rw (← e) (sym (unless_some n _ _ z))
+    -- by the refusal's number
+    module _ (n : ℕ) (e : n ≡ sheet_refusal (lines_kept s h rs) rs.value.count) where
+      pub behind_refused : (n ≡ 0 → ⊥) → blank n ≡ behind_head s h (Some rs)
+      unfolding behind_head
+      behind_refused z = rw (← e) (sym (unless_some n _ _ z))
 
-    pub behind_read : n ≡ 0 → record { number = 0; head = h; count = rs.count; requirements = rs.places; rows = rs.next } ≡ behind_head s h rs
-    unfolding behind_head
-    behind_read z = rw (← e, z)
+      pub behind_read : n ≡ 0 → record { number = 0; head = h; count = rs.value.count; requirements = rs.value.places; rows = rs.next } ≡ behind_head s h (Some rs)
+      unfolding behind_head
+      behind_read z = rw (← e, z)
 
 -- ---- the refusal
 
@@ -61,10 +62,11 @@ unfolding sheet_of
 sheet_long s l = rw l
 
 module _ (s : List ℕ) (l : ltb limit (length s) ≡ false) where
-  pub sheet_headless : (head_of s).ok ≡ false → blank 1 ≡ sheet_of s
+  pub sheet_headless : head_of s ≡ None → blank 1 ≡ sheet_of s
   unfolding sheet_of
   sheet_headless o = rw (l, o)
 
-  pub sheet_behind : (h : HeadLines) → h ≡ head_of s → h.ok ≡ true → (rs : Requirements) → rs ≡ stored (requirements_at s h.next) → (x : Sheet) → x ≡ behind_head s h.head rs → x ≡ sheet_of s
+  pub sheet_behind : (h : Read Head) → head_of s ≡ Some h → (x : Option (Read Requirements)) → stored (requirements_at s h.next) ≡ x
+      → (y : SheetAnswer) → y ≡ behind_head s h.value x → y ≡ sheet_of s
   unfolding sheet_of
-  sheet_behind h e o rs g x f = rw (l, ← e, o, ← g) f
+  sheet_behind h e x g y f = rw (l, e, g) f

@@ -21,18 +21,19 @@ use Rattle.row_lines.specs.Reading.{limit, channels_in_range, is_broken, rows_of
 use Rattle.row_lines.specs.Same.{Alike, no_line, same, filled, SameButFilled}
 use Rattle.row_lines.proofs.Exact.{unbroken_rows, rows_unbroken, alike_sym, alike_rows, NoRow, alike_front}
 use Rattle.heads.specs.declared.Head.{Head}
-use Rattle.heads.specs.declared.HeadLines.{HeadLines}
-use Rattle.heads.specs.Reading.{head_place, head_of}
+use Rattle.std.specs.Prelude.{Option, Some, None}
+use Rattle.text.specs.Mark.{after, read}
+use Rattle.text.specs.declared.Read.{Read}
+use Rattle.heads.specs.Reading.{head_of}
 use Rattle.heads.proofs.Exact.{head_is, head_taken, head_lines}
 use Rattle.requirement_lines.specs.declared.Place.{Place}
 use Rattle.requirement_lines.specs.declared.Requirements.{Requirements}
 use Rattle.requirement_lines.specs.Form.{requirement_line, requirement_lines, places_from, is_requirement, Over, MOST_REQUIREMENTS, sixteen}
-use Rattle.requirement_lines.specs.Reading.{Found, found, broken, requirements_at, stored}
+use Rattle.requirement_lines.specs.Reading.{Found, requirements_at, stored}
 use Rattle.requirement_lines.proofs.Exact.{requirements_are, requirements_taken, places_length}
-use Rattle.sheets.specs.declared.Sheet.{Sheet}
-use Rattle.sheets.specs.Form.{Written, IsWritten, Form, Crowded, blank}
+use Rattle.sheets.specs.Form.{SheetAnswer, Written, IsWritten, Form, Crowded, blank}
 use Rattle.sheets.specs.Sheets.{rows_kept, lines_kept, behind_head, sheet_of}
-use Rattle.sheets.proofs.Chain.{lines_there, refusal_broken, refusal_crowded, refusal_none, behind_refused, behind_read, sheet_long, sheet_headless, sheet_behind}
+use Rattle.sheets.proofs.Chain.{behind_none, lines_there, refusal_broken, refusal_crowded, refusal_none, behind_refused, behind_read, sheet_long, sheet_headless, sheet_behind}
 
 -- ---- the rows behind
 
@@ -52,18 +53,15 @@ listed_kept ch s at h = go (channels_in_range ch) refl
 
 -- ---- sound: a text is written as a sheet, or gives none
 
-module _ (s : List ℕ) (l : ltb limit (length s) ≡ false) (o : (head_of s).ok ≡ true) where
-  abbrev head : Head
-  head = (head_of s).head
-
-  is_written : (ps : List Place) (n : ℕ) → requirements_at s (head_of s).next ≡ found ps n → 1 ≤ length ps → rows_kept s n head.setup.channels ≡ true → IsWritten s
-  is_written ps n e some kept =
-      let x = head_is s o in
-      let y = requirements_are s (head_of s).next ps n e in
-      let c : length ps ≡ length y.requirements = ap length y.places ∙ places_length (head_of s).next y.requirements in (
-        head,
+module _ (s : List ℕ) (l : ltb limit (length s) ≡ false) (h : Read Head) (o : head_of s ≡ Some h) where
+  is_written : (r : Read (List Place)) → requirements_at s h.next ≡ Some r → 1 ≤ length r.value → rows_kept s r.next h.value.setup.channels ≡ true → IsWritten s
+  is_written r e some kept =
+      let x = head_is s h o in
+      let y = requirements_are s h.next r.value r.next e in
+      let c : length r.value ≡ length y.requirements = ap length y.places ∙ places_length h.next y.requirements in (
+        h.value,
         y.requirements,
-        lines (drop n s),
+        lines (drop r.next s),
         record {
           front = x.0;
           short = ltb-false limit (length s) l;
@@ -71,37 +69,46 @@ module _ (s : List ℕ) (l : ltb limit (length s) ≡ false) (o : (head_of s).ok
           begins = x.1;
           some = omega arith;
           over = y.over;
-          listed = λ w. kept_listed head.setup.channels s n kept w;
+          listed = λ w. kept_listed h.value.setup.channels s r.next kept w;
         },
       )
 
-  none_written : (x : Found) → requirements_at s (head_of s).next ≡ x → lines_kept s head (stored x) ≡ false → blank 1 ≡ sheet_of s
-  none_written x e k = sheet_behind s l (head_of s) refl o (stored x) (ap stored (sym e)) (blank 1) (behind_refused s head (stored x) 1 (refusal_broken _ (stored x).count k) (λ z. omega arith))
+  -- the requirements that were read, as the reader hands them back
+  abbrev handed : Read (List Place) → Read Requirements
+  handed r = record { value = record { count = length r.value; places = sixteen r.value }; next = r.next }
 
-  found_either : (x : Found) → requirements_at s (head_of s).next ≡ x → IsWritten s ⊎ (sheet_of s ≡ blank 1)
-  found_either (found ps n) e =
-      by_test (leb 1 (length ps))
-      (λ p. by_test (rows_kept s n head.setup.channels)
-      (λ k. inl (is_written ps n e (leb-true 1 (length ps) p) k))
-      (λ k. inr (sym (none_written (found ps n) e (rw (p, k) refl)))))
-      (λ p. inr (sym (none_written (found ps n) e (rw p refl))))
-  found_either broken e = inr (sym (none_written broken e refl))
+  none_written : (r : Read (List Place)) → requirements_at s h.next ≡ Some r → lines_kept s h.value (handed r) ≡ false → blank 1 ≡ sheet_of s
+  none_written r e k =
+      sheet_behind s l h o (Some (handed r)) (ap stored e) (blank 1) (behind_refused s h.value (handed r) 1 (refusal_broken _ (length r.value) k) (λ z. omega arith))
+
+  found_either : (x : Found) → requirements_at s h.next ≡ x → IsWritten s ⊎ (sheet_of s ≡ blank 1)
+  found_either (Some r) e =
+      by_test (leb 1 (length r.value))
+      (λ p. by_test (rows_kept s r.next h.value.setup.channels)
+      (λ k. inl (is_written r e (leb-true 1 (length r.value) p) k))
+      (λ k. inr (sym (none_written r e (rw (p, k) refl)))))
+      (λ p. inr (sym (none_written r e (rw p refl))))
+  found_either None e = inr (sym (sheet_behind s l h o None (ap stored e) (blank 1) (behind_none s h.value)))
 
 pub written_or_blank : (s : List ℕ) → IsWritten s ⊎ (sheet_of s ≡ blank 1)
 written_or_blank s =
     by_test (ltb limit (length s))
     (λ t. inr (sym (sheet_long s t)))
-    (λ t. by_test (head_of s).ok (λ o. found_either s t o (requirements_at s (head_of s).next) refl) (λ o. inr (sym (sheet_headless s t o))))
+    (λ t. go t (head_of s) refl)
+  where
+    go : ltb limit (length s) ≡ false → (x : Option (Read Head)) → head_of s ≡ x → IsWritten s ⊎ (sheet_of s ≡ blank 1)
+    go t (Some h) o = found_either s t h o (requirements_at s h.next) refl
+    go t None o = inr (sym (sheet_headless s t o))
 
 -- the place behind the requirements is inside the text
-pub requirements_inside : (s : List ℕ) (h : HeadLines) → h ≡ head_of s → h.ok ≡ true → (rs : Requirements) → rs ≡ stored (requirements_at s h.next) → rs.ok ≡ true → rs.next ≤ length s
-requirements_inside s h e o rs g k =
-    let i : h.next ≤ length s = rw e (lines_inside (head_is s (ap (λ (x : HeadLines). x.ok) (sym e) ∙ o)).2 (omega arith)) in
-    go (requirements_at s h.next) refl g i
+pub requirements_inside : (s : List ℕ) (h : Read Head) → head_of s ≡ Some h → (rs : Read Requirements) → stored (requirements_at s h.next) ≡ Some rs → rs.next ≤ length s
+requirements_inside s h e rs g = go (requirements_at s h.next) refl g (lines_inside (head_is s h e).2 (omega arith))
   where
-    go : (x : Found) → requirements_at s h.next ≡ x → rs ≡ stored x → h.next ≤ length s → rs.next ≤ length s
-    go (found ps n) f q i = let m : rs.next ≡ n = ap (λ (y : Requirements). y.next) q in rw m (lines_inside (requirements_are s h.next ps n f).between i)
-    go broken f q i = absurd (false_true (ap (λ (y : Requirements). y.ok) (sym q) ∙ k))
+    go : (x : Found) → requirements_at s h.next ≡ x → stored x ≡ Some rs → h.next ≤ length s → rs.next ≤ length s
+    go (Some r) f q i =
+        let m : r.next ≡ rs.next = ap (λ (y : Option (Read Requirements)). after y (λ z. z.next) 0) q in
+        rw (← m) (lines_inside (requirements_are s h.next r.value r.next f).between i)
+    go None f q i = let z : ◌≡◌ {A = ℕ} 0 1 = cc in absurd (omega arith)
 
 -- ---- complete: a text that is written as a sheet is read as it stands
 
@@ -112,7 +119,7 @@ module _ {s : List ℕ} {h : Head} {rs rows : List (List ℕ)} (w : Written s h 
   abbrev next : ℕ
   next = size w.front + size (requirement_lines rs)
 
-  taken : (requirements_at s at ≡ found (places_from at rs) next) × (lines (drop next s) ≡ rows)
+  taken : (requirements_at s at ≡ read (places_from at rs) next) × (lines (drop next s) ≡ rows)
   taken = requirements_taken s at rs rows (lines_behind w.front (requirement_lines rs ++ rows) s w.cuts) w.over
 
   -- the rows stand behind the requirements, and are all that follows them
@@ -130,30 +137,32 @@ module _ {s : List ℕ} {h : Head} {rs rows : List (List ℕ)} (w : Written s h 
   written_size =
       sym (size_lines s) ∙ (ap size w.cuts ∙ (size_append w.front (requirement_lines rs ++ rows) ∙ ap (λ (n : ℕ). size w.front + n) (size_append (requirement_lines rs) rows)))
 
-  lines_stand : lines_kept s h (stored (found (places_from at rs) next)) ≡ true
+  abbrev handed_back : Read Requirements
+  handed_back = record { value = record { count = length (places_from at rs); places = sixteen (places_from at rs) }; next = next }
+
+  lines_stand : lines_kept s h handed_back ≡ true
   lines_stand =
       let c : length (places_from at rs) ≡ length rs = places_length at rs in
-      sym (lines_there s h (stored (found (places_from at rs) next)) refl (omega (arith, w.some)) true
-      (sym (listed_kept h.setup.channels s next (λ z. rw (written_rows) (w.listed z)))))
+      lines_there s h handed_back (omega (arith, w.some)) ∙ listed_kept h.setup.channels s next (λ z. rw (written_rows) (w.listed z))
 
-  read_as : (x : Sheet) → x ≡ behind_head s h (stored (found (places_from at rs) next)) → x ≡ sheet_of s
+  read_as : (x : SheetAnswer) → x ≡ behind_head s h (Some handed_back) → x ≡ sheet_of s
   read_as x e =
-      sheet_behind s (le-ltb limit (length s) w.short) (head_place h at) (sym (head_taken s (requirement_lines rs ++ rows) w.begins w.cuts)) refl
-      (stored (found (places_from at rs) next)) (ap stored (sym taken.0)) x e
+      sheet_behind s (le-ltb limit (length s) w.short) (record { value = h; next = at }) (head_taken s (requirement_lines rs ++ rows) w.begins w.cuts)
+      (Some handed_back) (ap stored taken.0) x e
 
-  abbrev pub contents : Sheet
+  abbrev pub contents : SheetAnswer
   contents = record { number = 0; head = h; count = length rs; requirements = sixteen (places_from at rs); rows = next }
 
   pub written_read : length rs ≤ MOST_REQUIREMENTS → sheet_of s ≡ contents
   written_read few =
       let c : length (places_from at rs) ≡ length rs = places_length at rs in
-      sym (read_as _ (behind_read s h (stored (found (places_from at rs) next)) 0 (refusal_none _ (length (places_from at rs)) lines_stand (omega arith)) refl))
+      sym (read_as _ (behind_read s h handed_back 0 (refusal_none _ (length (places_from at rs)) lines_stand (omega arith)) refl))
       ∙ ap (λ (n : ℕ). record { number = 0; head = h; count = n; requirements = sixteen (places_from at rs); rows = next }) c
 
   written_crowded : MOST_REQUIREMENTS + 1 ≤ length rs → sheet_of s ≡ blank 12
   written_crowded many =
       let c : length (places_from at rs) ≡ length rs = places_length at rs in
-      sym (read_as (blank 12) (behind_refused s h (stored (found (places_from at rs) next)) 12 (refusal_crowded _ (length (places_from at rs)) lines_stand (omega arith)) (λ z. omega arith)))
+      sym (read_as (blank 12) (behind_refused s h handed_back 12 (refusal_crowded _ (length (places_from at rs)) lines_stand (omega arith)) (λ z. omega arith)))
 
   abbrev pub written_form : length rs ≤ MOST_REQUIREMENTS → Form s contents
   written_form few = record { requirements = rs; rows = rows; written = w; few = few; count = refl; places = refl; behind = refl; number = refl }
@@ -174,21 +183,21 @@ sheet_cases s = ⊎_elim (λ p. ⊎_elim (λ f. inl f) (λ e. inr (inr e)) (writ
 pub sheet_sound : (s : List ℕ) → (sheet_of s).number ≡ 0 → Form s (sheet_of s)
 sheet_sound s z = ⊎_elim (λ f. f)
     (λ b. absurd (⊎_elim
-    (λ e. let n : ◌≡◌ {A = ℕ} 1 0 = ap (λ (x : Sheet). x.number) (sym e) ∙ z in omega arith)
-    (λ e. let n : ◌≡◌ {A = ℕ} 12 0 = ap (λ (x : Sheet). x.number) (sym e) ∙ z in omega arith) b))
+    (λ e. let n : ◌≡◌ {A = ℕ} 1 0 = ap (λ (x : SheetAnswer). x.number) (sym e) ∙ z in omega arith)
+    (λ e. let n : ◌≡◌ {A = ℕ} 12 0 = ap (λ (x : SheetAnswer). x.number) (sym e) ∙ z in omega arith) b))
     (sheet_cases s)
 
-same_sheet : (x : Sheet) (i k : ℕ) (ps : List Place) → i ≡ x.count → ps ≡ x.requirements → k ≡ x.rows → x.number ≡ 0
+same_sheet : (x : SheetAnswer) (i k : ℕ) (ps : List Place) → i ≡ x.count → ps ≡ x.requirements → k ≡ x.rows → x.number ≡ 0
     → record { number = 0; head = x.head; count = i; requirements = ps; rows = k } ≡ x
 same_sheet x i k ps p q r e = rw (p, q, r) (ap (λ (m : ℕ). record { number = m; head = x.head; count = x.count; requirements = x.requirements; rows = x.rows }) (sym e))
 
-pub sheet_complete : (s : List ℕ) (x : Sheet) → Form s x → sheet_of s ≡ x
+pub sheet_complete : (s : List ℕ) (x : SheetAnswer) → Form s x → sheet_of s ≡ x
 sheet_complete s x f = written_read f.written f.few ∙ same_sheet x _ _ _ (sym f.count) (sym f.places) (sym f.behind) f.number
 
-pub sheet_exact : (s : List ℕ) → (x : Sheet) → Form s x ↔ ((sheet_of s ≡ x) × (x.number ≡ 0))
+pub sheet_exact : (s : List ℕ) → (x : SheetAnswer) → Form s x ↔ ((sheet_of s ≡ x) × (x.number ≡ 0))
 sheet_exact s x = (
   (λ f. (sheet_complete s x f, f.number)),
-  (λ h. subst (λ (y : Sheet). Form s y) h.0 (sheet_sound s (ap (λ (y : Sheet). y.number) h.0 ∙ h.1))),
+  (λ h. subst (λ (y : SheetAnswer). Form s y) h.0 (sheet_sound s (ap (λ (y : SheetAnswer). y.number) h.0 ∙ h.1))),
 )
 
 -- ---- otherwise the blank sheet: of 1 exactly when the text is not written as a sheet, of 12 exactly when it is, with a seventeenth requirement
@@ -196,8 +205,8 @@ sheet_exact s x = (
 pub sheet_refused : (s : List ℕ) → (sheet_of s ≡ blank 1) ↔ (IsWritten s → ⊥)
 sheet_refused s = (
   (λ e p. ⊎_elim
-      (λ f. let z : ◌≡◌ {A = ℕ} 1 0 = ap (λ (y : Sheet). y.number) (sym e) ∙ f.number in omega arith)
-      (λ g. let z : ◌≡◌ {A = ℕ} 1 12 = ap (λ (y : Sheet). y.number) (sym e ∙ g) in omega arith)
+      (λ f. let z : ◌≡◌ {A = ℕ} 1 0 = ap (λ (y : SheetAnswer). y.number) (sym e) ∙ f.number in omega arith)
+      (λ g. let z : ◌≡◌ {A = ℕ} 1 12 = ap (λ (y : SheetAnswer). y.number) (sym e ∙ g) in omega arith)
       (written_either p.3)),
   (λ h. ⊎_elim (λ p. absurd (h p)) (λ e. e) (written_or_blank s)),
 )
@@ -211,10 +220,10 @@ sheet_crowded s = (
         rows = p.2;
         written = p.3;
         many = by_test (leb (length p.1) MOST_REQUIREMENTS)
-            (λ t. let z : ◌≡◌ {A = ℕ} 12 0 = ap (λ (y : Sheet). y.number) (sym e ∙ written_read p.3 (leb-true (length p.1) MOST_REQUIREMENTS t)) in absurd (omega arith))
+            (λ t. let z : ◌≡◌ {A = ℕ} 12 0 = ap (λ (y : SheetAnswer). y.number) (sym e ∙ written_read p.3 (leb-true (length p.1) MOST_REQUIREMENTS t)) in absurd (omega arith))
             (λ t. leb-false (length p.1) MOST_REQUIREMENTS t);
       })
-      (λ b. absurd (let z : ◌≡◌ {A = ℕ} 12 1 = ap (λ (y : Sheet). y.number) (sym e ∙ b) in omega arith))
+      (λ b. absurd (let z : ◌≡◌ {A = ℕ} 12 1 = ap (λ (y : SheetAnswer). y.number) (sym e ∙ b) in omega arith))
       (written_or_blank s)),
   (λ c. written_crowded c.written c.many),
 )

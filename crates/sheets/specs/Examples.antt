@@ -8,7 +8,7 @@ use Rattle.recordings.specs.declared.Range.TheVariants.{AtLeast}
 use Rattle.recordings.specs.Card.{passed}
 use Rattle.predicate_lines.specs.Form.{unset}
 use Rattle.requirement_lines.specs.Form.{nowhere}
-use Rattle.sheets.specs.declared.Sheet.{Sheet}
+use Rattle.sheets.specs.Form.{SheetAnswer}
 
 -- a text by its parts: the channels' line, scale lines, predicate lines, the step's and the drift's line, requirement lines, rows
 abbrev pub parts : String → String → String → String → String → String → String → List ℕ
@@ -20,7 +20,7 @@ example =
     parts "chan=1\n" "c=0 scale=1\n" "p=0 ch=0 lo=5 hi=*\n" "step=1\n" "drift=2\n" "req=G[0,2]p0\n"
     "t=0 src=m v0=10\nt=1 src=m v0=11\nt=2 src=m v0=10\nt=3 src=m v0=9\nt=4 src=m v0=10\n"
 
-abbrev pub contents : Sheet
+abbrev pub contents : SheetAnswer
 contents = record {
   number = 0;
   head = record { setup = record { channels = 1; scales = passed (1 ∷ []); predicates = set unset 0 (record { channel = 0; range = AtLeast (pos 5) }) }; step = 1; drift = 2 };
