@@ -29,35 +29,22 @@ pub fn plain(node: Node) -> Window
     requires { WindowRules node.span }
     ensures { result ≡ window node }
 {
-    let w = closed(node.span);
-    let lo = w.lo;
-    let hi = w.hi;
-    if hi == tables::NO_END {
-        return Window {
-            from: lo,
-            stop: Stop::Endless,
-        };
-    }
-    Window {
-        from: lo,
-        stop: Stop::Before(hi + 1),
-    }
+    let Span { lo, hi, .. } = closed(node.span);
+    let stop = if hi == tables::NO_END {
+        Stop::Endless
+    } else {
+        Stop::Before(hi + 1)
+    };
+    Window { from: lo, stop }
 }
 
-// The difference, 0 where it would be negative.
-fn less(a: u64, b: u64) -> u64
-    ensures { result ≡ a - b }
-{
-    if a < b { 0 } else { a - b }
-}
-
-// An end that is so much sooner. No end remains no end.
+// An end that is so much sooner, not below 0. No end remains no end.
 fn sooner(step: u64, stop: Stop) -> Stop
     ensures { result ≡ sooner step stop }
 {
     match stop {
         Stop::Endless => Stop::Endless,
-        Stop::Before(end) => Stop::Before(less(end, step)),
+        Stop::Before(end) => Stop::Before(end.saturating_sub(step)),
     }
 }
 
@@ -85,12 +72,9 @@ fn contracted(step: u64, w: Window) -> Window
     requires { Short w × (step ≤ NO_END) }
     ensures { result ≡ contraction step w }
 {
-    let from = delayed(step, w.from);
-    let end = w.stop;
-    let stop = sooner(step, end);
     Window {
-        from: from,
-        stop: stop,
+        from: delayed(step, w.from),
+        stop: sooner(step, w.stop),
     }
 }
 
@@ -99,12 +83,9 @@ fn expanded(step: u64, w: Window) -> Window
     requires { Short w × (step ≤ NO_END) }
     ensures { result ≡ expansion step w }
 {
-    let from = less(w.from, step);
-    let end = w.stop;
-    let stop = later(step, end);
     Window {
-        from: from,
-        stop: stop,
+        from: w.from.saturating_sub(step),
+        stop: later(step, w.stop),
     }
 }
 
