@@ -3,14 +3,14 @@
 -- Assumes nothing.
 use mathlib.Core.Path.{◌≡◌, sym, ap, ◌∙◌}
 use mathlib.Core.Bool.{Bool, true, false, cond, ◌&&◌, ◌||◌}
-use mathlib.Core.Logic.{◌⊎◌, inl, inr}
+use mathlib.Core.Logic.{inl, inr}
 use mathlib.Core.List.{[], ◌∷◌}
-use Prim.Native.Nat.{ℕ, suc, ◌-◌, ◌≤◌}
+use Prim.Native.Nat.{ℕ, suc}
 use native.Mathlib.Omega.{arith}
 use lib.Dec.{T, leb, ltb, eqb, leb→le, le→leb, ltb→lt, lt→ltb, eqb→eq}
 use lib.ListN.{length}
 use borrow.Author.Tests.{eq-eqb, ne_eqb}
-use mir.Facts.{and_yes, yes_and, yes_eqb}
+use mir.Facts.{and_yes, yes_and, or_yes, yes_eqb}
 use Rattle.lists.proofs.Below.{yes_or, same_test}
 use Rattle.recordings.specs.Card.{Card, rows, last_time}
 use Rattle.recordings.specs.Accepted.{LATEST}
@@ -24,10 +24,6 @@ use Rattle.rules.proofs.Refusals.{table_exact}
 use Rattle.nesting.proofs.Nesting.{unnested_are, unnested_pass}
 use Rattle.arrivals.specs.Arrivals.{Row, nesting_check, making_checks, Later, follows, row_checks, offer_checks, some_row_check, asked_checks}
 use Rattle.arrivals.specs.Fits.{next_time, in_time}
-
-or_yes : (a b : Bool) → T (a || b) → T a ⊎ T b
-or_yes true b h = inl tt
-or_yes false b h = inr h
 
 module _ (c : Card) (t : Table) where
   pub making_exact : AllExact (making_checks c t)
@@ -64,9 +60,6 @@ same_time false last t =
     same_test
     (λ h. let b = and_yes (leb (suc last) t) (leb t LATEST) h in yes_and (leb t LATEST) (ltb last t) b.1 (lt→ltb last t (leb→le (suc last) t b.0)))
     (λ h. let b = and_yes (leb t LATEST) (ltb last t) h in yes_and (leb (suc last) t) (leb t LATEST) (le→leb (suc last) t (ltb→lt last t b.1)) b.0)
-
-pub time_early : (next t : ℕ) → T (in_time next t) → t ≤ LATEST
-time_early next t h = leb→le t LATEST (and_yes (leb next t) (leb t LATEST) h).1
 
 module _ (c : Card) (r : Row) {channels : ℕ} (hc : channels ≡ c.setup.channels) where
   pub row_five : (length r.values ≡ channels → ⊥) → 5 ≡ first (row_checks c r)

@@ -1,36 +1,28 @@
 -- 16 comes after 3, 4 and 13, and is asked of a table that obeys its rules.
 -- Assumes nothing.
-use mathlib.Core.Path.{◌≡◌, sym, ◌∙◌}
-use mathlib.Core.List.{[], ◌∷◌}
-use native.Mathlib.Omega.{arith}
-use borrow.Author.Tests.{not-true, not-false}
+use Rattle.std.proofs.Common.{sym, ap, ◌∙◌, [], ◌∷◌, arith}
 use Rattle.refusals.specs.First.{first}
+use Rattle.refusals.specs.Number.{number_of}
 use Rattle.refusals.proofs.First.{first_stays, first_here, first_behind}
+use Rattle.refusals.proofs.Number.{not_none, handed_on}
 use Rattle.rules.specs.Refusals.{table_checks}
 use Rattle.rules.proofs.Refusals.{table_passed}
 use Rattle.arrivals.specs.Arrivals.{no_rows, nesting_check}
 use Rattle.arrivals.proofs.making_refusal.Goals as goal
-use Rattle.arrivals.proofs.making_refusal.Goals.{Else-earlier-ne0}
 
-table_none : (c : Else-earlier-ne0) → first (table_checks (no_rows c.args.setup) c.args.table) ≡ 0
-table_none c = sym c.table_refusal-earlier.ensures ∙ c.if-earlier-ne0.false
+pub returns-in_err-table_refusal : goal.returns-in_err-table_refusal
+returns-in_err-table_refusal c =
+    let e = c.in_err-table_refusal.ensures in
+    ap number_of (handed_on c.from_residual.result c.from_residual.ensures.1) ∙ e ∙ sym (first_stays (table_checks (no_rows c.args.setup) c.args.table) (nesting_check c.args.table ∷ []) (λ z. not_none _ (e ∙ z)))
 
-pub returns-then-earlier-ne0 : goal.returns-then-earlier-ne0
-returns-then-earlier-ne0 c =
-    let e = c.table_refusal-earlier.ensures in
-    let s = c.args in
-    e ∙ sym (first_stays (table_checks (no_rows s.setup) s.table) (nesting_check s.table ∷ []) (λ z. c.if-earlier-ne0.true (e ∙ z)))
-
-pub unnested-unnested-requires : goal.unnested-unnested-requires
-unnested-unnested-requires c = ((table_passed _ _ (table_none (goal.at.unnested-unnested-requires c).Else-earlier-ne0)).each 0 (omega arith)).0
+pub unnested-requires : goal.unnested-requires
+unnested-requires c = ((table_passed _ _ (sym c.in_ok-table_refusal.ensures)).each 0 (omega arith)).0
 
 pub returns-then-not-unnested : goal.returns-then-not-unnested
 returns-then-not-unnested c =
-    let s = c.args in
-    sym (first_here (table_checks (no_rows s.setup) s.table) (nesting_check s.table) [] tt (table_none (goal.at.returns-then-not-unnested c).Else-earlier-ne0) (sym c.unnested-unnested.ensures ∙ not-true c.unnested-unnested.result c.if-not-unnested.true-raw))
+    sym (first_here (table_checks (no_rows c.args.setup) c.args.table) (nesting_check c.args.table) [] tt (sym c.in_ok-table_refusal.ensures) (sym c.if-not-unnested.ensures))
 
 pub returns : goal.returns
 unfolding first
 returns c =
-    let s = c.args in
-    sym (first_behind (table_checks (no_rows s.setup) s.table) (nesting_check s.table) [] tt (table_none (goal.at.returns c).Else-earlier-ne0) (sym c.unnested-unnested.ensures ∙ not-false _ c.if-not-unnested.false-raw))
+    sym (first_behind (table_checks (no_rows c.args.setup) c.args.table) (nesting_check c.args.table) [] tt (sym c.in_ok-table_refusal.ensures) (sym c.if-not-unnested.ensures))
