@@ -1,6 +1,6 @@
 -- The cells in which the places up to cut hold their extrema: filled from the last place down, or holding them already.
 -- Assumes nothing.
-use mathlib.Core.Path.{◌≡◌, refl, sym, ap, ◌∙◌}
+use mathlib.Core.Path.{◌≡◌, sym, ap, ◌∙◌}
 use mathlib.Core.List.{List}
 use Prim.Native.Nat.{ℕ, ◌+◌, ◌-◌, ◌≤◌, ◌<◌, min}
 use native.Mathlib.Omega.{arith}
@@ -12,7 +12,7 @@ use Rattle.lists.proofs.Reused.{fill_same}
 use Rattle.logic.specs.declared.Extremum.{Extremum}
 use Rattle.logic.specs.Reading.{margin_extreme}
 use Rattle.sliding.specs.Run.{over, suffixed}
-use Rattle.sliding.proofs.Over.{over_empty, over_front}
+use Rattle.sliding.proofs.Over.{over_front}
 
 -- one place more in front: x and out are what is read back of a cell and of a result
 pub suffix_next : (e : Extremum) (f : ℕ → ℤ) (j high : ℕ) {old x res out : ℤ} → 0 < j → j ≤ high → old ≡ over e f j high → x ≡ f (j - 1) → res ≡ margin_extreme e old x → out ≡ res → out ≡ over e f (j - 1) high
@@ -22,13 +22,6 @@ suffix_next e f j high h k p q r o =
 
 -- the place in front has come to the run's low end, or there is no place to fill
 module _ (e : Extremum) (f : ℕ → ℤ) (low high j : ℕ) (h : min low high ≤ j) (k : j ≤ high) (r : j ≤ low) where
-  pub suffix_done : over e f j high ≡ over e f low high
-  suffix_done =
-      elim (dec_le low high) [
-        | yes q ↦ let p : j ≡ low = omega arith in rw p refl
-        | no q ↦ over_empty e f j high (omega arith) ∙ sym (over_empty e f low high (omega arith))
-      ]
-
   pub suffixes_done : (b : ℕ) (w : List ℤ) {l : List ℤ} → l ≡ suffixed e f b j high w → l ≡ suffixed e f b low high w
   suffixes_done b w g =
       elim (dec_le low high) [

@@ -48,11 +48,8 @@ fn joined_on(
     ensures { result ≡ fold (margin_extreme e) tail (λ m. cell cells.now rows source (from + m)) (high - from) }
 {
     let mut joined = tail;
-    let mut j = from;
-    while j < high {
-        let value = rows::cell_at(rows, cells, source, j);
-        joined = points::extreme(e, joined, value);
-        j += 1;
+    for j in from..high {
+        joined = points::extreme(e, joined, rows::cell_at(rows, cells, source, j));
     }
     joined
 }
@@ -73,11 +70,8 @@ fn fill_suffixes(
 {
     let base = row * rows;
     let mut suffix = points::over_nothing(e);
-    let mut j = high;
-    while low < j {
-        j -= 1;
-        let value = rows::cell_at(rows, work, source, j);
-        suffix = points::extreme(e, suffix, value);
+    for j in (low..high).rev() {
+        suffix = points::extreme(e, suffix, rows::cell_at(rows, work, source, j));
         work[base + j] = suffix;
     }
     suffix
@@ -98,24 +92,21 @@ pub fn advanced(
     ensures value { result ≡ sliding_over e (cell work.old rows source) low (next_cut s.cut low high) high }
     ensures work_after { work.new ≡ suffixed e (cell work.old rows source) (row * rows) low (next_cut s.cut low high) work.old }
 {
-    let cut = s.cut;
-    if low < cut {
+    if low < s.cut {
         let tail = joined_on(rows, e, work, source, s.tail, s.high, high);
-        let suffix = rows::cell_at(rows, work, row, low);
-        let value = points::extreme(e, suffix, tail);
+        let value = points::extreme(e, rows::cell_at(rows, work, row, low), tail);
         return SlidingExtremum {
-            cut: cut,
-            high: high,
-            tail: tail,
-            value: value,
+            high,
+            tail,
+            value,
+            ..s
         };
     }
     let value = fill_suffixes(rows, e, work, source, row, low, high);
-    let nothing = points::over_nothing(e);
     SlidingExtremum {
         cut: high,
-        high: high,
-        tail: nothing,
-        value: value,
+        high,
+        tail: points::over_nothing(e),
+        value,
     }
 }

@@ -2,8 +2,6 @@
 -- Assumes nothing.
 use mathlib.Core.Path.{◌≡◌}
 use Prim.Native.Nat.{◌+◌, ◌-◌, ◌≤◌, max}
-use mir.Syntax.{w64}
-use mir.Val.{to_z}
 use Rattle.lists.specs.Fold.{fold}
 use Rattle.logic.specs.Reading.{margin_extreme}
 use Rattle.rows.specs.Cells.{cell}
@@ -11,9 +9,4 @@ use Rattle.sliding.proofs.joined_on.Given as goal
 
 abbrev pub invariant-loop-j : goal.invariant-loop-j
 invariant-loop-j l =
-    (l.from ≤ l.j)
-    × (l.j ≤ max l.from l.high)
-    × (l.joined ≡ fold (margin_extreme l.e) l.tail (λ m. cell l.cells l.rows l.source (l.from + m)) (l.j - l.from))
-
-abbrev pub decreases-loop-j : goal.decreases-loop-j
-decreases-loop-j l = l.high - l.j
+    (l.j ≤ max l.from l.high) × (l.joined ≡ fold (margin_extreme l.e) l.tail (λ m. cell l.cells l.rows l.source (l.from + m)) (l.j - l.from))
