@@ -59,9 +59,6 @@ module _ (xs : List Outcome) {start here : Output} {n : ℕ} (p : Printing xs st
   whole : take n (arrangement xs) ≡ arrangement xs
   whole = take_all n (arrangement xs) (omega (arith, length_arrangement xs))
 
-  pub printing_all : here ≡ printed start (lines_in xs (arrangement xs))
-  printing_all = rw whole at p.so_far
-
   pub printing_room : length xs ≤ 16 → length (lines_in xs (arrangement xs)) ≤ LINES
   printing_room h = let s = rw whole at p.short in omega (arith, s, p.inside)
 

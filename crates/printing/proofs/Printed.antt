@@ -7,9 +7,9 @@ use native.Mathlib.Omega.{arith}
 use native.Mathlib.Decide.{dec_lt}
 use native.Mathlib.Numerals.{add-one}
 use lib.Seq.{sets, sets-eq, take-suc, take-append_seam}
-use lib.ListN.{length, set, take, drop, get_or, length-set}
+use lib.ListN.{length, set, take, drop, get_or, replicate, length-set, length-replicate}
 use borrow.Author.Tests.{lt-ltb, le-ltb}
-use Rattle.printing.specs.Output.{Output, one_more, printed}
+use Rattle.printing.specs.Output.{Output, blank, one_more, printed}
 
 pub printed_append : (o : Output) (a b : List ℕ) → printed o (a ++ b) ≡ printed (printed o a) b
 unfolding printed
@@ -82,3 +82,7 @@ front_says slice₀ bs e h =
     let z : 0 + length bs ≡ length bs = omega arith in
     let n = ap (λ (o : Output). o.end) w ∙ z in
     (n, rw (n, ap (λ (o : Output). o.bytes) w, sets-eq bs slice₀ 0 (omega arith), z) (take-append_seam bs (drop (length bs) slice₀)))
+
+-- so what is printed into n places, where it fits, is what can be read of them
+pub blank_says : (n : ℕ) (bs : List ℕ) {o : Output} → o ≡ printed (blank n) bs → length bs ≤ n → take o.end o.bytes ≡ bs
+blank_says n bs {o} e h = (front_says (replicate n 0) bs {slice = o.bytes} {end = o.end} e (omega (arith, h, length-replicate {A = ℕ} n 0))).1

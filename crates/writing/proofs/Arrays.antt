@@ -3,10 +3,9 @@
 use mathlib.Core.Path.{◌≡◌, ap, ◌∙◌}
 use mathlib.Core.List.{List}
 use Prim.Native.Nat.{ℕ, ◌-◌}
-use native.Mathlib.Omega.{arith}
-use lib.ListN.{length, take, replicate, length-replicate}
-use Rattle.printing.specs.Output.{printed}
-use Rattle.printing.proofs.Printed.{front_says}
+use lib.ListN.{take}
+use Rattle.printing.specs.Output.{Output, blank, printed}
+use Rattle.printing.proofs.Printed.{blank_says}
 use Rattle.tables.specs.declared.Table.{Table}
 use Rattle.tables.specs.Rules.{TableRules}
 use Rattle.grammar.specs.declared.Part.TheVariants.{Alternative as alternative}
@@ -20,9 +19,7 @@ use Rattle.writing.specs.Ruled.{HoldsNodes}
 use Rattle.writing.specs.Written.{table_text}
 use Rattle.writing.proofs.Tables.{laid_tree}
 
-pub text_printed : (t : Table) (cells : List ℕ) → HoldsNodes cells t → TableRules t → Requires (table_text t) (tree_of t) → {slice : List ℕ} {end : ℕ}
-    → record { bytes = slice; end = end } ≡ printed (record { bytes = replicate LONGEST_TEXT 0; end = 0 }) (text_as alternative (unshared (node_from cells) (t.count - 1)))
-    → (end ≡ length (table_text t)) × (take end slice ≡ table_text t)
+pub text_printed : (t : Table) (cells : List ℕ) → HoldsNodes cells t → TableRules t → Requires (table_text t) (tree_of t) → {o : Output}
+    → o ≡ printed (blank LONGEST_TEXT) (text_as alternative (unshared (node_from cells) (t.count - 1))) → take o.end o.bytes ≡ table_text t
 text_printed t cells e r q h =
-    front_says (replicate LONGEST_TEXT 0) (table_text t) (h ∙ ap (λ a. printed (record { bytes = replicate LONGEST_TEXT 0; end = 0 }) (text_as alternative a)) (laid_tree t cells e r))
-    (omega (arith, text_room (tree_of t) q, length-replicate {A = ℕ} LONGEST_TEXT 0))
+    blank_says LONGEST_TEXT (table_text t) (h ∙ ap (λ a. printed (blank LONGEST_TEXT) (text_as alternative a)) (laid_tree t cells e r)) (text_room (tree_of t) q)

@@ -1,18 +1,16 @@
 -- The measure of a tree comes from those of its children, though each is counted no further than one past the limits: what is past a limit stays past it.
 -- Assumes nothing.
-use mathlib.Core.Path.{◌≡◌, refl, sym, ap₂, ◌∙◌}
-use mathlib.Core.Bool.{false}
+use mathlib.Core.Path.{◌≡◌, refl, ap₂, ◌∙◌}
 use mathlib.Core.List.{List}
 use Prim.Native.Nat.{ℕ, suc, ◌+◌, ◌-◌, ◌≤◌, ◌<◌, min, max}
 use native.Mathlib.Omega.{arith}
 use native.Mathlib.Decide.{ℕ_discrete}
 use lib.ListN.{length, get_or, set, length-set}
 use lib.Seq.{get_or-set_same, get_or-set_other}
-use Rattle.text.proofs.Tests.{false_true}
 use Rattle.tables.specs.declared.Node.{Node}
 use Rattle.tables.specs.Kind.{operator}
 use Rattle.tables.specs.Tree.{NODES}
-use Rattle.tables.specs.Rules.{Use, child, number, unused, is_child, left_use, right_use, NodeRules}
+use Rattle.tables.specs.Rules.{Use, child, number, unused, left_use, right_use, NodeRules}
 use Rattle.tables.proofs.Rules.{child_before, named_small}
 use Rattle.tables.specs.declared.Span.{Span}
 use Rattle.grammar.specs.declared.Part.{Part}
@@ -26,7 +24,7 @@ use Rattle.spelling.specs.Enclosings.{enclosings, enclosings_as, pair, tree_part
 use Rattle.spelling.proofs.Pairs.{stands_alternative, enclosings_own}
 use Rattle.writing.specs.declared.Measure.{Measure}
 use Rattle.writing.specs.Ruled.{Ruled}
-use Rattle.writing.specs.Measures.{measure_of, leaf_measure, one_measure, two_measure, node_measure}
+use Rattle.writing.specs.Measures.{measure_of, one_measure, two_measure, node_measure}
 
 pub alike : (p : Part) {m n d e : ℕ} → m ≡ n → d ≡ e → ◌≡◌ {A = Measure} (record { nodes = m; enclosings = d; part = p }) (record { nodes = n; enclosings = e; part = p })
 alike p f g = ap₂ (λ (n e : ℕ). record { nodes = n; enclosings = e; part = p }) f g
@@ -43,9 +41,6 @@ cut_deeper m p l = omega arith
 
 cut_larger : (m p n q l : ℕ) → min (max (min m l + p) (min n l + q)) l ≡ min (max (m + p) (n + q) + 0) l
 cut_larger m p n q l = omega arith
-
-pub cut_max : (m n l : ℕ) → max (min m l) (min n l) ≡ min (max m n) l
-cut_max m n l = omega arith
 
 one_is : (k : ℕ) (w : Span) (a : Tree) → one_measure (measure_of a) ≡ measure_of (one k w a)
 unfolding size enclosings_as
@@ -70,12 +65,6 @@ by_use child number n f g l r = rw (l refl) (one_is n.kind n.span (f n.left))
 by_use child unused n f g l r = rw (l refl) (one_is n.kind n.span (f n.left))
 by_use number v n f g l r = refl
 by_use unused v n f g l r = refl
-
--- a node without children is a leaf
-pub no_child : (u v : Use) (p : Part) (a b : Measure) → is_child u ≡ false → node_measure u v p a b ≡ leaf_measure
-no_child child v p a b h = absurd (false_true (sym h))
-no_child number v p a b h = refl
-no_child unused v p a b h = refl
 
 pub measured : (at : ℕ → Node) (k : ℕ) (g : ℕ → Measure) → NodeRules (at k) k → ((j : ℕ) → j < k → g j ≡ measure_of (unshared at j))
     → node_measure (left_use (operator (at k).kind)) (right_use (operator (at k).kind)) (part_of (at k).kind) (g (at k).left) (g (at k).right) ≡ measure_of (unshared at k)

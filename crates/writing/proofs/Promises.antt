@@ -18,8 +18,7 @@ use Rattle.grammar.specs.Tree.{Tree}
 use Rattle.grammar.specs.Grammar.{Requires}
 use Rattle.building.specs.Unshared.{tree_of}
 use Rattle.building.proofs.Unshared.{tree_says}
-use Rattle.requirements.specs.declared.Requirement.{Requirement}
-use Rattle.requirements.specs.Requirement.{accepted, requirement_of}
+use Rattle.requirements.specs.Requirement.{Requirement, accepted, requirement_of}
 use Rattle.requirements.proofs.Answers.{answer_sound}
 use Rattle.requirements.proofs.Rules.{required_rules, derives_proper}
 use Rattle.requirements.proofs.Says.{tree_back, root_says}

@@ -1,8 +1,10 @@
 -- What is handed back for a table that is to be written: the number, the length of the text, and the slice with the text in front.
 -- Assumes nothing.
-use Rattle.std.specs.Prelude.{ℕ, ◌≤◌, ◌&&◌, List, [], ◌∷◌, leb, length}
+use Rattle.std.specs.Prelude.{ℕ, ◌≤◌, ◌&&◌, List, [], ◌∷◌, leb, length, Result, Ok, Err}
 use Rattle.lists.specs.Front.{in_front}
+use Rattle.refusals.specs.declared.Refusal.{Refusal}
 use Rattle.refusals.specs.First.{Check, first, unless_refused}
+use Rattle.refusals.specs.Number.{number}
 use Rattle.tables.specs.declared.Table.{Table}
 use Rattle.tables.specs.Tree.{NODES}
 use Rattle.tables.specs.Rules.{TableRules, table_obeys}
@@ -50,6 +52,10 @@ pub record Writable (t : Table) (room : ℕ) : Type 0 where
 -- the length is 0 under a refusal
 abbrev pub no_text : ℕ → Written
 no_text number = record { number = number; length = 0 }
+
+abbrev pub outcome : Result ℕ Refusal → Written
+outcome (Ok n) = record { number = 0; length = n }
+outcome (Err r) = no_text (number r)
 
 abbrev pub written_of : Table → ℕ → Written
 written_of t room = unless_refused (write_refusal t room) (record { number = 0; length = length (table_text t) }) (no_text (write_refusal t room))

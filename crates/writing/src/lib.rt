@@ -2,7 +2,7 @@
 // shared nodes are unfolded only where the whole tree has at most 64 nodes.
 #![tactic(auto)]
 
-ghost use Rattle.std.specs.Prelude.{◌≡◌, suc, ◌+◌, ◌-◌, ◌≤◌, min, max, length};
+ghost use Rattle.std.specs.Prelude.{◌≡◌, suc, ◌+◌, ◌-◌, ◌≤◌, min, length};
 ghost use Rattle.tables.specs.Kind.{operator};
 ghost use Rattle.tables.specs.Tree.{node_at};
 ghost use Rattle.tables.specs.Rules.{left_use, right_use, TableRules};
@@ -10,14 +10,16 @@ ghost use Rattle.grammar.specs.Grammar.{ENCLOSINGS, Requires};
 ghost use Rattle.building.specs.Storing.{node_from};
 ghost use Rattle.building.specs.Unshared.{unshared, tree_of};
 ghost use Rattle.spelling.specs.Text.{text_as, part_of};
-ghost use Rattle.printing.specs.Output.{output, printed};
+ghost use Rattle.printing.specs.Output.{printed};
 ghost use Rattle.writing.specs.Measures.{measure_of, deep_as, one_measure, two_measure, node_measure, leaf_measure};
 ghost use Rattle.writing.specs.Ruled.{Ruled, HoldsNodes, leaf_text};
-ghost use Rattle.writing.specs.Written.{table_text, no_text, written_of, text_slice};
+ghost use Rattle.writing.specs.Written.{table_text, outcome, written_of, text_slice};
 
 use building::CELLS;
 use grammar::Part;
-use tables::{Node, Span, Table};
+use printing::Output;
+use refusals::Refusal;
+use tables::{Node, Table};
 
 // What a tree is, counted no further than one past the limits: its nodes, the enclosings of its text, and the part of the grammar that this is.
 #[derive(Clone, Copy)]
@@ -27,12 +29,26 @@ pub struct Measure {
     pub part: Part,
 }
 
-// What is handed back: the refusal's number, 0 for none, and the text's length, 0 under a refusal.
+// What C is handed: the refusal's number, 0 for none, and the text's length, 0 under a refusal.
 #[repr(C)]
 #[derive(Clone, Copy)]
 pub struct Written {
     pub number: u64,
     pub length: usize,
+}
+
+impl From<Result<usize, Refusal>> for Written {
+    ghost from_gives = { λ answer written. written ≡ outcome answer };
+
+    fn from(answer: Result<usize, Refusal>) -> Written {
+        match answer {
+            Ok(length) => Written { number: 0, length },
+            Err(refusal) => Written {
+                number: u64::from(refusal),
+                length: 0,
+            },
+        }
+    }
 }
 
 // One past the most nodes, and one past the most enclosings.
@@ -43,35 +59,22 @@ const TOO_DEEP: u64 = 33;
 // No text within the limits is longer: 64 nodes of at most 26 bytes.
 pub const LONGEST_TEXT: usize = 26 * tables::NODES;
 
+// Where a text is written, before it is known that the slice has room for it.
+type Room = Output<LONGEST_TEXT>;
+
 // A sum, or the limit where that is less.
 fn sum_up_to(x: u64, y: u64, limit: u64) -> u64
     ensures { result ≡ min (x + y) limit }
 {
-    if limit <= x {
-        return limit;
-    }
-    if limit - x <= y {
-        return limit;
-    }
-    x + y
-}
-
-fn larger(x: u64, y: u64) -> u64
-    ensures { result ≡ max x y }
-{
-    if x < y { y } else { x }
+    x.saturating_add(y).min(limit)
 }
 
 // The enclosings of a child where a part is due.
 fn deep_as(due: Part, child: Measure) -> u64
     ensures { result ≡ min (deep_as due child) (suc ENCLOSINGS) }
 {
-    let own = child.part;
-    if spelling::stands_as(due, own) {
-        sum_up_to(child.enclosings, 0, TOO_DEEP)
-    } else {
-        sum_up_to(child.enclosings, 1, TOO_DEEP)
-    }
+    let pair = u64::from(!spelling::stands_as(due, child.part));
+    sum_up_to(child.enclosings, pair, TOO_DEEP)
 }
 
 fn leaf_measure() -> Measure
@@ -103,8 +106,8 @@ fn two_measure(part: Part, left: Measure, right: Measure) -> Measure
     let behind = deep_as(spelling::right_part(part), right);
     Measure {
         nodes: sum_up_to(nodes, 1, TOO_LARGE),
-        enclosings: larger(before, behind),
-        part: part,
+        enclosings: before.max(behind),
+        part,
     }
 }
 
@@ -121,114 +124,90 @@ fn node_measure(kind: u64, left: Measure, right: Measure) -> Measure
     leaf_measure()
 }
 
-// The measure of the last of some nodes: a node's children are measured before it.
-fn last_measure(nodes: [Node; tables::NODES], count: usize) -> Measure
-    requires ruled { Ruled (node_at nodes) (count - 1) }
-    requires le_count { 1 ≤ count }
-    ensures { result ≡ measure_of (unshared (node_at nodes) (count - 1)) }
+// The measure of a table's last node: a node's children are measured before it.
+fn last_measure(table: Table) -> Measure
+    requires ruled { Ruled (node_at table.nodes) (table.count - 1) }
+    requires le_count { 1 ≤ table.count }
+    ensures { result ≡ measure_of (unshared (node_at table.nodes) (table.count - 1)) }
 {
-    let none = leaf_measure();
-    let mut measures = [none; tables::NODES];
-    for k in 0..count {
-        let node = nodes[k];
-        let left = node.left;
-        let right = node.right;
-        measures[k] = node_measure(node.kind, measures[left], measures[right]);
+    let mut measures = [leaf_measure(); tables::NODES];
+    for k in 0..table.count {
+        let node = table.nodes[k];
+        measures[k] = node_measure(node.kind, measures[node.left], measures[node.right]);
     }
-    let last = count - 1;
-    measures[last]
+    measures[table.count - 1]
 }
 
 // A node without children: `T`, or a predicate by its number.
-fn write_leaf(out: &mut [u8], at: usize, node: Node) -> usize
-    ensures { output out.new result ≡ printed (output out.old at) (leaf_text node) }
+fn write_leaf(out: &mut Room, node: Node)
+    ensures { out.new ≡ printed out.old (leaf_text node) }
 {
     if node.kind == tables::PREDICATE {
-        return spelling::write_predicate(out, at, node.left);
+        return spelling::write_predicate(out, node.left);
     }
-    let span = Span {
-        lo: 0,
-        hi: 0,
-        openlo: 0,
-        openhi: 0,
-    };
-    spelling::write_sign(out, at, tables::TRUE, span)
+    spelling::write_sign(out, tables::TRUE, tables::no_span());
 }
 
 // The text of node k where a part is due.
-fn write_node(cells: &[u64; CELLS], k: usize, due: Part, out: &mut [u8], at: usize) -> usize
+fn write_node(out: &mut Room, cells: &[u64; CELLS], k: usize, due: Part)
     requires { Ruled (node_from cells.now) k }
-    ensures { output out.new result ≡ printed (output out.old at) (text_as due (unshared (node_from cells.now) k)) }
+    ensures { out.new ≡ printed out.old (text_as due (unshared (node_from cells.now) k)) }
 {
     let node = building::node_at(cells, k);
     if tables::has_right(node.kind) {
         let own = spelling::part_of(node.kind);
-        let opened = spelling::write_opening(out, at, due, own);
-        let left = write_node(cells, node.left, spelling::left_part(own), out, opened);
-        let sign = spelling::write_sign(out, left, node.kind, node.span);
-        let right = write_node(cells, node.right, spelling::right_part(own), out, sign);
-        return spelling::write_closing(out, right, due, own);
+        spelling::write_parenthesis(out, due, own, b"(");
+        write_node(out, cells, node.left, spelling::left_part(own));
+        spelling::write_sign(out, node.kind, node.span);
+        write_node(out, cells, node.right, spelling::right_part(own));
+        return spelling::write_parenthesis(out, due, own, b")");
     }
     if tables::has_left(node.kind) {
-        let sign = spelling::write_sign(out, at, node.kind, node.span);
-        return write_node(cells, node.left, Part::Unary, out, sign);
+        spelling::write_sign(out, node.kind, node.span);
+        return write_node(out, cells, node.left, Part::Unary);
     }
-    write_leaf(out, at, node)
-}
-
-fn refuse(number: u64) -> Written
-    ensures { result ≡ no_text number }
-{
-    Written {
-        number: number,
-        length: 0,
-    }
+    write_leaf(out, node);
 }
 
 // The text of a table that is within the limits, where the slice has room for it.
-fn write_table(cells: &[u64; CELLS], table: Table, text: &mut [u8]) -> Written
+fn write_table(cells: &[u64; CELLS], table: Table, text: &mut [u8]) -> Result<usize, Refusal>
     requires holds_nodes { HoldsNodes cells.now table }
     requires table_rules { TableRules table }
     requires limits { Requires (table_text table) (tree_of table) }
-    ensures answer { result ≡ written_of table (length text.old) }
+    ensures answer { outcome result ≡ written_of table (length text.old) }
     ensures text { text.new ≡ text_slice table text.old }
 {
-    let mut bytes = [0u8; LONGEST_TEXT];
-    let end = write_node(cells, table.count - 1, Part::Alternative, &mut bytes, 0);
-    if text.len() < end {
-        return refuse(15);
+    let mut out = Room::new();
+    write_node(&mut out, cells, table.count - 1, Part::Alternative);
+    let written = out.as_slice();
+    if text.len() < written.len() {
+        return Err(Refusal::Room);
     }
-    printing::write_bytes(&bytes[..end], text);
-    Written {
-        number: 0,
-        length: end,
-    }
+    lists::write_front(written, text);
+    Ok(written.len())
 }
 
-// Writes a table's text into the front of a slice, the table's numbers being at hand. Under a refusal, of 3, 14 or 15, the slice keeps what it holds.
-pub fn write_numbered(cells: &[u64; CELLS], table: Table, text: &mut [u8]) -> Written
+// Writes a table's text into the front of a slice, the table's numbers being at hand, and gives its length. Under a refusal, of 3, 14 or 15, the slice keeps what it holds.
+pub fn write_numbered(cells: &[u64; CELLS], table: Table, text: &mut [u8]) -> Result<usize, Refusal>
     requires { HoldsNodes cells.now table }
-    ensures answer { result ≡ written_of table (length text.old) }
+    ensures answer { outcome result ≡ written_of table (length text.old) }
     ensures text { text.new ≡ text_slice table text.old }
 {
-    let obeys = tables::table_obeys(table);
-    if !obeys {
-        return refuse(3);
+    if !tables::table_obeys(table) {
+        return Err(Refusal::Table);
     }
-    let nodes = table.nodes;
-    let measure = last_measure(nodes, table.count);
-    if (TOO_LARGE <= measure.nodes) | (TOO_DEEP <= measure.enclosings) {
-        return refuse(14);
+    let measure = last_measure(table);
+    if TOO_LARGE <= measure.nodes || TOO_DEEP <= measure.enclosings {
+        return Err(Refusal::Limits);
     }
     write_table(cells, table, text)
 }
 
 // The same of a table alone.
-pub fn write_requirement(table: Table, text: &mut [u8]) -> Written
-    ensures answer { result ≡ written_of table (length text.old) }
+pub fn write_requirement(table: Table, text: &mut [u8]) -> Result<usize, Refusal>
+    ensures answer { outcome result ≡ written_of table (length text.old) }
     ensures text { text.new ≡ text_slice table text.old }
 {
-    let nodes = table.nodes;
-    let cells = building::cells_of(nodes);
+    let cells = building::cells_of(table.nodes);
     write_numbered(&cells, table, text)
 }
