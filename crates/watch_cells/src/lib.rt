@@ -15,7 +15,7 @@ ghost use Rattle.tables.specs.Kind.{operator};
 ghost use Rattle.tables.specs.declared.Operator.TheVariants.{Negated, Joined, Binary, Unary};
 ghost use Rattle.tables.specs.Tree.{NODES, NO_END};
 ghost use Rattle.arrivals.specs.Arrivals.{Row};
-ghost use Rattle.watch_cells.specs.State.{NUMBERS, CELLS, node_in, kept_window, held_in};
+ghost use Rattle.watch_cells.specs.State.{node_in, kept_window, held_in};
 ghost use Rattle.watch_cells.specs.Taking.{IsDistance, LeafValue, IsPoint, TimedAsks, so_far, margin_after, newest_of, SameBeyond, Arriving, Taking, NodeTakes};
 
 use logic::Extremum;
@@ -30,6 +30,11 @@ pub const NODES_AT: usize = 45;
 
 pub const HELD_AT: usize = 32;
 
+// So many numbers and cells are a watch; a slice that holds one may be longer.
+const NUMBERS: usize = NODES_AT + building::WIDTH * tables::NODES;
+
+const CELLS: usize = HELD_AT + 3 * tables::NODES;
+
 // A node's cells, one in each of three runs: its margin at the newest row, its margin at sample 0, and what it carries.
 const NEWEST: usize = 0;
 
@@ -37,23 +42,23 @@ const MARGIN: usize = 1;
 
 const CARRIED: usize = 2;
 
-fn kind_of(numbers: &[u64], k: usize) -> u64
-    requires { (NUMBERS ≤ length numbers.now) × (k < NODES) }
+fn kind_of(numbers: &[u64; NUMBERS], k: usize) -> u64
+    requires { k < NODES }
     ensures { result ≡ (node_in numbers.now k).kind }
 {
     numbers[NODES_AT + building::WIDTH * k]
 }
 
-fn node_of(numbers: &[u64], k: usize) -> Node
-    requires { (NUMBERS ≤ length numbers.now) × (k < NODES) }
+fn node_of(numbers: &[u64; NUMBERS], k: usize) -> Node
+    requires { k < NODES }
     ensures { result ≡ node_in numbers.now k }
 {
     building::read_node(numbers, NODES_AT + building::WIDTH * k)
 }
 
 // The distance of the row's value from a predicate. Numbers that no making left name some predicate and some scale; TOP where there is no distance.
-fn distance_of(numbers: &[u64], cells: &[i64], values: &[i64], node: Node) -> i64
-    requires { (NUMBERS ≤ length numbers.now) × (CELLS ≤ length cells.now) × Values values.now }
+fn distance_of(numbers: &[u64; NUMBERS], cells: &[i64; CELLS], values: &[i64], node: Node) -> i64
+    requires { Values values.now }
     ensures { IsDistance numbers.now cells.now values.now node result }
 {
     let named = node.left % 16;
@@ -74,8 +79,8 @@ fn distance_of(numbers: &[u64], cells: &[i64], values: &[i64], node: Node) -> i6
 }
 
 // A part of a node's cells. Numbers that no making left name some node.
-fn operand(cells: &[i64], child: usize, part: usize) -> i64
-    requires { (CELLS ≤ length cells.now) × (part < 3) }
+fn operand(cells: &[i64; CELLS], child: usize, part: usize) -> i64
+    requires { part < 3 }
     ensures { child < NODES → result ≡ held_in cells.now child part }
 {
     cells[HELD_AT + tables::NODES * part + child % tables::NODES]
@@ -93,8 +98,8 @@ fn opposite(a: i64) -> i64
 }
 
 // "Not", from one part of its operand's cells.
-fn negation_at(cells: &[i64], node: Node, part: usize) -> i64
-    requires { (CELLS ≤ length cells.now) × (part < 3) }
+fn negation_at(cells: &[i64; CELLS], node: Node, part: usize) -> i64
+    requires { part < 3 }
     ensures { (k : _) → k ≤ NODES → operator node.kind ≡ Negated → IsPoint cells.now node k part result }
 {
     let a = operand(cells, node.left, part);
@@ -102,8 +107,8 @@ fn negation_at(cells: &[i64], node: Node, part: usize) -> i64
 }
 
 // "And" or "or", from one part of their operands' cells.
-fn junction_at(cells: &[i64], node: Node, e: Extremum, part: usize) -> i64
-    requires { (CELLS ≤ length cells.now) × (part < 3) }
+fn junction_at(cells: &[i64; CELLS], node: Node, e: Extremum, part: usize) -> i64
+    requires { part < 3 }
     ensures { (k : _) → k ≤ NODES → operator node.kind ≡ Joined e → IsPoint cells.now node k part result }
 {
     let a = operand(cells, node.left, part);
@@ -120,8 +125,8 @@ fn in_window(node: Node, since: u64) -> bool
 }
 
 // What a node holds before the row; `none` before the first.
-fn so_far(cells: &[i64], opening: bool, none: i64, k: usize, part: usize) -> i64
-    requires { (CELLS ≤ length cells.now) × (k < NODES) × (part < 3) }
+fn so_far(cells: &[i64; CELLS], opening: bool, none: i64, k: usize, part: usize) -> i64
+    requires { (k < NODES) × (part < 3) }
     ensures { result ≡ so_far cells.now opening none k part }
 {
     if opening {
@@ -154,8 +159,8 @@ fn newest_of(node: Node, e: Extremum, right: i64) -> i64
 }
 
 // True or a predicate takes the row: at sample 0 it keeps what it had at the first one.
-fn take_leaf(cells: &mut [i64], leaf: i64, opening: bool, k: usize)
-    requires { (CELLS ≤ length cells.old) × (k < NODES) }
+fn take_leaf(cells: &mut [i64; CELLS], leaf: i64, opening: bool, k: usize)
+    requires { k < NODES }
     ensures taken { (numbers values : _) (since : _) (n : _) → n ≡ node_in numbers k → LeafValue numbers cells.old values n leaf → NodeTakes numbers cells.old cells.new values opening since k }
     ensures beyond { SameBeyond cells.old cells.new }
 {
@@ -166,8 +171,8 @@ fn take_leaf(cells: &mut [i64], leaf: i64, opening: bool, k: usize)
 }
 
 // "Not", "and" or "or" takes the row: it has a value there, and one at sample 0.
-fn take_point(cells: &mut [i64], newest: i64, margin: i64, k: usize)
-    requires { (CELLS ≤ length cells.old) × (k < NODES) }
+fn take_point(cells: &mut [i64; CELLS], newest: i64, margin: i64, k: usize)
+    requires { k < NODES }
     ensures taken { (numbers values : _) (opening : _) (since : _) (n : _) → n ≡ node_in numbers k → IsPoint cells.old n k 0 newest → IsPoint cells.old n k 1 margin → NodeTakes numbers cells.old cells.new values opening since k }
     ensures beyond { SameBeyond cells.old cells.new }
 {
@@ -176,8 +181,8 @@ fn take_point(cells: &mut [i64], newest: i64, margin: i64, k: usize)
 }
 
 // "Not" takes the row.
-fn take_not(numbers: &[u64], cells: &mut [i64], k: usize)
-    requires { (NUMBERS ≤ length numbers.now) × (CELLS ≤ length cells.old) × (k < NODES) }
+fn take_not(numbers: &[u64; NUMBERS], cells: &mut [i64; CELLS], k: usize)
+    requires { k < NODES }
     ensures taken { (values : _) (opening : _) (since : _) → operator (node_in numbers.now k).kind ≡ Negated → NodeTakes numbers.now cells.old cells.new values opening since k }
     ensures beyond { SameBeyond cells.old cells.new }
 {
@@ -188,8 +193,8 @@ fn take_not(numbers: &[u64], cells: &mut [i64], k: usize)
 }
 
 // "And" or "or" takes the row.
-fn take_joined(numbers: &[u64], cells: &mut [i64], e: Extremum, k: usize)
-    requires { (NUMBERS ≤ length numbers.now) × (CELLS ≤ length cells.old) × (k < NODES) }
+fn take_joined(numbers: &[u64; NUMBERS], cells: &mut [i64; CELLS], e: Extremum, k: usize)
+    requires { k < NODES }
     ensures taken { (values : _) (opening : _) (since : _) → operator (node_in numbers.now k).kind ≡ Joined e → NodeTakes numbers.now cells.old cells.new values opening since k }
     ensures beyond { SameBeyond cells.old cells.new }
 {
@@ -201,7 +206,7 @@ fn take_joined(numbers: &[u64], cells: &mut [i64], e: Extremum, k: usize)
 
 // A temporal operator takes the row, given its operands there.
 fn take_timed(
-    cells: &mut [i64],
+    cells: &mut [i64; CELLS],
     node: Node,
     e: Extremum,
     left: i64,
@@ -210,7 +215,7 @@ fn take_timed(
     since: u64,
     k: usize,
 )
-    requires { (CELLS ≤ length cells.old) × (k < NODES) × (since ≤ NO_END) }
+    requires { (k < NODES) × (since ≤ NO_END) }
     ensures taken { (numbers values : _) → node ≡ node_in numbers k → TimedAsks cells.old node e left right → NodeTakes numbers cells.old cells.new values opening since k }
     ensures beyond { SameBeyond cells.old cells.new }
 {
@@ -227,8 +232,15 @@ fn take_timed(
 }
 
 // Until or release takes the row.
-fn take_binary(numbers: &[u64], cells: &mut [i64], e: Extremum, opening: bool, since: u64, k: usize)
-    requires { (NUMBERS ≤ length numbers.now) × (CELLS ≤ length cells.old) × (k < NODES) × (since ≤ NO_END) }
+fn take_binary(
+    numbers: &[u64; NUMBERS],
+    cells: &mut [i64; CELLS],
+    e: Extremum,
+    opening: bool,
+    since: u64,
+    k: usize,
+)
+    requires { (k < NODES) × (since ≤ NO_END) }
     ensures taken { (values : _) → operator (node_in numbers.now k).kind ≡ Binary Future e → NodeTakes numbers.now cells.old cells.new values opening since k }
     ensures beyond { SameBeyond cells.old cells.new }
 {
@@ -239,8 +251,15 @@ fn take_binary(numbers: &[u64], cells: &mut [i64], e: Extremum, opening: bool, s
 }
 
 // Eventually or always takes the row.
-fn take_unary(numbers: &[u64], cells: &mut [i64], e: Extremum, opening: bool, since: u64, k: usize)
-    requires { (NUMBERS ≤ length numbers.now) × (CELLS ≤ length cells.old) × (k < NODES) × (since ≤ NO_END) }
+fn take_unary(
+    numbers: &[u64; NUMBERS],
+    cells: &mut [i64; CELLS],
+    e: Extremum,
+    opening: bool,
+    since: u64,
+    k: usize,
+)
+    requires { (k < NODES) × (since ≤ NO_END) }
     ensures taken { (values : _) → operator (node_in numbers.now k).kind ≡ Unary Future e → NodeTakes numbers.now cells.old cells.new values opening since k }
     ensures beyond { SameBeyond cells.old cells.new }
 {
@@ -252,14 +271,14 @@ fn take_unary(numbers: &[u64], cells: &mut [i64], e: Extremum, opening: bool, si
 
 // Node k takes the row. Its kind is asked for here alone, and once, and its other numbers in the arm that they count in: each question costs a row time.
 fn take_node(
-    numbers: &[u64],
-    cells: &mut [i64],
+    numbers: &[u64; NUMBERS],
+    cells: &mut [i64; CELLS],
     values: &[i64],
     opening: bool,
     since: u64,
     k: usize,
 )
-    requires { (NUMBERS ≤ length numbers.now) × (CELLS ≤ length cells.old) × (k < NODES) × Values values.now × (since ≤ NO_END) }
+    requires { (k < NODES) × Values values.now × (since ≤ NO_END) }
     ensures taken { NodeTakes numbers.now cells.old cells.new values.now opening since k }
     ensures beyond { SameBeyond cells.old cells.new }
 {
@@ -293,9 +312,9 @@ pub fn take_nodes(
     ensures taken { (t : Table) (c : Card) (r : Row) → Arriving values.now opening since t c r → count ≡ t.count → Taking numbers.now cells.old t c r 0 → Taking numbers.now cells.new t c r count }
     ensures beyond { SameBeyond cells.old cells.new }
 {
-    let mut k = 0;
-    while k < count {
+    let numbers = numbers.first_chunk().unwrap();
+    let cells = cells.first_chunk_mut().unwrap();
+    for k in 0..count {
         take_node(numbers, cells, values, opening, since, k);
-        k += 1;
     }
 }
