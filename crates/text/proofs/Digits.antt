@@ -1,37 +1,53 @@
--- The loop over digits reads the maximal run of them: `Run` says what it has read, and its value and count are those of the whole run once no digit follows.
+-- The digits that a text begins with, and what they are worth: their value grows digit by digit, and stays below a power of ten.
 -- Assumes nothing.
-use mathlib.Core.Path.{◌≡◌, refl, sym}
+use mathlib.Core.Path.{◌≡◌, refl, sym, ap, ◌∙◌}
 use mathlib.Core.List.{List, [], ◌∷◌}
 use mathlib.Core.Bool.{Bool, true, false, cond}
 use Prim.Native.Nat.{ℕ, zero, suc, ◌+◌, ◌-◌, ◌*◌, ◌^◌, ◌≤◌, ◌<◌}
-use native.Mathlib.Nat.{suc-add, pow-suc, sub_self}
+use native.Mathlib.Nat.{pow-suc}
 use native.Mathlib.Numerals.{add-one}
 use native.Mathlib.Omega.{arith}
-use lib.ListN.{length, get_or, drop}
+use lib.ListN.{length, get_or, take, drop}
+use lib.Seq.{take_all}
 use lib.Dec.{leb}
 use borrow.Author.Tests.{leb-true, lt-leb, le-leb}
+use Rattle.std.specs.List.{fold, prefix_len, take_while}
+use Rattle.std.proofs.lemmas.List.{length-take}
+use Rattle.std.proofs.lemmas.List.Sums.{fold_more, take_while-cons}
 use Rattle.text.specs.Number.{is_digit, digits, value, in_form, judged, number_at}
+use Rattle.text.specs.declared.Field.{Field}
 use Rattle.text.specs.declared.Field.TheVariants.{Number, Bad}
-use Rattle.text.proofs.Tests.{both, false_true}
+use Rattle.text.proofs.Tests.{both, by_test, false_true}
 
 -- a digit is 48 to 57
 pub digit_range : (b : ℕ) → is_digit b ≡ true → (48 ≤ b) × (b ≤ 57)
 digit_range b h = let t = both (leb 48 b) (leb b 57) h in (leb-true 48 b t.0, leb-true b 57 t.1)
 
--- a digit stands inside the text
-pub digit_inside : (s : List ℕ) (i : ℕ) → is_digit (get_or s i 0) ≡ true → i < length s
-digit_inside [] i h = absurd (false_true h)
-digit_inside (b ∷ s) zero h = omega arith
-digit_inside (b ∷ s) (suc i) h = let l : i < length s = digit_inside s i h in omega arith
-
--- where a digit stands, the run goes on
-pub run_more : (s : List ℕ) (i : ℕ) → is_digit (get_or s i 0) ≡ true → digits (drop i s) ≡ get_or s i 0 ∷ digits (drop (i + 1) s)
+-- each of the digits that a text begins with is one
+digits_each : (l : List ℕ) (i : ℕ) → i < length (digits l) → is_digit (get_or (digits l) i 0) ≡ true
 unfolding digits
-run_more [] i h = absurd (false_true h)
-run_more (b ∷ s) zero h = rw h
-run_more (b ∷ s) (suc i) h = rw (suc-add, run_more s i h)
+digits_each [] i h = absurd (omega arith)
+digits_each (b ∷ l) i h = go (is_digit b) refl i h (digits_each l)
+  where
+    go : (t : Bool) → is_digit b ≡ t → (i : ℕ) → i < length (cond t (b ∷ digits l) []) → ((j : ℕ) → j < length (digits l) → is_digit (get_or (digits l) j 0) ≡ true)
+        → is_digit (get_or (cond t (b ∷ digits l) []) i 0) ≡ true
+    go true e zero h rest = e
+    go true e (suc i) h rest = rest i (omega arith)
+    go false e i h rest = absurd (omega arith)
 
--- where none stands, the run is over
+pub digit_at : (l : List ℕ) (i : ℕ) → i < length (digits l) → (48 ≤ get_or (digits l) i 0) × (get_or (digits l) i 0 ≤ 57)
+digit_at l i h = digit_range (get_or (digits l) i 0) (digits_each l i h)
+
+-- they are the first bytes, as many as are digits one after the other
+pub digits_first : (l : List ℕ) → take_while is_digit l ≡ digits l
+unfolding digits
+digits_first [] = refl
+digits_first (b ∷ l) = rw (take_while-cons is_digit b l) (by_test (is_digit b) (λ e. rw (e, digits_first l)) (λ e. rw e))
+
+pub digits_few : (l : List ℕ) → length (digits l) ≤ length l
+digits_few l = omega (arith, ap length (digits_first l), length-take (prefix_len is_digit l) l)
+
+-- where no digit stands, there is none
 pub run_over : (s : List ℕ) (i : ℕ) → is_digit (get_or s i 0) ≡ false → digits (drop i s) ≡ []
 unfolding digits
 run_over [] zero h = refl
@@ -39,56 +55,45 @@ run_over [] (suc i) h = refl
 run_over (b ∷ s) zero h = rw h
 run_over (b ∷ s) (suc i) h = run_over s i h
 
--- one digit more, ten times the bound
-step_inForm : (v d n : ℕ) → v < 10 ^ n → d ≤ 9 → v * 10 + d < 10 ^ (n + 1)
-step_inForm v d n h g = rw (add-one, pow-suc) (omega arith)
+-- ---- what digits are worth
 
--- the digits from at up to i are read, and v is their value
-pub record Run (s : List ℕ) (at i v : ℕ) : Type 0 where
-  pub from : at ≤ i
-  pub upto : i ≤ at + 10
-  pub small : v < 10 ^ (i - at)
-  pub count : (i - at) + length (digits (drop i s)) ≡ length (digits (drop at s))
-  pub worth : value v (digits (drop i s)) ≡ value 0 (digits (drop at s))
+abbrev more : ℕ → ℕ → ℕ
+more v b = v * 10 + (b - 48)
 
-pub run_start : (s : List ℕ) (at : ℕ) → Run s at at 0
-run_start s at = record { from = omega arith; upto = omega arith; small = rw sub_self (omega arith); count = rw sub_self (omega arith); worth = refl }
-
-pub run_step : (s : List ℕ) (at i v : ℕ) → Run s at i v → is_digit (get_or s i 0) ≡ true → i - at < 10
-    → Run s at (i + 1) (v * 10 + (get_or s i 0 - 48))
+value_fold : (v : ℕ) (ds : List ℕ) → fold more v ds ≡ value v ds
 unfolding value
-run_step s at i v r h l =
-    let m : digits (drop i s) ≡ get_or s i 0 ∷ digits (drop (i + 1) s) = run_more s i h in
-    let e : i + 1 - at ≡ i - at + 1 = omega (arith, r.from) in
-    let d = digit_range (get_or s i 0) h in
+value_fold v [] = refl
+value_fold v (b ∷ ds) = value_fold (more v b) ds
+
+-- the first i of some digits are read, and v is their value
+pub record Run (ds : List ℕ) (i v : ℕ) : Type 0 where
+  pub worth : fold more 0 (take i ds) ≡ v
+  pub small : v < 10 ^ i
+
+pub run_start : (ds : List ℕ) → Run ds 0 0
+run_start ds = record { worth = refl; small = omega arith }
+
+pub run_step : (ds : List ℕ) (i v : ℕ) → Run ds i v → i < length ds → (48 ≤ get_or ds i 0) × (get_or ds i 0 ≤ 57) → Run ds (i + 1) (v * 10 + (get_or ds i 0 - 48))
+run_step ds i v r l d =
     record {
-      from = omega arith;
-      upto = omega arith;
-      small = rw e (step_inForm v (get_or s i 0 - 48) (i - at) r.small (omega arith));
-      count = let k : (i - at) + length (get_or s i 0 ∷ digits (drop (i + 1) s)) ≡ length (digits (drop at s)) = rw m at r.count in omega arith;
-      worth = rw m at r.worth;
+      worth = fold_more more 0 ds i 0 l ∙ ap (λ (x : ℕ). more x (get_or ds i 0)) r.worth;
+      small = rw (add-one, pow-suc) (omega (arith, r.small));
     }
 
--- the run is over, and the test t of what was read decides
-pub run_done : (s : List ℕ) (at i v max : ℕ) → Run s at i v → is_digit (get_or s i 0) ≡ false
-    → (t : Bool) → in_form (get_or s at 0) (i - at) v max ≡ t → cond t (Number v i) Bad ≡ number_at s at max
-unfolding number_at value
-run_done s at i v max r h t g =
-    let m : digits (drop i s) ≡ [] = run_over s i h in
-    let w : v ≡ value 0 (digits (drop at s)) = rw m at r.worth in
-    let k : i - at ≡ length (digits (drop at s)) = let k' : (i - at) + 0 ≡ length (digits (drop at s)) = rw m at r.count in omega arith in
-    let n : i ≡ at + length (digits (drop at s)) = omega (arith, r.from) in
-    let f : t ≡ in_form (get_or s at 0) (length (digits (drop at s))) (value 0 (digits (drop at s))) max = cc in
-    cc
+-- ---- the number that they are
 
 -- more than ten digits are refused
 judged_long : (first n v max next : ℕ) → 10 < n → judged first n v max next ≡ Bad
 judged_long first n v max next h = rw (le-leb 1 n (omega arith), lt-leb n 10 h)
 
--- an eleventh digit
-pub run_long : (s : List ℕ) (at i v max : ℕ) → Run s at i v → is_digit (get_or s i 0) ≡ true → 10 ≤ i - at
-    → Bad ≡ number_at s at max
+pub run_long : (s : List ℕ) (at max : ℕ) → 10 < length (digits (drop at s)) → Bad ≡ number_at s at max
 unfolding number_at
-run_long s at i v max r h l =
-    let k : (i - at) + length (get_or s i 0 ∷ digits (drop (i + 1) s)) ≡ length (digits (drop at s)) = rw (run_more s i h) at r.count in
-    sym (judged_long (get_or s at 0) (length (digits (drop at s))) (value 0 (digits (drop at s))) max (at + length (digits (drop at s))) (omega arith))
+run_long s at max h = sym (judged_long (get_or s at 0) (length (digits (drop at s))) (value 0 (digits (drop at s))) max (at + length (digits (drop at s))) h)
+
+-- all of them are read, and the test t of them decides
+pub run_done : (s : List ℕ) (at i v max : ℕ) → Run (digits (drop at s)) i v → i ≡ length (digits (drop at s))
+    → (t : Bool) → in_form (get_or s at 0) i v max ≡ t → cond t (Number v (at + i)) Bad ≡ number_at s at max
+unfolding number_at
+run_done s at i v max r e t g =
+    let w : v ≡ value 0 (digits (drop at s)) = sym r.worth ∙ (ap (λ (x : List ℕ). fold more 0 x) (take_all i (digits (drop at s)) (omega arith)) ∙ value_fold 0 (digits (drop at s))) in
+    rw (← e, ← w, g)

@@ -4,9 +4,9 @@
 
 pub mod signed;
 
-ghost use Rattle.std.specs.Prelude.{◌≡◌, get_or};
+ghost use Rattle.std.specs.Prelude.{◌≡◌, drop, get_or};
 ghost use Rattle.text.specs.Mark.{key_at, mark_at};
-ghost use Rattle.text.specs.Number.{in_form, number_at, field_at};
+ghost use Rattle.text.specs.Number.{digits, in_form, number_at, field_at};
 
 // The largest number of a field without a sign, and of one with a sign.
 pub const LARGEST: u64 = 4_294_967_295;
@@ -41,21 +41,29 @@ fn in_form(first: u8, count: usize, value: u64, max: u64) -> bool
     1 <= count && count <= 10 && !(first == b'0' && 1 < count) && value <= max
 }
 
+// All the digits from a place on.
+fn digits_at(s: &[u8], at: usize) -> &[u8]
+    ensures { result.now ≡ digits (drop at s.now) }
+{
+    let behind = s.get(at..).unwrap_or(&[]);
+    let count = behind.iter().take_while(|b| b.is_ascii_digit()).count();
+    &behind[..count]
+}
+
 // A number of up to ten digits without a leading zero, at most max.
 pub fn read_number(s: &[u8], at: usize, max: u64) -> Field<u64>
     ensures { result ≡ number_at s.now at max }
 {
-    let mut i = at;
-    let mut value: u64 = 0;
-    while byte_at(s, i).is_ascii_digit() {
-        if 10 <= i - at {
-            return Field::Bad;
-        }
-        value = value * 10 + u64::from(byte_at(s, i) - b'0');
-        i += 1;
+    let digits = digits_at(s, at);
+    if 10 < digits.len() {
+        return Field::Bad;
     }
-    if in_form(byte_at(s, at), i - at, value, max) {
-        Field::Number(value, i)
+    let mut value: u64 = 0;
+    for b in digits {
+        value = value * 10 + u64::from(b - b'0');
+    }
+    if in_form(byte_at(s, at), digits.len(), value, max) {
+        Field::Number(value, at + digits.len())
     } else {
         Field::Bad
     }

@@ -1,38 +1,44 @@
--- `text::read_number` meets its contract: the loop keeps `Run`, and the test of the whole run decides.
+-- `text::read_number` meets its contract: the loop keeps `Run`, and the test of all digits decides.
 -- Assumes nothing.
-use mathlib.Core.Path.{◌≡◌, sym, ◌∙◌}
-use mathlib.Core.Bool.{true, false}
-use Prim.Native.Nat.{◌-◌}
-use lib.ListN.{get_or}
-use Rattle.text.specs.Number.{is_digit}
-use Rattle.text.proofs.Digits.{run_step, run_done, run_long}
+use Rattle.std.proofs.Common.{◌≡◌, ◌≤◌, true, false, length, get_or, drop, length-drop, sym, ap, ◌∙◌, arith}
+use Rattle.text.specs.Number.{digits}
+use Rattle.text.proofs.Digits.{Run, digit_at, digits_few, run_step, run_long, run_done}
 use Rattle.text.proofs.read_number.Goals as goal
-use Rattle.text.proofs.read_number.Goals.{After-loop-at, After-from, In-loop-at}
+use Rattle.text.proofs.read_number.Goals.{In-loop-b, After-loop-b}
 
--- a digit stands at i in a turn, and none after the loop
-digit-here : (c : In-loop-at) → is_digit (get_or c.args.s.now c.loop-at.i 0) ≡ true
-digit-here c = cc
+-- a byte of the run is a digit
+digit-here : (c : In-loop-b) → (48 ≤ get_or c.digits_at-digits.result.now c.loop-b.b-index 0) × (get_or c.digits_at-digits.result.now c.loop-b.b-index 0 ≤ 57)
+digit-here c =
+    let e = c.digits_at-digits.ensures in
+    rw e (digit_at (drop c.args.at c.args.s.now) c.loop-b.b-index (rw e at c.loop-b-test.true))
 
-none_here : (c : After-loop-at) → is_digit (get_or c.args.s.now c.loop-at.i 0) ≡ false
-none_here c = cc
+-- behind the loop all of them are read
+all_read : (c : After-loop-b) → Run (digits (drop c.args.at c.args.s.now)) (length c.digits_at-digits.result.now) c.loop-b.value
+all_read c =
+    let i : c.loop-b.b-index ≡ length c.digits_at-digits.result.now = omega (arith, c.loop-b-test.false, c.loop-b.auto.b-index-end) in
+    rw (← i, ← c.digits_at-digits.ensures) c.loop-b.invariant
 
--- the digit's value
-from_is : (c : After-from) → c.from.result ≡ get_or c.args.s.now c.loop-at.i 0 - 48
-from_is c = cc
+pub returns-then-digits-gt10 : goal.returns-then-digits-gt10
+returns-then-digits-gt10 c = run_long _ _ _ (rw c.digits_at-digits.ensures at c.if-digits-gt10.true)
 
-pub returns-then-i-at-ge10 : goal.returns-then-i-at-ge10
-returns-then-i-at-ge10 c = run_long _ _ _ _ _ c.loop-at.invariant (digit-here (goal.at.returns-then-i-at-ge10 c).In-loop-at) c.if-i-at-ge10.true
+pub overflow_sub-b : goal.overflow_sub-b
+overflow_sub-b c = (digit-here (goal.at.overflow_sub-b c).In-loop-b).0
 
-pub loop-at-preserved : goal.loop-at-preserved
-loop-at-preserved c = rw (from_is (goal.at.loop-at-preserved c).After-from) (run_step _ _ _ _ c.loop-at.invariant (digit-here (goal.at.loop-at-preserved c).In-loop-at) c.if-i-at-ge10.false)
+pub loop-b-preserved : goal.loop-b-preserved
+loop-b-preserved c =
+    rw c.from.ensures (run_step _ _ _ c.loop-b.invariant c.loop-b-test.true (digit-here (goal.at.loop-b-preserved c).In-loop-b))
 
--- the run is over, and the test decides
+pub overflow_add-result : goal.overflow_add-result
+overflow_add-result c =
+    let l = digits_few (drop c.args.at c.args.s.now) in
+    rw c.digits_at-digits.ensures (omega (arith, length-drop c.args.at c.args.s.now))
+
 pub returns-then-in_form : goal.returns-then-in_form
 returns-then-in_form c =
-    run_done _ _ _ _ _ c.loop-at.invariant (none_here (goal.at.returns-then-in_form c).After-loop-at) true
-    (rw c.byte_at-2.ensures at (sym c.in_form.ensures ∙ c.if-in_form.true))
+    run_done _ _ _ _ _ (all_read (goal.at.returns-then-in_form c).After-loop-b) (ap length c.digits_at-digits.ensures) true
+    (rw c.byte_at.ensures at (sym c.in_form.ensures ∙ c.if-in_form.true))
 
 pub returns-else-in_form : goal.returns-else-in_form
 returns-else-in_form c =
-    run_done _ _ _ _ _ c.loop-at.invariant (none_here (goal.at.returns-else-in_form c).After-loop-at) false
-    (rw c.byte_at-2.ensures at (sym c.in_form.ensures ∙ c.if-in_form.false))
+    run_done _ _ _ _ _ (all_read (goal.at.returns-else-in_form c).After-loop-b) (ap length c.digits_at-digits.ensures) false
+    (rw c.byte_at.ensures at (sym c.in_form.ensures ∙ c.if-in_form.false))

@@ -1,11 +1,7 @@
--- `text::read_number` meets its contract: the loop keeps `Run`, and the test of the whole run decides.
+-- `text::read_number` meets its contract: the loop keeps `Run`, and the test of all digits decides.
 -- Assumes nothing.
-use Prim.Native.Nat.{◌-◌, ◌+◌}
 use Rattle.text.proofs.Digits.{Run}
 use Rattle.text.proofs.read_number.Given as goal
 
-abbrev pub invariant-loop-at : goal.invariant-loop-at
-invariant-loop-at l = Run l.s l.at l.i l.value
-
-abbrev pub decreases-loop-at : goal.decreases-loop-at
-decreases-loop-at l = l.at + 10 - l.i
+abbrev pub invariant-loop-b : goal.invariant-loop-b
+invariant-loop-b l = Run l.digits l.b-index l.value
