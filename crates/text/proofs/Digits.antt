@@ -4,20 +4,19 @@ use mathlib.Core.Path.{◌≡◌, refl, sym, ap, ◌∙◌}
 use mathlib.Core.List.{List, [], ◌∷◌}
 use mathlib.Core.Bool.{Bool, true, false, cond}
 use Prim.Native.Nat.{ℕ, zero, suc, ◌+◌, ◌-◌, ◌*◌, ◌^◌, ◌≤◌, ◌<◌}
-use native.Mathlib.Nat.{pow-suc}
+use native.Mathlib.Nat.{add-zero, pow-suc}
 use native.Mathlib.Numerals.{add-one}
 use native.Mathlib.Omega.{arith}
 use lib.ListN.{length, get_or, take, drop}
-use lib.Seq.{take_all}
+use lib.Seq.{take_all, get_or-drop}
 use lib.Dec.{leb}
-use borrow.Author.Tests.{leb-true, lt-leb, le-leb}
+use borrow.Author.Tests.{leb-true}
 use Rattle.std.specs.List.{fold, prefix_len, take_while}
 use Rattle.std.proofs.lemmas.List.{length-take}
 use Rattle.std.proofs.lemmas.List.Sums.{fold_more, take_while-cons}
-use Rattle.text.specs.Number.{is_digit, digits, value, in_form, judged, number_at}
-use Rattle.text.specs.declared.Field.{Field}
+use Rattle.text.specs.Number.{is_digit, digits, value, is_numeral, number_at}
 use Rattle.text.specs.declared.Field.TheVariants.{Number, Bad}
-use Rattle.text.proofs.Tests.{both, by_test, false_true}
+use Rattle.text.proofs.Tests.{both, by_test}
 
 -- a digit is 48 to 57
 pub digit_range : (b : ℕ) → is_digit b ≡ true → (48 ≤ b) × (b ≤ 57)
@@ -82,18 +81,25 @@ run_step ds i v r l d =
 
 -- ---- the number that they are
 
--- more than ten digits are refused
-judged_long : (first n v max next : ℕ) → 10 < n → judged first n v max next ≡ Bad
-judged_long first n v max next h = rw (le-leb 1 n (omega arith), lt-leb n 10 h)
+-- the first of them is the first byte
+first_digit : (l : List ℕ) (first : ℕ) → get_or l 0 0 ≡ first → is_numeral (get_or (digits l) 0 0) (length (digits l)) ≡ is_numeral first (length (digits l))
+unfolding digits
+first_digit [] first e = refl
+first_digit (b ∷ l) first e = by_test (is_digit b) (λ t. rw (t, ← e)) (λ t. rw t)
 
-pub run_long : (s : List ℕ) (at max : ℕ) → 10 < length (digits (drop at s)) → Bad ≡ number_at s at max
-unfolding number_at
-run_long s at max h = sym (judged_long (get_or s at 0) (length (digits (drop at s))) (value 0 (digits (drop at s))) max (at + length (digits (drop at s))) h)
+numeral_head : (s : List ℕ) (at : ℕ) → is_numeral (get_or (digits (drop at s)) 0 0) (length (digits (drop at s))) ≡ is_numeral (get_or s at 0) (length (digits (drop at s)))
+numeral_head s at = first_digit (drop at s) (get_or s at 0) (rw (get_or-drop at s 0 0, add-zero at))
 
--- all of them are read, and the test t of them decides
-pub run_done : (s : List ℕ) (at i v max : ℕ) → Run (digits (drop at s)) i v → i ≡ length (digits (drop at s))
-    → (t : Bool) → in_form (get_or s at 0) i v max ≡ t → cond t (Number v (at + i)) Bad ≡ number_at s at max
-unfolding number_at
-run_done s at i v max r e t g =
-    let w : v ≡ value 0 (digits (drop at s)) = sym r.worth ∙ (ap (λ (x : List ℕ). fold more 0 x) (take_all i (digits (drop at s)) (omega arith)) ∙ value_fold 0 (digits (drop at s))) in
-    rw (← e, ← w, g)
+module _ (s : List ℕ) (at max : ℕ) where
+  pub run_bad : is_numeral (get_or (digits (drop at s)) 0 0) (length (digits (drop at s))) ≡ false → Bad ≡ number_at s at max
+  unfolding number_at
+  run_bad h = rw (sym (numeral_head s at) ∙ h)
+
+  -- all of them are read, and the test t of their value decides
+  pub run_done : is_numeral (get_or (digits (drop at s)) 0 0) (length (digits (drop at s))) ≡ true → (v : ℕ) → Run (digits (drop at s)) (length (digits (drop at s))) v
+      → (t : Bool) → leb v max ≡ t → cond t (Number v (at + length (digits (drop at s)))) Bad ≡ number_at s at max
+  unfolding number_at
+  run_done h v r t g =
+      let w : v ≡ value 0 (digits (drop at s)) =
+      sym r.worth ∙ (ap (λ (x : List ℕ). fold more 0 x) (take_all (length (digits (drop at s))) (digits (drop at s)) (omega arith)) ∙ value_fold 0 (digits (drop at s))) in
+      rw (sym (numeral_head s at) ∙ h, ← w, g)

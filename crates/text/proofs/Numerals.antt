@@ -2,7 +2,7 @@
 -- Assumes nothing.
 use mathlib.Core.Path.{◌≡◌, refl, sym, ap, ◌∙◌}
 use mathlib.Core.List.{List, [], ◌∷◌, ◌++◌, append_assoc, append-nil}
-use mathlib.Core.Bool.{Bool, true, false, not, cond, ◌&&◌}
+use mathlib.Core.Bool.{Bool, true, false, cond, ◌&&◌}
 use Prim.Native.Nat.{ℕ, ◌+◌, ◌-◌, ◌*◌, ◌^◌, ◌≤◌, ◌<◌}
 use native.Mathlib.Nat.{zero-add, add-zero, pow-suc, pow-le-pow_right}
 use native.Mathlib.Numerals.{add-one}
@@ -11,7 +11,7 @@ use lib.ListN.{length, get_or, drop, length-append, length-drop, get_or-append}
 use lib.Seq.{drop-drop, get_or-drop}
 use lib.Dec.{leb, ltb, eqb}
 use borrow.Author.Tests.{leb-true, leb-false, le-leb, ltb-false, le-ltb, eqb-true, eqb-false, eq-eqb, ne_eqb, not-true}
-use Rattle.text.specs.Number.{is_digit, digits, value, in_form, number_at}
+use Rattle.text.specs.Number.{is_digit, digits, value, is_numeral, in_form, number_at}
 use Rattle.text.specs.Numeral.{Numeral, digit, longer}
 use Rattle.text.specs.declared.Field.TheVariants.{Number, Bad}
 use Rattle.text.proofs.Tests.{both, never, by_test, false_true, above_zero}
@@ -150,11 +150,11 @@ run_of : (ds : List ℕ) (first max : ℕ) → digits ds ≡ ds → (0 < length 
     → Numeral ds (value 0 ds) × (value 0 ds ≤ max) × (0 < length ds)
 run_of [] first max h f g = absurd (false_true g)
 run_of (b ∷ ds) first max h f g =
-    let k = both (leb 1 (length (b ∷ ds))) _ g in
+    let m = both (is_numeral first (length (b ∷ ds))) _ g in
+    let k = both (leb 1 (length (b ∷ ds))) _ m.0 in
     let l = both (leb (length (b ∷ ds)) 10) _ k.1 in
-    let m = both (not (eqb first 48 && ltb 1 (length (b ∷ ds)))) _ l.1 in
     let e : first ≡ b = f (omega arith) in
-    (run_numeral b ds h (rw e at (not-true (eqb first 48 && ltb 1 (length (b ∷ ds))) m.0)), leb-true _ max m.1, omega arith)
+    (run_numeral b ds h (rw e at (not-true (eqb first 48 && ltb 1 (length (b ∷ ds))) l.1)), leb-true _ max m.1, omega arith)
 
 -- the first byte of what stands at a place
 head_at : (s : List ℕ) (at : ℕ) (w r : List ℕ) → drop at s ≡ w ++ r → 0 < length w → get_or w 0 0 ≡ get_or s at 0

@@ -19,9 +19,13 @@ unfoldable pub value : ℕ → List ℕ → ℕ
 value v [] = v
 value v (b ∷ ds) = value (v * 10 + (b - 48)) ds
 
--- whether `count` digits, the first of them given, are a number of at most max: one to ten of them, and no leading zero
+-- whether `count` digits, the first of them given, write a number: one to ten of them, and no leading zero
+abbrev pub is_numeral : ℕ → ℕ → Bool
+is_numeral first count = leb 1 count && (leb count 10 && not (eqb first 48 && ltb 1 count))
+
+-- and one of at most max
 abbrev pub in_form : ℕ → ℕ → ℕ → ℕ → Bool
-in_form first count v max = leb 1 count && (leb count 10 && (not (eqb first 48 && ltb 1 count) && leb v max))
+in_form first count v max = is_numeral first count && leb v max
 
 abbrev pub judged : ℕ → ℕ → ℕ → ℕ → ℕ → Field ℕ
 judged first count v max next = cond (in_form first count v max) (Number v next) Bad

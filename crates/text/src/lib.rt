@@ -1,12 +1,12 @@
 // Reads marks and number fields out of bytes. Every reader answers the place after what it read, or that it doesn't stand there.
-// A place past the end reads as byte 0, which is no digit, so no caller tests a length.
+// Past the end stand no digits and no key, so no caller tests a length.
 #![tactic(auto)]
 
 pub mod signed;
 
-ghost use Rattle.std.specs.Prelude.{◌≡◌, drop, get_or};
+ghost use Rattle.std.specs.Prelude.{◌≡◌, length, drop, get_or};
 ghost use Rattle.text.specs.Mark.{key_at, mark_at};
-ghost use Rattle.text.specs.Number.{digits, in_form, number_at, field_at};
+ghost use Rattle.text.specs.Number.{digits, is_numeral, number_at, field_at};
 
 // The largest number of a field without a sign, and of one with a sign.
 pub const LARGEST: u64 = 4_294_967_295;
@@ -27,20 +27,6 @@ pub struct Read<T> {
     pub next: usize,
 }
 
-// The byte at a place, 0 past the end.
-fn byte_at(s: &[u8], at: usize) -> u8
-    ensures { result ≡ get_or s.now at 0 }
-{
-    s.get(at).copied().unwrap_or(0)
-}
-
-// Whether count digits are a number of at most max.
-fn in_form(first: u8, count: usize, value: u64, max: u64) -> bool
-    ensures { result ≡ in_form first count value max }
-{
-    1 <= count && count <= 10 && !(first == b'0' && 1 < count) && value <= max
-}
-
 // All the digits from a place on.
 fn digits_at(s: &[u8], at: usize) -> &[u8]
     ensures { result.now ≡ digits (drop at s.now) }
@@ -50,19 +36,26 @@ fn digits_at(s: &[u8], at: usize) -> &[u8]
     &behind[..count]
 }
 
+// Whether digits write a number: one to ten of them, and no leading zero.
+fn is_numeral(digits: &[u8]) -> bool
+    ensures { result ≡ is_numeral (get_or digits.now 0 0) (length digits.now) }
+{
+    1 <= digits.len() && digits.len() <= 10 && !(digits[0] == b'0' && 1 < digits.len())
+}
+
 // A number of up to ten digits without a leading zero, at most max.
 pub fn read_number(s: &[u8], at: usize, max: u64) -> Field<u64>
     ensures { result ≡ number_at s.now at max }
 {
     let digits = digits_at(s, at);
-    if 10 < digits.len() {
+    if !is_numeral(digits) {
         return Field::Bad;
     }
     let mut value: u64 = 0;
     for b in digits {
         value = value * 10 + u64::from(b - b'0');
     }
-    if in_form(byte_at(s, at), digits.len(), value, max) {
+    if value <= max {
         Field::Number(value, at + digits.len())
     } else {
         Field::Bad

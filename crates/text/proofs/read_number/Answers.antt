@@ -1,8 +1,9 @@
 -- `text::read_number` meets its contract: the loop keeps `Run`, and the test of all digits decides.
 -- Assumes nothing.
-use Rattle.std.proofs.Common.{◌≡◌, ◌≤◌, true, false, length, get_or, drop, length-drop, sym, ap, ◌∙◌, arith}
-use Rattle.text.specs.Number.{digits}
-use Rattle.text.proofs.Digits.{Run, digit_at, digits_few, run_step, run_long, run_done}
+use Rattle.std.proofs.Common.{◌≡◌, ◌≤◌, true, false, length, get_or, drop, length-drop, sym, ◌∙◌, arith}
+use borrow.Author.Tests.{le-leb, lt-leb}
+use Rattle.text.specs.Number.{digits, is_numeral}
+use Rattle.text.proofs.Digits.{Run, digit_at, digits_few, run_step, run_bad, run_done}
 use Rattle.text.proofs.read_number.Goals as goal
 use Rattle.text.proofs.read_number.Goals.{In-loop-b, After-loop-b}
 
@@ -13,13 +14,17 @@ digit-here c =
     rw e (digit_at (drop c.args.at c.args.s.now) c.loop-b.b-index (rw e at c.loop-b-test.true))
 
 -- behind the loop all of them are read
-all_read : (c : After-loop-b) → Run (digits (drop c.args.at c.args.s.now)) (length c.digits_at-digits.result.now) c.loop-b.value
+all_read : (c : After-loop-b) → Run (digits (drop c.args.at c.args.s.now)) (length (digits (drop c.args.at c.args.s.now))) c.loop-b.value
 all_read c =
     let i : c.loop-b.b-index ≡ length c.digits_at-digits.result.now = omega (arith, c.loop-b-test.false, c.loop-b.auto.b-index-end) in
-    rw (← i, ← c.digits_at-digits.ensures) c.loop-b.invariant
+    rw c.digits_at-digits.ensures at (rw i at c.loop-b.invariant)
 
-pub returns-then-digits-gt10 : goal.returns-then-digits-gt10
-returns-then-digits-gt10 c = run_long _ _ _ (rw c.digits_at-digits.ensures at c.if-digits-gt10.true)
+-- and they write a number
+numeral : (c : After-loop-b) → is_numeral (get_or (digits (drop c.args.at c.args.s.now)) 0 0) (length (digits (drop c.args.at c.args.s.now))) ≡ true
+numeral c = rw c.digits_at-digits.ensures at (sym c.is_numeral.ensures ∙ c.if-not-is_numeral.false)
+
+pub returns-then-not-is_numeral : goal.returns-then-not-is_numeral
+returns-then-not-is_numeral c = run_bad _ _ _ (rw c.digits_at-digits.ensures at (sym c.is_numeral.ensures ∙ c.if-not-is_numeral.true))
 
 pub overflow_sub-b : goal.overflow_sub-b
 overflow_sub-b c = (digit-here (goal.at.overflow_sub-b c).In-loop-b).0
@@ -33,12 +38,12 @@ overflow_add-result c =
     let l = digits_few (drop c.args.at c.args.s.now) in
     rw c.digits_at-digits.ensures (omega (arith, length-drop c.args.at c.args.s.now))
 
-pub returns-then-in_form : goal.returns-then-in_form
-returns-then-in_form c =
-    run_done _ _ _ _ _ (all_read (goal.at.returns-then-in_form c).After-loop-b) (ap length c.digits_at-digits.ensures) true
-    (rw c.byte_at.ensures at (sym c.in_form.ensures ∙ c.if-in_form.true))
+pub returns-then-value-max : goal.returns-then-value-max
+returns-then-value-max c =
+    let d = (goal.at.returns-then-value-max c).After-loop-b in
+    rw c.digits_at-digits.ensures (run_done _ _ _ (numeral d) _ (all_read d) true (le-leb _ _ c.if-value-max.true))
 
-pub returns-else-in_form : goal.returns-else-in_form
-returns-else-in_form c =
-    run_done _ _ _ _ _ (all_read (goal.at.returns-else-in_form c).After-loop-b) (ap length c.digits_at-digits.ensures) false
-    (rw c.byte_at.ensures at (sym c.in_form.ensures ∙ c.if-in_form.false))
+pub returns-else-value-max : goal.returns-else-value-max
+returns-else-value-max c =
+    let d = (goal.at.returns-else-value-max c).After-loop-b in
+    run_done _ _ _ (numeral d) _ (all_read d) false (lt-leb _ _ c.if-value-max.false)
