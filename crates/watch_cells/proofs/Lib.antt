@@ -3,3 +3,4 @@ pub mod Points
 pub mod Steps
 pub mod Own
 pub mod Taken
+pub mod Chunks

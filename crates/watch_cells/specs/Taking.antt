@@ -17,7 +17,7 @@ use Rattle.tables.specs.declared.Operator.{Operator}
 use Rattle.tables.specs.declared.Operator.TheVariants.{Constant, Named, Negated, Unknown, Joined, Binary, Unary}
 use Rattle.tables.specs.Tree.{NODES}
 use Rattle.tables.specs.Rules.{is_child, left_use, right_use, timed, TableRules}
-use Rattle.predicates.specs.Predicates.{Named}
+use Rattle.predicates.specs.Predicates.{Named as EachSet}
 use Rattle.nesting.specs.Nesting.{Unnested}
 use Rattle.arrivals.specs.Arrivals.{Row, with_row}
 use Rattle.arrivals.specs.Fits.{Fits}
@@ -98,7 +98,7 @@ pub record SameBeyond (before after : List ℤ) : Type 0 where
 -- ---- a row that was accepted arrives
 pub record Arriving (values : List ℤ) (opening : Bool) (since : ℕ) (t : Table) (c : Card) (r : Row) : Type 0 where
   pub ruled : TableRules t
-  pub Named : Named c t
+  pub named : EachSet c t
   pub unnested : Unnested t
   pub fits : Fits c
   pub fits_next : Fits (with_row c r)

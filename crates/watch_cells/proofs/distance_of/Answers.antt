@@ -43,7 +43,7 @@ module _ {numbers : List ℕ} {cells values : List ℤ} {node : Node} {p : Predi
 range : (c : After-range_from-range) {p : Predicate} {k : ℕ} → LeafAsks c.args.numbers.now c.args.cells.now c.args.values.now c.args.node p k → c.range_from-range.result ≡ p.range
 range c a =
     c.range_from-range.ensures
-    ∙ ap₂ (range_from (get_or c.args.numbers.now (13 + 2 * (c.args.node.left % 16)) 0)) (back_ok _ c.range_from-arg-1.given) (back_ok _ c.range_from-arg-2-1.given)
+    ∙ ap₂ (range_from (get_or c.args.numbers.now (13 + 2 * (c.args.node.left % 16)) 0)) (back_ok _ c.range_from-arg-2-1.given) (back_ok _ c.range_from-arg-3-1.given)
     ∙ ap (λ (q : Predicate). q.range) (predicate a)
 
 pub returns-then-values-channel : goal.returns-then-values-channel
@@ -57,7 +57,7 @@ returns-then-not-range_obeys c = λ p k a. absurd (clash (answers (subst (λ (r 
 
 pub scaled_distance-requires : goal.scaled_distance-requires
 scaled_distance-requires c =
-    (in_back (c.requires.2.each _ c.if-values-channel.false), range_ends c.range_from-range.result (holds (sym c.range_obeys.ensures ∙ not-false _ c.if-not-range_obeys.false-raw)), c.if-scale-gt-MOST_SCALE.false)
+    (in_back (c.requires.each _ c.if-values-channel.false), range_ends c.range_from-range.result (holds (sym c.range_obeys.ensures ∙ not-false _ c.if-not-range_obeys.false-raw)), c.if-scale-gt-MOST_SCALE.false)
 
 pub returns : goal.returns
 returns c =

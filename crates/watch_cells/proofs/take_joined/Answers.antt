@@ -11,7 +11,7 @@ returns c =
     let n = c.node_of-node in
     let x = c.junction_at-newest in
     let y = c.junction_at-margin in
-    let few : c.args.k ≤ NODES = omega (arith, c.requires.2) in record {
+    let few : c.args.k ≤ NODES = omega (arith, c.requires) in record {
       taken = λ values opening since e.
           c.take_point.ensures.taken c.args.numbers.now values opening since _ n.ensures (rw (back_ok x.result x.type_inv) (x.ensures c.args.k few (rw n.ensures e))) (rw (back_ok y.result y.type_inv) (y.ensures c.args.k few (rw n.ensures e)));
       beyond = c.take_point.ensures.beyond;

@@ -56,7 +56,7 @@ returns-in_default c = record {
   taken = λ t d r A small K.
       let x = c.kind_of-kind in
       let o = c.in_default.in_default-own.rest in
-      let below = known A small (K.planned.nodes c.args.k c.requires.2) K in
+      let below = known A small (K.planned.nodes c.args.k c.requires.0) K in
       let four = past 0 x.result (omega arith) o.0.0.0.0.0.0.0.1 o.0.0.0.0.0.0.1 o.0.0.0.0.0.1 o.0.0.0.0.1 in
       let always = last_kind x.result (rw x.ensures below) (past 4 x.result four o.0.0.0.1 o.0.0.1 o.0.1 o.1) in
       c.take_unary-in_default.ensures.taken c.args.values.now (rw (sym x.ensures ∙ always) refl) t d r A small K;

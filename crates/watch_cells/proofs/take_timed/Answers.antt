@@ -2,7 +2,6 @@
 -- Assumes nothing.
 use mathlib.Core.Path.{◌≡◌, ◌∙◌}
 use native.Mathlib.Omega.{arith}
-use lib.ListN.{length-set}
 use Rattle.numbers.proofs.Bits.{back, back_ok, back_is}
 use Rattle.logic.specs.Formula.{dual}
 use Rattle.logic.specs.Reading.{margin_extreme}
@@ -10,12 +9,6 @@ use Rattle.watch_cells.specs.Taking.{margin_after, newest_of}
 use Rattle.watch_cells.proofs.Own.{three_only, three_first, three_second, three_third, beyond_kept}
 use Rattle.watch_cells.proofs.Taken.{room, timed_taken}
 use Rattle.watch_cells.proofs.take_timed.Goals as goal
-
-pub bounds-cells-k-2 : goal.bounds-cells-k-2
-bounds-cells-k-2 c = rw length-set (omega (arith, c.requires.0, c.requires.1))
-
-pub bounds-cells-k-3 : goal.bounds-cells-k-3
-bounds-cells-k-3 c = rw (length-set, length-set) (omega (arith, c.requires.0, c.requires.1))
 
 pub returns : goal.returns
 returns c =
@@ -38,9 +31,9 @@ returns c =
     let hz : back z.result ≡ margin_extreme (dual e) x.result c.args.left = back_ok z.result z.type_inv ∙ z.ensures ∙ rw (bx, back_is c.ranges.left, other) in
     let O = three_only l k _ _ _ in record {
       taken = λ numbers values n-is a t d r A small K.
-          let at = n-is ∙ K.planned.nodes k c.requires.1 in
+          let at = n-is ∙ K.planned.nodes k c.requires.0 in
           let i = room A small at K in
           timed_taken A small at K a m.result x.result w.result (m.ensures ∙ rw (back_ok o.result o.type_inv, o.ensures)) (x.ensures ∙ rw (back_ok p.result p.type_inv, p.ensures, other)) w.ensures
           O (three_first l k _ _ _ (i 0 (omega arith)) ∙ hv) (three_second l k _ _ _ (i 1 (omega arith)) ∙ hy) (three_third l k _ _ _ (i 2 (omega arith)) ∙ hz);
-      beyond = beyond_kept O c.requires.1;
+      beyond = beyond_kept O c.requires.0;
     }
