@@ -12,7 +12,6 @@ ghost use Rattle.recordings.specs.Card.{card_of, rows};
 use logic::Window;
 use recordings::Recording;
 use tables::{Node, Operator};
-use temporal::Left;
 
 // Row `row` gets the node's values, or, where it is not affirmed, those of its negation, from rows `left` and `right`.
 #[tactic(auto, unfolding(crate::specs::Values::node_value))]
@@ -54,11 +53,11 @@ pub fn node_row(
         }
         Operator::Binary(_, e) => {
             let e = logic::turn(affirmed, e);
-            temporal::temporal_row(times, e, window, work, Left::Row(left), right, row)
+            temporal::temporal_row(times, e, window, work, Some(left), right, row)
         }
         Operator::Unary(_, e) => {
             let e = logic::turn(affirmed, e);
-            temporal::temporal_row(times, e, window, work, Left::Absent, left, row)
+            temporal::temporal_row(times, e, window, work, None, left, row)
         }
     }
 }

@@ -4,7 +4,7 @@
 use mathlib.Core.Path.{◌≡◌, refl, sym, ◌∙◌, subst}
 use mathlib.Core.Bool.{true, not}
 use mathlib.Core.List.{List}
-use Prim.Native.Nat.{ℕ, ◌+◌, ◌-◌, ◌≤◌, ◌<◌, max}
+use Prim.Native.Nat.{ℕ, ◌+◌, ◌-◌, ◌≤◌, ◌<◌}
 use native.Mathlib.Omega.{arith}
 use native.Mathlib.Decide.{dec_le, dec_lt}
 use lib.Dec.{T, leb, ltb}
@@ -38,30 +38,12 @@ module _ {times : List ℕ} where
   pub reached_none : (s : Stop) → Reached times s 0 0
   reached_none s = record { in_times = omega arith; reached = λ j a b. absurd (omega arith) }
 
-  pub reached_from : (s : Stop) (i r : ℕ) → i < length times → Reached times s i r → Reached times s i (max i r)
-  reached_from s i r h k = record { in_times = omega (arith, k.in_times); reached = λ j a b. k.reached j a (omega arith) }
-
-  pub reached_more : (apart i j : ℕ) → j < length times → get_or times j 0 - get_or times i 0 < apart → Reached times (Before apart) i j → Reached times (Before apart) i (j + 1)
-  reached_more apart i j h g k = record {
-    in_times = omega arith;
-    reached = λ m a b. elim (dec_lt m j) [
-      | yes q ↦ k.reached m a q
-      | no q ↦ let p : m ≡ j = omega arith in rw p (lt-ltb _ apart g)
-    ];
-  }
-
   pub edge_found : Rising times → (apart i j : ℕ) → i ≤ j → apart ≤ get_or times j 0 - get_or times i 0 → Reached times (Before apart) i j → Edge times (Before apart) i j
   edge_found R apart i j h g k = record {
     from = h;
     short = k;
     past = λ m a b. le-ltb (get_or times m 0 - get_or times i 0) apart (omega (arith, rises R j m a b));
   }
-
-  pub edge_none : (s : Stop) (i r : ℕ) → i ≤ r → length times ≤ r → Reached times s i r → Edge times s i r
-  edge_none s i r h g k = record { from = h; short = k; past = λ m a b. absurd (omega arith) }
-
-  pub edge_endless : (i : ℕ) → i < length times → Edge times Endless i (length times)
-  edge_endless i h = edge_none Endless i (length times) (omega arith) (omega arith) (record { in_times = omega arith; reached = λ j a b. refl })
 
   -- ---- from one place to the next
   pub reached_next : Rising times → (s : Stop) (i r : ℕ) → Reached times s i r → Reached times s (i + 1) r

@@ -1,12 +1,14 @@
--- The row before place i: the places before it are filled. Both operands' rows stand before the row, so they lie in the cells and are as they were, whatever
--- stands meanwhile in the row's own places.
+-- The row before place i: the places before it are filled. Both operands' rows stand before the row, so they are as they were, whatever stands
+-- meanwhile in the row's own places.
 -- Assumes nothing.
 use mathlib.Core.Path.{◌≡◌, refl}
 use mathlib.Core.List.{List}
-use Prim.Native.Nat.{ℕ, ◌+◌, ◌*◌, ◌-◌, ◌≤◌, ◌<◌, max}
+use Prim.Native.Nat.{ℕ, ◌+◌, ◌*◌, ◌≤◌, ◌<◌, max}
 use native.Mathlib.Omega.{arith}
 use lib.IntN.{ℤ, pos}
 use lib.ListN.{length}
+use Rattle.std.specs.Option.{unwrap_or}
+use Rattle.std.specs.Prelude.{Option, Some, None}
 use Rattle.lists.specs.Fill.{fill}
 use Rattle.lists.proofs.Filled.{earlier_row}
 use Rattle.lists.proofs.Reused.{Reused, reused_none, reused_before, reused_all}
@@ -20,23 +22,17 @@ use Rattle.sliding.specs.declared.SlidingExtremum.{SlidingExtremum}
 use Rattle.sliding.specs.Run.{at_start}
 use Rattle.sliding.specs.Asks.{Sliding}
 use Rattle.sliding.proofs.Moves.{sliding_start}
-use Rattle.temporal.specs.declared.Left.{Left}
-use Rattle.temporal.specs.declared.Left.TheVariants.{Row, Absent}
 use Rattle.temporal.specs.Reading.{places, left_at, temporal_at, LeftInside, LeftEarlier}
 use Rattle.temporal.specs.Edges.{Reached}
-use Rattle.temporal.specs.Slid.{if_left, slid_operand}
+use Rattle.temporal.specs.Slid.{if_left}
 use Rattle.temporal.proofs.Edges.{reached_none}
 use Rattle.temporal.proofs.Slid.{if_left_same}
 
-pub left_inside : (left : Left) (cells n row : ℕ) → LeftEarlier row left → row * n + n ≤ cells → LeftInside cells n left
-left_inside (Row r) cells n row h k = omega (arith, earlier_row r row n h)
-left_inside Absent cells n row h k = tt
+pub left_kept : (x : Extremum) (left : Option ℕ) (w l : List ℤ) (n row : ℕ) → ((q : ℕ) → q < row → (j : ℕ) → j < n → cell l n q j ≡ cell w n q j) → LeftEarlier row left → (i : ℕ) → i < n → left_at x l n left i ≡ left_at x w n left i
+left_kept x (Some r) w l n row kept h i q = kept r h i q
+left_kept x None w l n row kept h i q = refl
 
-pub left_kept : (x : Extremum) (left : Left) (w l : List ℤ) (n row : ℕ) → ((q : ℕ) → q < row → (j : ℕ) → j < n → cell l n q j ≡ cell w n q j) → LeftEarlier row left → (i : ℕ) → i < n → left_at x l n left i ≡ left_at x w n left i
-left_kept x (Row r) w l n row kept h i q = kept r h i q
-left_kept x Absent w l n row kept h i q = refl
-
-module _ (x : Extremum) (v : Window) (times : List ℕ) (left : Left) (right row : ℕ) (w : List ℤ) where
+module _ (x : Extremum) (v : Window) (times : List ℕ) (left : Option ℕ) (right row : ℕ) (w : List ℤ) where
   -- the row's values
   abbrev pub value : ℕ → ℤ
   value = temporal_at Future x v (places times) (left_at x w (length times) left) (cell w (length times) right)
@@ -48,7 +44,7 @@ module _ (x : Extremum) (v : Window) (times : List ℕ) (left : Left) (right row
     pub ended : Reached times v.stop i end
     pub high_is : s.high ≡ if_left left first end
     -- the next run begins at no earlier place
-    pub sliding : Sliding (if_left left (dual x) x) (cell w (length times) (slid_operand left right)) (cell l (length times) row) s (if_left left i (max i first))
+    pub sliding : Sliding (if_left left (dual x) x) (cell w (length times) (unwrap_or left right)) (cell l (length times) row) s (if_left left i (max i first))
 
   pub none_so_far : SoFar w (at_start (if_left left (dual x) x)) 0 0 0
   none_so_far = record {
@@ -56,7 +52,7 @@ module _ (x : Extremum) (v : Window) (times : List ℕ) (left : Left) (right row
     begun = reached_none (Before v.from);
     ended = reached_none v.stop;
     high_is = if_left_same left 0;
-    sliding = sliding_start (if_left left (dual x) x) (cell w (length times) (slid_operand left right)) (cell w (length times) row) (if_left left 0 0);
+    sliding = sliding_start (if_left left (dual x) x) (cell w (length times) (unwrap_or left right)) (cell w (length times) row) (if_left left 0 0);
   }
 
   -- earlier rows are as they were

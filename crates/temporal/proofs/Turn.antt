@@ -8,6 +8,8 @@ use native.Mathlib.Omega.{arith}
 use lib.IntN.{ℤ, pos}
 use lib.ListN.{length, set}
 use lib.Seq.{get_or-set_other}
+use Rattle.std.specs.Option.{unwrap_or}
+use Rattle.std.specs.Prelude.{Option}
 use Rattle.lists.proofs.Filled.{earlier_row}
 use Rattle.lists.proofs.Reused.{Reused, reused_length, reused_else, reused_next}
 use Rattle.logic.specs.declared.Stop.TheVariants.{Before}
@@ -24,10 +26,9 @@ use Rattle.sliding.specs.Asks.{Sliding, AdvanceAsks}
 use Rattle.sliding.proofs.Over.{over_cong}
 use Rattle.sliding.proofs.Moves.{cut_below, sliding_advanced, sliding_kept}
 use Rattle.sliding.proofs.Suffixes.{suffixed_at}
-use Rattle.temporal.specs.declared.Left.{Left}
 use Rattle.temporal.specs.Reading.{left_at, LeftInside}
 use Rattle.temporal.specs.Edges.{Edge}
-use Rattle.temporal.specs.Slid.{if_left, slid_operand, slid_at}
+use Rattle.temporal.specs.Slid.{if_left, slid_at}
 use Rattle.temporal.specs.Asks.{PlaceAsks, TemporalAsks}
 use Rattle.temporal.proofs.Along.{between}
 use Rattle.temporal.proofs.Edges.{reached_next, edge_rises, edges_inside}
@@ -35,19 +36,19 @@ use Rattle.temporal.proofs.Slid.{if_left_holds, if_left_le, operand_earlier}
 use Rattle.temporal.proofs.Row.{left_inside, left_kept, value, SoFar, kept}
 
 -- the edges have moved on to first and end, and what slides along is to move to low and high
-pub record Turn (x : Extremum) (v : Window) (times : List ℕ) (left : Left) (right row : ℕ) (w l : List ℤ) (s : SlidingExtremum) (i first end operand : ℕ) (by : Extremum) (low high : ℕ) : Type 0 where
+pub record Turn (x : Extremum) (v : Window) (times : List ℕ) (left : Option ℕ) (right row : ℕ) (w l : List ℤ) (s : SlidingExtremum) (i first end operand : ℕ) (by : Extremum) (low high : ℕ) : Type 0 where
   pub first_before : ℕ
   pub end_before : ℕ
   pub so_far : SoFar x v times left right row w l s first_before end_before i
   pub inside : i < length times
   pub first_edge : Edge times (Before v.from) i first
   pub end_edge : Edge times v.stop i end
-  pub operand_is : operand ≡ slid_operand left right
+  pub operand_is : operand ≡ unwrap_or left right
   pub by_is : by ≡ if_left left (dual x) x
   pub low_is : low ≡ if_left left i first
   pub high_is : high ≡ if_left left first end
 
-module _ {x : Extremum} {v : Window} {times : List ℕ} {left : Left} {right row : ℕ} {w l : List ℤ} {s : SlidingExtremum} {i first end operand : ℕ} {by : Extremum} {low high : ℕ} (asks : TemporalAsks w times left right row) (T : Turn x v times left right row w l s i first end operand by low high) where
+module _ {x : Extremum} {v : Window} {times : List ℕ} {left : Option ℕ} {right row : ℕ} {w l : List ℤ} {s : SlidingExtremum} {i first end operand : ℕ} {by : Extremum} {low high : ℕ} (asks : TemporalAsks w times left right row) (T : Turn x v times left right row w l s i first end operand by low high) where
   abbrev n : ℕ
   n = length times
 
@@ -73,7 +74,7 @@ module _ {x : Extremum} {v : Window} {times : List ℕ} {left : Left} {right row
   earlier = rw T.operand_is (operand_earlier left asks.left_earlier asks.right_earlier)
 
   -- the operand's values are those at the beginning
-  values_kept : (j : ℕ) → j < n → cell w n (slid_operand left right) j ≡ cell l n operand j
+  values_kept : (j : ℕ) → j < n → cell w n (unwrap_or left right) j ≡ cell l n operand j
   values_kept j h = rw (← T.operand_is) (sym (kept x v times left right row w reused_now operand earlier j h))
 
   moving : Sliding by (cell l n operand) (cell l n row) s low
@@ -111,16 +112,6 @@ module _ {x : Extremum} {v : Window} {times : List ℕ} {left : Left} {right row
     still : (q : ℕ) → q < row → (j : ℕ) → j < n → cell l' n q j ≡ cell w n q j
     still = kept x v times left right row w reused_still
 
-    pub place_asks : PlaceAsks l' n right i first end × LeftInside (length l') n left
-    place_asks = let r = advanced_length in (
-      record {
-        right_inside = omega (arith, asks.room, earlier_row right row n asks.right_earlier);
-        from = T.first_edge.from;
-        end_inside = T.end_edge.short.in_times;
-      },
-      left_inside left (length l') n row asks.left_earlier (omega (arith, asks.room)),
-    )
-
     pub right_bounded : Bounded l' n right
     right_bounded = record { bounded = λ j q. rw (still right asks.right_earlier j q) (asks.right_bounded.bounded j q) }
 
@@ -145,7 +136,7 @@ module _ {x : Extremum} {v : Window} {times : List ℕ} {left : Left} {right row
       high_is = rw m T.high_is;
       sliding =
           rw (← T.by_is)
-          (sliding_kept after n (if_left left (i + 1) (max (i + 1) first)) (cell w n (slid_operand left right)) (cell (set l' (row * n + i) u) n row)
+          (sliding_kept after n (if_left left (i + 1) (max (i + 1) first)) (cell w n (unwrap_or left right)) (cell (set l' (row * n + i) u) n row)
           (rw T.low_is (if_left_le left (omega arith) (omega arith)))
           (rw m high_inside)
           (λ j q. sym (values_kept j q))

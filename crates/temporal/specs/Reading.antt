@@ -1,6 +1,6 @@
 -- What a temporal row holds: until and release, eventually and always, read over the places of a list of times.
 -- Assumes nothing.
-use Rattle.std.specs.Prelude.{List, ℕ, suc, ◌+◌, ◌*◌, ◌≤◌, ◌<◌, ℤ, length, get_or}
+use Rattle.std.specs.Prelude.{Option, Some, None, List, ℕ, suc, ◌+◌, ◌*◌, ◌≤◌, ◌<◌, ℤ, length, get_or}
 use Rattle.logic.specs.declared.Window.{Window}
 use Rattle.logic.specs.declared.Extremum.{Extremum}
 use Rattle.logic.specs.Formula.{dual}
@@ -8,17 +8,15 @@ use Rattle.logic.specs.declared.Direction.{Direction}
 use Rattle.logic.specs.Reading.{Places, place, count, offset, along, margins, margin_nothing}
 use Rattle.recordings.specs.Distance.{TOP}
 use Rattle.rows.specs.Cells.{cell}
-use Rattle.temporal.specs.declared.Left.{Left}
-use Rattle.temporal.specs.declared.Left.TheVariants.{Row, Absent}
 
 -- one place for each time
 abbrev pub places : List ℕ → Places
 places times = record { first = 0; end = length times; time = λ i. get_or times i 0 }
 
 -- the left operand: a row; or nothing, for eventually, which is until from true, and for always, which is release from false
-abbrev pub left_at : Extremum → List ℤ → ℕ → Left → ℕ → ℤ
-left_at e w n (Row r) i = cell w n r i
-left_at e w n Absent i = margin_nothing TOP (dual e)
+abbrev pub left_at : Extremum → List ℤ → ℕ → Option ℕ → ℕ → ℤ
+left_at e w n (Some r) i = cell w n r i
+left_at e w n None i = margin_nothing TOP (dual e)
 
 -- the reading of a temporal operator at place i, from its operands' values
 abbrev pub temporal_at : Direction → Extremum → Window → Places → (ℕ → ℤ) → (ℕ → ℤ) → ℕ → ℤ
@@ -29,11 +27,11 @@ pub record Rising (times : List ℕ) : Type 0 where
   pub rising : (i : ℕ) → suc i < length times → get_or times i 0 < get_or times (suc i) 0
 
 -- an operand's row lies in the cells
-abbrev pub LeftInside : ℕ → ℕ → Left → Type 0
-LeftInside cells n (Row r) = r * n + n ≤ cells
-LeftInside cells n Absent = Unit
+abbrev pub LeftInside : ℕ → ℕ → Option ℕ → Type 0
+LeftInside cells n (Some r) = r * n + n ≤ cells
+LeftInside cells n None = Unit
 
 -- an operand's row stands before the row that is filled
-abbrev pub LeftEarlier : ℕ → Left → Type 0
-LeftEarlier row (Row r) = r < row
-LeftEarlier row Absent = Unit
+abbrev pub LeftEarlier : ℕ → Option ℕ → Type 0
+LeftEarlier row (Some r) = r < row
+LeftEarlier row None = Unit

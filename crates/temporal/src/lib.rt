@@ -13,25 +13,11 @@ ghost use Rattle.recordings.specs.Distance.{TOP};
 ghost use Rattle.rows.specs.Cells.{cell, Bounded};
 ghost use Rattle.sliding.specs.Run.{over};
 ghost use Rattle.temporal.specs.Reading.{places, left_at, temporal_at, Rising, LeftInside};
-ghost use Rattle.temporal.specs.Slid.{if_left, slid_operand, slid_at};
+ghost use Rattle.temporal.specs.Slid.{if_left, slid_at};
 ghost use Rattle.temporal.specs.Edges.{Reached, Edge};
 ghost use Rattle.temporal.specs.Asks.{PlaceAsks, TemporalAsks};
 
 use logic::{Extremum, Stop, Window};
-
-// The left operand: a row, or none for eventually and always.
-#[derive(Clone, Copy)]
-pub enum Left {
-    Row(usize),
-    Absent,
-}
-
-// The later of two places.
-fn later(a: usize, b: usize) -> usize
-    ensures { result ≡ max a b }
-{
-    if a < b { b } else { a }
-}
 
 // The first place from i on that is at least `apart` seconds after i. None from i up to `at` is.
 fn first_apart(times: &[u64], i: usize, at: usize, apart: u64) -> usize
@@ -40,14 +26,12 @@ fn first_apart(times: &[u64], i: usize, at: usize, apart: u64) -> usize
     ensures { Edge times.now (Before apart) i result }
 {
     let start = times[i];
-    let mut j = later(i, at);
-    while j < times.len() {
+    for j in i.max(at)..times.len() {
         if apart <= times[j] - start {
             return j;
         }
-        j += 1;
     }
-    j
+    times.len()
 }
 
 // The first place from i on that is past the stop of i. None from i up to `at` is.
@@ -91,13 +75,11 @@ fn bound_at(
     let other = logic::dual(e);
     let mut best = points::over_nothing(e);
     let mut run = carried;
-    let mut j = first;
-    while j < end {
+    for j in first..end {
         let r = rows::cell_at(rows, cells, right, j);
         let l = rows::cell_at(rows, cells, left, j);
         best = points::extreme(e, best, points::extreme(other, r, run));
         run = points::extreme(other, run, l);
-        j += 1;
         if settled(e, best, run) {
             return best;
         }
@@ -110,7 +92,7 @@ fn at_place(
     rows: usize,
     e: Extremum,
     cells: &[i64],
-    left: Left,
+    left: Option<usize>,
     right: usize,
     i: usize,
     first: usize,
@@ -122,39 +104,23 @@ fn at_place(
     ensures { result ≡ along (margins TOP) e (record { from = first; stop = Before end }) (λ m. i + m) (λ m. left_at e cells.now rows left (i + m)) (λ m. cell cells.now rows right (i + m)) (rows - i) }
 {
     match left {
-        Left::Row(operand) => bound_at(rows, e, cells, operand, right, i, first, end, slid),
-        Left::Absent => slid,
+        Some(operand) => bound_at(rows, e, cells, operand, right, i, first, end, slid),
+        None => slid,
     }
 }
 
 // Of two places, the one for until and release, or the one for eventually and always.
-fn if_left(left: Left, bound: usize, lone: usize) -> usize
+fn if_left(left: Option<usize>, bound: usize, lone: usize) -> usize
     ensures { result ≡ if_left left bound lone }
 {
-    match left {
-        Left::Row(_) => bound,
-        Left::Absent => lone,
-    }
+    if left.is_some() { bound } else { lone }
 }
 
-// The operand that slides along: left, or right where there is no left.
-fn slid_operand(left: Left, right: usize) -> usize
-    ensures { result ≡ slid_operand left right }
-{
-    match left {
-        Left::Row(operand) => operand,
-        Left::Absent => right,
-    }
-}
-
-// How it is joined: left by the dual.
-fn slid_extremum(left: Left, e: Extremum) -> Extremum
+// How what slides along is joined: left by the dual.
+fn slid_extremum(left: Option<usize>, e: Extremum) -> Extremum
     ensures { result ≡ if_left left (dual e) e }
 {
-    match left {
-        Left::Row(_) => logic::dual(e),
-        Left::Absent => e,
-    }
+    if left.is_some() { logic::dual(e) } else { e }
 }
 
 // The row of until (the largest) or release, or without a left operand of eventually (the largest) or always.
@@ -163,7 +129,7 @@ pub fn temporal_row(
     e: Extremum,
     window: Window,
     work: &mut [i64],
-    left: Left,
+    left: Option<usize>,
     right: usize,
     row: usize,
 )
@@ -172,22 +138,18 @@ pub fn temporal_row(
 {
     let rows = times.len();
     let base = row * rows;
-    let from = window.from;
-    let begin = Stop::Before(from);
-    let stop = window.stop;
-    let operand = slid_operand(left, right);
+    let begin = Stop::Before(window.from);
+    let operand = left.unwrap_or(right);
     let by = slid_extremum(left, e);
     let mut extremum = sliding::start(by);
     let mut first = 0;
     let mut end = 0;
-    let mut i = 0;
-    while i < rows {
+    for i in 0..rows {
         first = edge(times, i, first, begin);
-        end = edge(times, i, end, stop);
+        end = edge(times, i, end, window.stop);
         let low = if_left(left, i, first);
         let high = if_left(left, first, end);
         extremum = sliding::advanced(rows, by, work, operand, row, extremum, low, high);
         work[base + i] = at_place(rows, e, work, left, right, i, first, end, extremum.value);
-        i += 1;
     }
 }

@@ -2,7 +2,6 @@
 -- where the carried value is beaten nothing later counts.
 -- Assumes nothing.
 use mathlib.Core.Path.{◌≡◌}
-use Prim.Native.Nat.{◌-◌, ◌≤◌}
 use Rattle.rows.specs.Cells.{cell}
 use Rattle.logic.specs.Formula.{dual}
 use Rattle.sliding.specs.Run.{over}
@@ -11,10 +10,5 @@ use Rattle.temporal.proofs.bound_at.Given as goal
 
 abbrev pub invariant-loop-j : goal.invariant-loop-j
 invariant-loop-j l =
-    (l.i ≤ l.j)
-    × (l.first ≤ l.j)
-    × (l.best ≡ best l.first l.end l.e (cell l.cells l.rows l.left) (cell l.cells l.rows l.right) l.i l.j)
+    (l.best ≡ best l.first l.end l.e (cell l.cells l.rows l.left) (cell l.cells l.rows l.right) l.i l.j)
     × (l.run ≡ over (dual l.e) (cell l.cells l.rows l.left) l.i l.j)
-
-abbrev pub decreases-loop-j : goal.decreases-loop-j
-decreases-loop-j l = l.end - l.j
