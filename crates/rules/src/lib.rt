@@ -1,12 +1,12 @@
 // Refusals 3, 4, 13 and 5 to 7: what a table, a setup and a recording are judged by before a margin is taken. Their sentences are listed in specs/Refusals.
 #![tactic(auto)]
 
-ghost use Rattle.std.specs.Prelude.{◌≡◌, [], ◌≤◌};
+ghost use Rattle.std.specs.Prelude.{◌≡◌, [], ◌≤◌, length};
 ghost use Rattle.refusals.specs.First.{first};
 ghost use Rattle.refusals.specs.Number.{number_of};
 ghost use Rattle.rules.specs.Recording.{samples_obey, lengths_obey, all_rising, all_early, times_obey, values_obey};
 ghost use Rattle.rules.specs.Refusals.{table_checks, checks};
-ghost use Rattle.recordings.specs.Card.{card, card_of};
+ghost use Rattle.recordings.specs.Card.{card, card_of, rows};
 ghost use Rattle.recordings.specs.Accepted.{MOST_CHANNELS};
 
 use recordings::{LATEST, MOST_ROWS, Recording, Setup};
@@ -22,13 +22,15 @@ fn samples_obey(channels: usize, rows: usize, values: usize) -> bool
     rows <= MOST_ROWS && 1 <= rows && values == rows * channels
 }
 
-// `scales` is the count of scales.
+// Refusal 5.
 #[tactic(auto, unfolding(crate::specs::Recording::lengths_obey))]
-fn lengths_obey(scales: usize, channels: usize, rows: usize, values: usize) -> bool
-    requires { channels ≤ MOST_CHANNELS }
-    ensures { result ≡ lengths_obey scales channels rows values }
+fn lengths_obey(recording: &Recording) -> bool
+    requires { recording.now.setup.channels ≤ MOST_CHANNELS }
+    ensures { let c = card_of recording.now in result ≡ lengths_obey c.setup.scales.count c.setup.channels (rows c) (length c.values) }
 {
-    scales == channels && samples_obey(channels, rows, values)
+    let setup = recording.setup;
+    let (rows, values) = (recording.times.len(), recording.values.len());
+    setup.scales.count == setup.channels && samples_obey(setup.channels, rows, values)
 }
 
 fn all_rising(times: &[u64]) -> bool
@@ -78,24 +80,14 @@ pub fn table_refusal(table: Table, setup: Setup) -> Result<(), Refusal>
 pub fn refusal(table: Table, recording: &Recording) -> Result<(), Refusal>
     ensures { number_of result ≡ first (checks (card_of recording.now) table) }
 {
-    let Recording {
-        setup,
-        times,
-        values,
-    } = *recording;
-    table_refusal(table, setup)?;
-    if !lengths_obey(
-        setup.scales.count,
-        setup.channels,
-        times.len(),
-        values.len(),
-    ) {
+    table_refusal(table, recording.setup)?;
+    if !lengths_obey(recording) {
         return Err(Refusal::Samples);
     }
-    if !times_obey(times) {
+    if !times_obey(recording.times) {
         return Err(Refusal::Times);
     }
-    if !values_obey(values) {
+    if !values_obey(recording.values) {
         return Err(Refusal::Values);
     }
     Ok(())
