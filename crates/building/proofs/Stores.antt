@@ -42,7 +42,7 @@ unfolding step_of
 step_none o = refl
 
 refused_read : {e r f : ℕ} → None ≡ read_part e r f → ⊥
-refused_read h = let z : ◌≡◌ {A = ℕ} 0 1 = cc in omega arith
+refused_read h = cc
 
 -- a tree that is refused for its size, or none
 pub refused_big : (o : ℕ) (a : Tree) (n : ℕ) → step_of o (got a n) ≡ None → NODES < o + size a

@@ -17,6 +17,7 @@ pub const WIDTH: usize = 7;
 pub const CELLS: usize = WIDTH * tables::NODES;
 
 // A part of the grammar that was read, as the nodes of its tree: the place after it, its root's number and the next free number.
+// The free number goes with what was read, and not with the cells, which are lent: a part that is refused has none.
 #[derive(Clone, Copy)]
 pub struct Subtree {
     pub end: usize,

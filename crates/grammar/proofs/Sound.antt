@@ -40,7 +40,7 @@ pub sound_onward : {p : Part} {d : ℕ} (part : Reads) → Sound p d part → On
 sound_onward part h s at a n e = let b = (h s at a n e).between.end in omega arith
 
 pub none_got : {a : Tree} {n : ℕ} → none ≡ got a n → ⊥
-none_got h = let z : ◌≡◌ {A = ℕ} 0 1 = cc in omega arith
+none_got h = cc
 
 pub got_taken : (a : Tree) (n : ℕ) (x : Reading) (f : Tree → ℕ → Reading) → on_got x f ≡ got a n → (b : Tree) × (m : ℕ) × (x ≡ got b m) × (f b m ≡ got a n)
 got_taken a n (got b m) f h = (b, m, refl, h)

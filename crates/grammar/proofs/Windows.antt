@@ -38,7 +38,7 @@ pub record WindowIs (s : List ℕ) (at : ℕ) (r : Span) (n : ℕ) : Type 0 wher
   pub window : WindowText word r
 
 bad_ends : {r : Span} {n : ℕ} → None ≡ read r n → ⊥
-bad_ends h = let z : ◌≡◌ {A = ℕ} 0 1 = cc in omega arith
+bad_ends h = cc
 
 same_ends : {q r : Span} {m n : ℕ} → read q m ≡ read r n → (m ≡ n) × (q ≡ r)
 same_ends {r = r} h = (ap (λ (w : Option (Read Span)). after w (λ x. x.next) 0) h, ap (λ (w : Option (Read Span)). after w (λ x. x.value) r) h)
@@ -64,7 +64,7 @@ bracket_is bracket s at m n h = go (mark_at (bracket false) s at) refl (mark_at 
         let a : 1 ≡ m = cc in
         let b : k ≡ n = cc in
         record { excluded = true; mark_is_it = sym a; between = rw (← b) (mark_is (bracket true) s at k f) }
-    go None e None f h = let z : ◌≡◌ {A = ℕ} 0 1 = cc in absurd (omega arith)
+    go None e None f h = absurd (cc)
 
 -- a mark is 0 or 1
 pub bracket_small : (counted excluded s : List ℕ) (at : ℕ) {m n : ℕ} → bracket_at counted excluded s at ≡ Number m n → m ≤ 1
@@ -74,7 +74,7 @@ bracket_small counted excluded s at {m} {n} h = go (mark_at counted s at) (mark_
     go : (x y : Option ℕ) → after x (λ k. Number 0 k) (after y (λ k. Number 1 k) Field_as_Bad) ≡ Number m n → m ≤ 1
     go (Some k) y h = let a : 0 ≡ m = cc in omega arith
     go None (Some k) h = let a : 1 ≡ m = cc in omega arith
-    go None None h = let z : ◌≡◌ {A = ℕ} 0 1 = cc in absurd (omega arith)
+    go None None h = absurd (cc)
 
 -- two brackets of one byte each are told apart
 bracket_made : (square round : ℕ) → eqb round square ≡ false → (b : Bool) (s : List ℕ) (at : ℕ) (t : List ℕ) → drop at s ≡ cond b round square ∷ t → bracket_at (square ∷ []) (round ∷ []) s at ≡ Number (mark b) (at + 1)
@@ -199,7 +199,7 @@ pub record OperatorIs (ks s : List ℕ) (at k : ℕ) (r : Span) (n : ℕ) : Type
 
 pub timed_is : (ks s : List ℕ) (at k : ℕ) (r : Span) (n : ℕ) → timed_among ks s at ≡ Over k r n → OperatorIs ks s at k r n
 unfolding timed_among timed_at
-timed_is [] s at k r n h = let z : ◌≡◌ {A = ℕ} 0 1 = cc in absurd (omega arith)
+timed_is [] s at k r n h = absurd (cc)
 timed_is (j ∷ ks) s at k r n h = go (timed_is ks s at k r n) (mark_at (letter j) s at) refl h
   where
     over : (m : ℕ) → mark_at (letter j) s at ≡ Some m → (x : Option (Read Span)) → window_at s m ≡ x → or_else (over_window j x) (timed_among ks s at) ≡ Over k r n → OperatorIs (j ∷ ks) s at k r n
@@ -214,7 +214,7 @@ timed_is (j ∷ ks) s at k r n h = go (timed_is ks s at k r n) (mark_at (letter 
           between = rw (← a) (between_both (mark_is (letter j) s at m e) w.between);
           window = w.window;
         }
-    over m e None f g = let z : ◌≡◌ {A = ℕ} 0 1 = cc in absurd (omega arith)
+    over m e None f g = absurd (cc)
 
     go : (timed_among ks s at ≡ Over k r n → OperatorIs ks s at k r n) → (m : Option ℕ) → mark_at (letter j) s at ≡ m
         → or_else (after m (λ i. over_window j (window_at s i)) Absent) (timed_among ks s at) ≡ Over k r n → OperatorIs (j ∷ ks) s at k r n
