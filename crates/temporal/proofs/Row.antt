@@ -22,7 +22,7 @@ use Rattle.sliding.specs.declared.SlidingExtremum.{SlidingExtremum}
 use Rattle.sliding.specs.Run.{at_start}
 use Rattle.sliding.specs.Asks.{Sliding}
 use Rattle.sliding.proofs.Moves.{sliding_start}
-use Rattle.temporal.specs.Reading.{places, left_at, temporal_at, LeftInside, LeftEarlier}
+use Rattle.temporal.specs.Reading.{places, left_at, temporal_at, LeftEarlier}
 use Rattle.temporal.specs.Edges.{Reached}
 use Rattle.temporal.specs.Slid.{if_left}
 use Rattle.temporal.proofs.Edges.{reached_none}

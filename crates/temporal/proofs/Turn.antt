@@ -10,7 +10,6 @@ use lib.ListN.{length, set}
 use lib.Seq.{get_or-set_other}
 use Rattle.std.specs.Option.{unwrap_or}
 use Rattle.std.specs.Prelude.{Option}
-use Rattle.lists.proofs.Filled.{earlier_row}
 use Rattle.lists.proofs.Reused.{Reused, reused_length, reused_else, reused_next}
 use Rattle.logic.specs.declared.Stop.TheVariants.{Before}
 use Rattle.logic.specs.declared.Window.{Window}
@@ -26,14 +25,14 @@ use Rattle.sliding.specs.Asks.{Sliding, AdvanceAsks}
 use Rattle.sliding.proofs.Over.{over_cong}
 use Rattle.sliding.proofs.Moves.{cut_below, sliding_advanced, sliding_kept}
 use Rattle.sliding.proofs.Suffixes.{suffixed_at}
-use Rattle.temporal.specs.Reading.{left_at, LeftInside}
+use Rattle.temporal.specs.Reading.{left_at}
 use Rattle.temporal.specs.Edges.{Edge}
 use Rattle.temporal.specs.Slid.{if_left, slid_at}
-use Rattle.temporal.specs.Asks.{PlaceAsks, TemporalAsks}
+use Rattle.temporal.specs.Asks.{TemporalAsks}
 use Rattle.temporal.proofs.Along.{between}
 use Rattle.temporal.proofs.Edges.{reached_next, edge_rises, edges_inside}
 use Rattle.temporal.proofs.Slid.{if_left_holds, if_left_le, operand_earlier}
-use Rattle.temporal.proofs.Row.{left_inside, left_kept, value, SoFar, kept}
+use Rattle.temporal.proofs.Row.{left_kept, value, SoFar, kept}
 
 -- the edges have moved on to first and end, and what slides along is to move to low and high
 pub record Turn (x : Extremum) (v : Window) (times : List ℕ) (left : Option ℕ) (right row : ℕ) (w l : List ℤ) (s : SlidingExtremum) (i first end operand : ℕ) (by : Extremum) (low high : ℕ) : Type 0 where
