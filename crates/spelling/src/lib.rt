@@ -32,8 +32,7 @@ pub fn left_part(part: Part) -> Part
     match part {
         Part::Alternative => Part::Alternative,
         Part::Conjunction => Part::Conjunction,
-        Part::Bind => Part::Unary,
-        Part::Unary => Part::Unary,
+        Part::Bind | Part::Unary => Part::Unary,
     }
 }
 
@@ -44,8 +43,7 @@ pub fn right_part(part: Part) -> Part
     match part {
         Part::Alternative => Part::Conjunction,
         Part::Conjunction => Part::Bind,
-        Part::Bind => Part::Unary,
-        Part::Unary => Part::Unary,
+        Part::Bind | Part::Unary => Part::Unary,
     }
 }
 
