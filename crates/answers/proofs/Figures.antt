@@ -12,7 +12,8 @@ use Rattle.margins.specs.Answers.{margin_judged}
 use Rattle.margins.proofs.Promises.{none_number, margin_is}
 use Rattle.verdicts.specs.Answer.{verdict_refusal, verdict_judged}
 use Rattle.verdicts.proofs.Promises.{number_none, verdict_is, hold_is, fail_is}
-use Rattle.answers.specs.Answers.{CELLS, refused_by, answered}
+use Rattle.outcomes.specs.Outcome.{refused_by}
+use Rattle.answers.specs.Answers.{CELLS, answered}
 
 -- under a refusal nothing but its number is left
 pub only_number : (n : ℕ) (c : Card) (t : Table) (step drift filled : ℕ) → (n ≡ 0 → ⊥) → refused_by n ≡ answered n c t step drift filled
@@ -32,7 +33,7 @@ module _ (c : Card) (t : Table) (step drift filled : ℕ) where
   judge_refused n e h = rw (sym (e ∙ number_is)) (only_number n c t step drift filled h)
 
   module _ (e : (verdict_judged c t step drift CELLS).number ≡ 0) where
-    margin_accepts : (margin_judged c t CELLS).number ≡ 0
+    pub margin_accepts : (margin_judged c t CELLS).number ≡ 0
     margin_accepts =
         let r : 2 * t.count * rows c ≤ CELLS = (number_none c t step drift CELLS e).1 in
         none_number c t CELLS (number_none c t step drift CELLS e).0 (omega arith)

@@ -9,8 +9,7 @@ use Rattle.lines.specs.Lines.{joined}
 use Rattle.row_lines.specs.Reading.{rows_of}
 use Rattle.heads.specs.declared.Head.{Head}
 use Rattle.requirement_lines.specs.Form.{MOST_REQUIREMENTS}
-use Rattle.sheets.specs.declared.Sheet.{Sheet}
-use Rattle.sheets.specs.Form.{Written}
+use Rattle.sheets.specs.Form.{SheetAnswer, Written}
 use Rattle.sheets.specs.Only.{only}
 use Rattle.sheets.specs.Sheets.{sheet_of}
 use Rattle.sheets.proofs.Exact.{contents, written_read, written_form, rows_text}
@@ -27,10 +26,10 @@ module _ {s : List ℕ} {h : Head} {rs rows : List (List ℕ)} (w : Written s h 
 
     pub answer_written : answer_to s k ≡ answer_for h (rows_of h.setup.channels (joined rows)) (get_or rs k [])
     answer_written =
-        let x : Sheet = contents w in
+        let x : SheetAnswer = contents w in
         let e : sheet_of s ≡ x = written_read w few in
-        sym (answer_read s k (ap (λ (y : Sheet). y.number) e))
-        ∙ (ap (λ (y : Sheet). answer_for y.head (listing s y) (requirement_part s y k)) e
+        sym (answer_read s k (ap (λ (y : SheetAnswer). y.number) e))
+        ∙ (ap (λ (y : SheetAnswer). answer_for y.head (listing s y) (requirement_part s y k)) e
         ∙ (ap (λ (t : List ℕ). answer_for h (rows_of h.setup.channels t) (requirement_part s x k)) (rows_text w)
         ∙ ap (answer_for h (rows_of h.setup.channels (joined rows))) requirement_text))
 

@@ -5,19 +5,17 @@ use mathlib.Core.Path.{◌≡◌, refl, sym, ap, subst, ◌∙◌}
 use mathlib.Core.Bool.{true, false, not}
 use mathlib.Core.Logic.{◌⊎◌, inl, inr, ⊎_elim}
 use mathlib.Core.List.{List, [], ◌∷◌, ◌++◌}
-use Prim.Native.Nat.{ℕ, ◌+◌, ◌≤◌, ◌<◌}
+use Prim.Native.Nat.{ℕ, ◌≤◌, ◌<◌}
 use native.Mathlib.Omega.{arith}
 use lib.Dec.{leb→le, le→leb, eqb, eqb→eq}
-use lib.ListN.{length, get_or, take}
-use lib.Seq.{length-take-le, get_or-take}
+use lib.ListN.{length, get_or}
 use borrow.Author.Tests.{eq-eqb, ne_eqb}
 use Rattle.numbers.proofs.Parts.{holds as yes}
-use Rattle.lists.specs.Fill.{fill}
-use Rattle.lists.proofs.Filled.{length_fill, fill_in, fill_cong}
+use Rattle.lists.specs.Each.{each_below}
+use Rattle.lists.proofs.Each.{length_each, each_at, each_same}
 use Rattle.recordings.specs.declared.Verdict.TheVariants.{Holds, Fails}
 use Rattle.recordings.specs.Card.{Card, rows}
 use Rattle.recordings.specs.Shown.{Shown}
-use Rattle.recordings.specs.Verdict.{verdict}
 use Rattle.tables.specs.declared.Table.{Table}
 use Rattle.tables.specs.Tree.{root}
 use Rattle.refusals.specs.First.{Check, first, Exact, AllExact, Refused, Passed}
@@ -26,8 +24,7 @@ use Rattle.refusals.proofs.First.{first_passes, first_fails, passed, none_fails,
 use Rattle.sampling.specs.Sampling.{checks as sampling_checks}
 use Rattle.verdicts.specs.Answer.{verdict_room, verdict_refusal, verdict_judged}
 use Rattle.verdicts.proofs.Promises.{exact_checks, verdict_is, holds as verdict_holds, fails as verdict_fails}
-use Rattle.requirements.specs.declared.Requirement.{Requirement}
-use Rattle.requirements.specs.Requirement.{requirement_of}
+use Rattle.requirements.specs.Requirement.{Requirement, requirement_of}
 use Rattle.requirements.proofs.Answers.{answer_sound, answer_complete}
 use Rattle.lines.specs.Lines.{joined}
 use Rattle.row_lines.specs.Reading.{limit, Listing}
@@ -35,26 +32,24 @@ use Rattle.sheet_rows.specs.Answer.{filled_of}
 use Rattle.row_lines.specs.Same.{SameButFilled}
 use Rattle.row_lines.proofs.Exact.{rows_alike}
 use Rattle.heads.specs.declared.Head.{Head}
-use Rattle.sheets.specs.declared.Sheet.{Sheet}
-use Rattle.sheets.specs.Form.{blank}
+use Rattle.sheets.specs.Form.{SheetAnswer, blank}
 use Rattle.sheets.specs.Only.{only}
 use Rattle.sheets.specs.Sheets.{sheet_of}
 use Rattle.sheets.proofs.Exact.{contents, written_read, written_or_blank, joined_rows, sheet_cases, sheet_sound, sheet_refused, sheet_crowded, alike_written, sheet_alike}
 use Rattle.sheets.proofs.Only.{only_written}
-use Rattle.outcomes.specs.declared.Outcome.{Outcome}
-use Rattle.outcomes.specs.declared.Outcomes.{Outcomes}
+use Rattle.outcomes.specs.Outcome.{Outcome, TextOutcome, refused_by, text_refused_by}
 use Rattle.outcomes.specs.Order.{past_end, entry}
 use Rattle.outcome_lines.specs.Printed.{lines_of}
-use Rattle.answers.specs.Answers.{ROWS, CELLS, measured, sheet_check, crowd_check, requirement_check, rows_check, table_run, requirement_run, figures, refused_by, answer_for, head_in, listing_in, requirement_in, whole_run, answer_to, no_entries, entries, none_answered, answers_of, answers_in}
+use Rattle.answers.specs.Answers.{ROWS, CELLS, measured, sheet_check, crowd_check, requirement_check, rows_check, table_run, requirement_run, figures, answer_for, head_in, listing_in, requirement_in, whole_run, answer_to, entries, answers_of, answers_in}
 use Rattle.answers.proofs.Figures.{only_number, answered_number}
-use Rattle.answers.proofs.Wholes.{answer_refused, answer_read, answers_refused, answers_read, placed}
+use Rattle.answers.proofs.Wholes.{answer_refused, answer_read, answers_refused, answers_read}
 use Rattle.answers.proofs.Parts.{answer_written, answer_only}
 
 -- ---- every entry is the answer that its requirement gets
 
 -- a blank sheet's number is no 0
-blank_number : {x : Sheet} (n : ℕ) → x ≡ blank n → 0 < n → x.number ≡ 0 → ⊥
-blank_number n e p z = let f : n ≡ 0 = ap (λ (y : Sheet). y.number) (sym e) ∙ z in omega arith
+blank_number : {x : SheetAnswer} (n : ℕ) → x ≡ blank n → 0 < n → x.number ≡ 0 → ⊥
+blank_number n e p z = let f : n ≡ 0 = ap (λ (y : SheetAnswer). y.number) (sym e) ∙ z in omega arith
 
 -- a text is read, or gives no sheet
 sheet_either : (s : List ℕ) → ((sheet_of s).number ≡ 0) ⊎ ((sheet_of s).number ≡ 0 → ⊥)
@@ -62,37 +57,29 @@ sheet_either s = ⊎_elim (λ f. inl f.number) (λ b. inr (⊎_elim (λ e. blank
 
 pub answers_number : (s : List ℕ) → (answers_of s).number ≡ (sheet_of s).number
 answers_number s = ⊎_elim
-    (λ e. ap (λ (a : Outcomes). a.number) (sym (answers_read s e)) ∙ sym e)
-    (λ n. ap (λ (a : Outcomes). a.number) (sym (answers_refused s n)))
+    (λ e. ap (λ (a : TextOutcome). a.number) (sym (answers_read s e)) ∙ sym e)
+    (λ n. ap (λ (a : TextOutcome). a.number) (sym (answers_refused s n)))
     (sheet_either s)
 
 -- as many as the sheet has requirements
 pub answers_count : (s : List ℕ) → (sheet_of s).number ≡ 0 → length (answers_in s) ≡ (sheet_of s).count
 answers_count s e =
-    let n : ℕ = (sheet_of s).count in
-    let m : length (entries s (sheet_of s)) ≡ 16 = length_fill 0 n (λ k. answer_for (head_in s) (listing_in s) (requirement_in s k)) no_entries in
-    let few = (placed s e).few in
-    ap (λ (a : Outcomes). length (take a.count a.entries)) (sym (answers_read s e)) ∙ length-take-le n (entries s (sheet_of s)) (omega arith)
+    ap (λ (a : TextOutcome). length a.entries) (sym (answers_read s e)) ∙ length_each (λ k. answer_for (head_in s) (listing_in s) (requirement_in s k)) (sheet_of s).count
 
 -- where there is an answer the sheet was read
 pub count_read : (s : List ℕ) (k : ℕ) → k < length (answers_in s) → (sheet_of s).number ≡ 0
 count_read s k l = ⊎_elim
     (λ e. e)
-    (λ n. let z : length (answers_in s) ≡ 0 = ap (λ (a : Outcomes). length (take a.count a.entries)) (sym (answers_refused s n)) in absurd (omega arith))
+    (λ n. let z : length (answers_in s) ≡ 0 = ap (λ (a : TextOutcome). length a.entries) (sym (answers_refused s n)) in absurd (omega arith))
     (sheet_either s)
 
 pub entry_is : (s : List ℕ) (k : ℕ) → k < length (answers_in s) → entry (answers_in s) k ≡ answer_to s k
 entry_is s k l =
     let e = count_read s k l in
-    let n : ℕ = (sheet_of s).count in
     let c = answers_count s e in
-    let few = (placed s e).few in
-    let z : 0 + k ≡ k = omega arith in
-    ap (λ (a : Outcomes). entry (take a.count a.entries) k) (sym (answers_read s e))
-    ∙ (get_or-take n (entries s (sheet_of s)) k past_end (omega arith)
-    ∙ (ap (λ (i : ℕ). entry (entries s (sheet_of s)) i) (sym z)
-    ∙ (fill_in 0 n (λ i. answer_for (head_in s) (listing_in s) (requirement_in s i)) no_entries k past_end (omega arith) (omega arith)
-    ∙ answer_read s k e)))
+    ap (λ (a : TextOutcome). entry a.entries k) (sym (answers_read s e))
+    ∙ (each_at (λ i. answer_for (head_in s) (listing_in s) (requirement_in s i)) (sheet_of s).count k past_end (omega arith)
+    ∙ answer_read s k e)
 
 -- ---- the order of refusals
 
@@ -109,7 +96,7 @@ module _ (s : List ℕ) (m : ℕ) where
   same_fails e = rw (eq-eqb (sheet_of s).number m e) refl
 
   blank_is : sheet_of s ≡ blank m → (sheet_of s).number ≡ m
-  blank_is e = ap (λ (y : Sheet). y.number) e
+  blank_is e = ap (λ (y : SheetAnswer). y.number) e
 
 module _ (s : List ℕ) (k : ℕ) where
   abbrev run : List Check
@@ -249,7 +236,7 @@ alone s k l =
     let m : k < length f.requirements = omega (arith, answers_count s e, f.count) in
     let w = only_written f.written k m in
     let g : sheet_of (only k s) ≡ contents w = written_read w (omega arith) in
-    let n : length (answers_in (only k s)) ≡ 1 = answers_count (only k s) (ap (λ (x : Sheet). x.number) g) ∙ ap (λ (x : Sheet). x.count) g in
+    let n : length (answers_in (only k s)) ≡ 1 = answers_count (only k s) (ap (λ (x : SheetAnswer). x.number) g) ∙ ap (λ (x : SheetAnswer). x.count) g in
     single (answers_in (only k s)) n
     ∙ ap (λ (o : Outcome). o ∷ []) (entry_is (only k s) 0 (omega arith) ∙ (sym (answer_only f.written f.few k m) ∙ sym (entry_is s k l)))
 
@@ -271,18 +258,17 @@ module _ (a b : List ℕ) (short-a : length a ≤ limit) (short-b : length b ≤
 
   read_same : (sheet_of a).number ≡ 0 → answers_of a ≡ answers_of b
   read_same e =
-      let z : (sheet_of b).number ≡ 0 = ap (λ (x : Sheet). x.number) (sym sheets_same) ∙ e in
-      let c : entries a (sheet_of a) ≡ fill 0 (sheet_of a).count (λ k. answer_for (head_in b) (listing_in b) (requirement_in b k)) no_entries =
-      fill_cong 0 (sheet_of a).count _ _ no_entries (λ k l. answer_read a k e ∙ (entry_same e k l ∙ sym (answer_read b k z))) in
+      let z : (sheet_of b).number ≡ 0 = ap (λ (x : SheetAnswer). x.number) (sym sheets_same) ∙ e in
+      let c : entries a (sheet_of a) ≡ each_below (λ k. answer_for (head_in b) (listing_in b) (requirement_in b k)) (sheet_of a).count =
+      each_same _ _ (sheet_of a).count (λ k l. answer_read a k e ∙ (entry_same e k l ∙ sym (answer_read b k z))) in
       sym (answers_read a e)
-      ∙ (ap (λ (x : List Outcome). record { number = 0; count = (sheet_of a).count; entries = x }) c
-      ∙ (ap (λ (n : ℕ). record { number = 0; count = n; entries = fill 0 n (λ k. answer_for (head_in b) (listing_in b) (requirement_in b k)) no_entries }) (ap (λ (x : Sheet). x.count) sheets_same)
-      ∙ answers_read b z))
+      ∙ (ap (λ (x : List Outcome). record { number = 0; entries = x }) (c ∙ ap (λ (x : SheetAnswer). each_below (λ k. answer_for (head_in b) (listing_in b) (requirement_in b k)) x.count) sheets_same)
+      ∙ answers_read b z)
 
   refused_same : ((sheet_of a).number ≡ 0 → ⊥) → answers_of a ≡ answers_of b
   refused_same n =
-      let f : (sheet_of a).number ≡ (sheet_of b).number = ap (λ (x : Sheet). x.number) sheets_same in
-      sym (answers_refused a n) ∙ (ap none_answered f ∙ answers_refused b (λ z. n (f ∙ z)))
+      let f : (sheet_of a).number ≡ (sheet_of b).number = ap (λ (x : SheetAnswer). x.number) sheets_same in
+      sym (answers_refused a n) ∙ (ap text_refused_by f ∙ answers_refused b (λ z. n (f ∙ z)))
 
   -- get the same answers, and print the same bytes
   pub same_answers : answers_of a ≡ answers_of b

@@ -18,8 +18,7 @@ use Rattle.grammar.specs.Tree.{Tree}
 use Rattle.grammar.specs.Grammar.{Requires}
 use Rattle.building.specs.Nodes.{table_of}
 use Rattle.building.specs.Says.{says}
-use Rattle.requirements.specs.declared.Requirement.{Requirement}
-use Rattle.requirements.specs.Requirement.{requirement_of, accepted}
+use Rattle.requirements.specs.Requirement.{Requirement, requirement_of, accepted}
 use Rattle.requirements.proofs.Answers.{answer_complete}
 use Rattle.requirements.proofs.Says.{root_says}
 use Rattle.lines.specs.Lines.{joined}
@@ -29,12 +28,11 @@ use Rattle.row_lines.proofs.Exact.{rows_exact}
 use Rattle.sheet_rows.specs.Answer.{times_in, values_in}
 use Rattle.heads.specs.declared.Head.{Head}
 use Rattle.requirement_lines.specs.Form.{MOST_REQUIREMENTS}
-use Rattle.sheets.specs.declared.Sheet.{Sheet}
-use Rattle.sheets.specs.Form.{Written}
+use Rattle.sheets.specs.Form.{SheetAnswer, Written}
 use Rattle.sheets.specs.Sheets.{sheet_of}
 use Rattle.sheets.proofs.Exact.{contents, written_read, rows_text, joined_rows, sheet_sound}
 use Rattle.sheets.proofs.Behind.{requirement_stands}
-use Rattle.outcomes.specs.declared.Outcome.{Outcome}
+use Rattle.outcomes.specs.Outcome.{Outcome}
 use Rattle.answers.specs.Answers.{measured, listing, requirement_part, table_run, figures, answered, table_answer, answer_for, head_in, listing_in, requirement_in, answer_to, answers_in}
 use Rattle.answers.proofs.Figures.{answered_number}
 use Rattle.answers.proofs.Wholes.{requirement_read}
@@ -77,7 +75,7 @@ module _ {s : List ℕ} {h : Head} {rs rows : List (List ℕ)} (w : Written s h 
       (subst (λ (y : List ℕ). ShownOf b h (listed samples filled) (requirement_of y).table) (requirement_text w few k l)
       (subst (λ (x : Listing). ShownOf b h x (requirement_of (requirement_part s (contents w) k)).table) listing_is
       (subst (λ (t : List ℕ). ShownOf b h (rows_of h.setup.channels t) (requirement_of (requirement_part s (contents w) k)).table) (rows_text w)
-      (subst (λ (y : Sheet). ShownOf b y.head (listing s y) (requirement_of (requirement_part s y k)).table) (written_read w few) f))))
+      (subst (λ (y : SheetAnswer). ShownOf b y.head (listing s y) (requirement_of (requirement_part s y k)).table) (written_read w few) f))))
 
   -- of the requirement that the tree says
   pub holds_said : (answer_to s k).number ≡ 0 → (answer_to s k).verdict ≡ Holds → Shown recording h.step h.drift true (says a)

@@ -4,7 +4,7 @@ use mathlib.Core.Path.{◌≡◌, refl, sym, ap, subst, ◌∙◌}
 use mathlib.Core.Bool.{Bool, true, false, ◌&&◌}
 use mathlib.Core.Logic.{◌⊎◌, inl, inr, ⊎_elim}
 use mathlib.Core.List.{List, []}
-use Prim.Native.Nat.{ℕ, suc, ◌-◌, ◌*◌, ◌≤◌}
+use Prim.Native.Nat.{ℕ, suc, ◌*◌, ◌≤◌}
 use native.Mathlib.Nat.{zero-mul, mul-le-mul}
 use native.Mathlib.Omega.{arith}
 use lib.Dec.{leb}
@@ -22,14 +22,14 @@ use Rattle.rules.specs.Refusals.{checks}
 use Rattle.verdicts.specs.Answer.{verdict_refusal}
 use Rattle.row_lines.specs.Reading.{limit, channels_in_range, Listing, listed, broken, rows_of}
 use Rattle.row_lines.proofs.Exact.{rows_exact}
-use Rattle.sheet_rows.specs.declared.Answer.{Answer}
 use Rattle.lists.specs.Front.{in_front}
-use Rattle.sheet_rows.specs.Answer.{measured_of, filled_of, has_room, answer_of, times_of, values_of}
+use Rattle.sheet_rows.specs.Answer.{Answer, measured_of, filled_of, has_room, answer_of, times_of, values_of}
 use Rattle.sheet_rows.proofs.Storing.{length_times, length_values}
 use Rattle.sheet_rows.proofs.Numbers.{channels_are, room_for, for_room}
 use Rattle.heads.specs.declared.Head.{Head}
-use Rattle.sheets.specs.declared.Sheet.{Sheet}
-use Rattle.answers.specs.Answers.{ROWS, VALUES, CELLS, rows_part, measured, table_run, refused_by, answered as outcome_by, table_answer, Checked, Stored}
+use Rattle.outcomes.specs.Outcome.{refused_by}
+use Rattle.sheets.specs.Form.{SheetAnswer}
+use Rattle.answers.specs.Answers.{ROWS, VALUES, CELLS, rows_part, measured, table_run, answered as outcome_by, table_answer, Checked, Stored}
 use Rattle.answers.proofs.Figures.{only_number}
 use Rattle.answers.proofs.Runs.{run_fits, run_wide, run_many, none_refused}
 
@@ -160,7 +160,7 @@ module _ (s : List ℕ) (h : Head) (p : Checked s h.setup.channels) where
         rw (f, g, read.filled, run_fits c t h.step h.drift n) refl
 
 -- what the row reader leaves in slices with room, read from the part behind the requirements
-pub stored : (s : List ℕ) (x : Sheet) → Checked (rows_part s x) x.head.setup.channels → (t : List ℕ) → t ≡ rows_part s x → (a : Answer) → a ≡ answer_of t x.head.setup.channels ROWS VALUES
+pub stored : (s : List ℕ) (x : SheetAnswer) → Checked (rows_part s x) x.head.setup.channels → (t : List ℕ) → t ≡ rows_part s x → (a : Answer) → a ≡ answer_of t x.head.setup.channels ROWS VALUES
     → (times times₀ : List ℕ) → times ≡ unless_refused a.number (in_front (times_of (rows_of x.head.setup.channels t)) times₀) times₀ → length times ≡ ROWS
     → (values values₀ : List ℤ) → values ≡ unless_refused a.number (in_front (values_of (rows_of x.head.setup.channels t)) values₀) values₀ → length values ≡ VALUES
     → Stored s x a times values

@@ -1,8 +1,7 @@
 -- The answers to a whole text: 1 or 12, or for each of its requirements the number of the first refusal that applies to it and to the measured rows, or else the figures.
 -- Assumes nothing.
-use Rattle.std.specs.Prelude.{List, ◌∷◌, ◌++◌, ◌≡◌, true, false, not, ℕ, ◌-◌, ◌*◌, ◌≤◌, ◌<◌, leb, eqb, length, get_or, take, drop, replicate, ℤ, pos}
-use Rattle.lists.specs.Fill.{fill}
-use Rattle.recordings.specs.declared.Verdict.TheVariants.{NotShown}
+use Rattle.std.specs.Prelude.{List, ◌∷◌, ◌++◌, ◌≡◌, true, false, not, ℕ, ◌-◌, ◌*◌, ◌≤◌, ◌<◌, leb, eqb, length, get_or, take, drop, ℤ}
+use Rattle.lists.specs.Each.{each_below}
 use Rattle.recordings.specs.Card.{Card, rows, card}
 use Rattle.recordings.specs.Margin.{margin as margin_at}
 use Rattle.recordings.specs.Verdict.{hold as hold_of, fail as fail_of, verdict as verdict_of}
@@ -16,16 +15,13 @@ use Rattle.grammar.specs.Tree.{Tree}
 use Rattle.grammar.specs.Grammar.{Requires}
 use Rattle.requirements.specs.Requirement.{requirement_of}
 use Rattle.row_lines.specs.Reading.{limit, channels_in_range, Listing, is_broken, rows_of}
-use Rattle.sheet_rows.specs.declared.Answer.{Answer as RowsAnswer}
-use Rattle.sheet_rows.specs.Answer.{answer_of, times_of, values_of, filled_of}
+use Rattle.sheet_rows.specs.Answer.{Answer as RowsAnswer, answer_of, times_of, values_of, filled_of}
 use Rattle.heads.specs.declared.Head.{Head}
 use Rattle.requirement_lines.specs.declared.Place.{Place}
 use Rattle.requirement_lines.specs.Form.{MOST_REQUIREMENTS, no_place}
-use Rattle.sheets.specs.declared.Sheet.{Sheet}
-use Rattle.sheets.specs.Form.{IsWritten, Crowded}
+use Rattle.sheets.specs.Form.{SheetAnswer, IsWritten, Crowded}
 use Rattle.sheets.specs.Sheets.{sheet_of}
-use Rattle.outcomes.specs.declared.Outcome.{Outcome}
-use Rattle.outcomes.specs.declared.Outcomes.{Outcomes}
+use Rattle.outcomes.specs.Outcome.{Outcome, refused_by, TextOutcome, text_refused_by}
 
 -- room for 2,048 measured rows of up to eight channels, and for 8,192 cells
 abbrev pub ROWS : ℕ
@@ -38,17 +34,17 @@ abbrev pub CELLS : ℕ
 CELLS = 8_192
 
 -- ---- the parts of a text: requirement k stands at place k, and the rows behind the requirements
-abbrev pub place_of : Sheet → ℕ → Place
+abbrev pub place_of : SheetAnswer → ℕ → Place
 place_of x k = get_or x.requirements k no_place
 
-abbrev pub requirement_part : List ℕ → Sheet → ℕ → List ℕ
+abbrev pub requirement_part : List ℕ → SheetAnswer → ℕ → List ℕ
 requirement_part s x k = take ((place_of x k).to - (place_of x k).from) (drop (place_of x k).from s)
 
-abbrev pub rows_part : List ℕ → Sheet → List ℕ
+abbrev pub rows_part : List ℕ → SheetAnswer → List ℕ
 rows_part s x = drop x.rows s
 
 -- what the rows say, and the recording of the measured ones
-abbrev pub listing : List ℕ → Sheet → Listing
+abbrev pub listing : List ℕ → SheetAnswer → Listing
 listing s x = rows_of x.head.setup.channels (rows_part s x)
 
 abbrev pub measured : Head → Listing → Card
@@ -82,10 +78,6 @@ table_run c t step drift = table_checks c t ++ (rows_check c ∷ (sample_checks 
 -- refusals 2 to 11 of a requirement's bytes
 abbrev pub requirement_run : Head → Listing → List ℕ → List Check
 requirement_run h l r = requirement_check r ∷ table_run (measured h l) (requirement_of r).table h.step h.drift
-
--- a refusal's number, and nothing else
-abbrev pub refused_by : ℕ → Outcome
-refused_by n = record { number = n; rows = 0; filled = 0; margin = pos 0; hold = pos 0; fail = pos 0; verdict = NotShown }
 
 -- measured rows, filled rows, plain margin, the two strengthened ones, the verdict
 abbrev pub figures : Card → Table → ℕ → ℕ → ℕ → Outcome
@@ -127,26 +119,20 @@ whole_run s k = sheet_check s ∷ crowd_check s ∷ requirement_run (head_in s) 
 unfoldable pub answer_to : List ℕ → ℕ → Outcome
 answer_to s k = unless_refused (sheet_of s).number (answer_for (head_in s) (listing_in s) (requirement_in s k)) (refused_by (sheet_of s).number)
 
--- sixteen places of no answer, and the answers of a sheet's requirements in front of them
-abbrev pub no_entries : List Outcome
-no_entries = replicate MOST_REQUIREMENTS (refused_by 0)
-
-abbrev pub entries : List ℕ → Sheet → List Outcome
-entries s x = fill 0 x.count (λ k. answer_for x.head (listing s x) (requirement_part s x k)) no_entries
+-- the answers of a sheet's requirements
+abbrev pub entries : List ℕ → SheetAnswer → List Outcome
+entries s x = each_below (λ k. answer_for x.head (listing s x) (requirement_part s x k)) x.count
 
 -- 1 and 12 are answered once for the whole text
-abbrev pub none_answered : ℕ → Outcomes
-none_answered number = record { number = number; count = 0; entries = no_entries }
+abbrev pub all_answered : List ℕ → SheetAnswer → TextOutcome
+all_answered s x = record { number = 0; entries = entries s x }
 
-abbrev pub all_answered : List ℕ → Sheet → Outcomes
-all_answered s x = record { number = 0; count = x.count; entries = entries s x }
-
-unfoldable pub answers_of : List ℕ → Outcomes
-answers_of s = unless_refused (sheet_of s).number (all_answered s (sheet_of s)) (none_answered (sheet_of s).number)
+unfoldable pub answers_of : List ℕ → TextOutcome
+answers_of s = unless_refused (sheet_of s).number (all_answered s (sheet_of s)) (text_refused_by (sheet_of s).number)
 
 -- the answers to a text in sheet order, one for each requirement
 abbrev pub answers_in : List ℕ → List Outcome
-answers_in s = take (answers_of s).count (answers_of s).entries
+answers_in s = (answers_of s).entries
 
 -- ---- what the readers leave
 -- lines behind the requirements that were checked
@@ -155,7 +141,7 @@ pub record Checked (rows : List ℕ) (channels : ℕ) : Type 0 where
   pub whole : channels_in_range channels ≡ true → is_broken (rows_of channels rows) ≡ false
 
 -- at most sixteen requirements stand in the text, and the rows behind them were checked
-pub record Placed (s : List ℕ) (x : Sheet) : Type 0 where
+pub record Placed (s : List ℕ) (x : SheetAnswer) : Type 0 where
   pub few : x.count ≤ MOST_REQUIREMENTS
   pub long : length x.requirements ≡ MOST_REQUIREMENTS
   pub ordered : (k : ℕ) → k < x.count → (place_of x k).from ≤ (place_of x k).to
@@ -164,7 +150,7 @@ pub record Placed (s : List ℕ) (x : Sheet) : Type 0 where
   pub checked : Checked (rows_part s x) x.head.setup.channels
 
 -- the rows stand in front of two slices, unless they were refused
-pub record Stored (s : List ℕ) (x : Sheet) (a : RowsAnswer) (times : List ℕ) (values : List ℤ) : Type 0 where
+pub record Stored (s : List ℕ) (x : SheetAnswer) (a : RowsAnswer) (times : List ℕ) (values : List ℤ) : Type 0 where
   pub answer : a ≡ answer_of (rows_part s x) x.head.setup.channels ROWS VALUES
   pub times_long : length times ≡ ROWS
   pub values_long : length values ≡ VALUES

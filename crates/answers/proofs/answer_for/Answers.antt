@@ -1,27 +1,41 @@
--- The requirement first; then the row reader's number decides whether no rows are judged or those that it stored.
+-- The requirement first; then the row reader's answer decides whether no rows are judged or those that it stored.
 -- Assumes nothing.
-use mathlib.Core.Path.{◌≡◌, sym, ap, ◌∙◌}
-use Prim.Native.Nat.{◌≤◌, ◌*◌}
-use native.Mathlib.Omega.{arith}
+use Rattle.std.proofs.Common.{◌≡◌, refl, sym, ap, ◌∙◌, ◌≤◌, ◌*◌, Result, Ok, Err, arith, rules}
+use Rattle.std.specs.Result.{result_and}
 use lib.Seq.{length-take-le}
-use Rattle.requirements.specs.declared.Requirement.{Requirement}
-use Rattle.requirements.specs.Requirement.{requirement_of}
-use Rattle.row_lines.specs.Reading.{Listing}
-use Rattle.sheet_rows.specs.declared.Answer.{Answer as RowsAnswer}
-use Rattle.heads.specs.declared.Head.{Head}
-use Rattle.answers.specs.Answers.{ROWS, VALUES, rows_part, requirement_part, listing, refused_by}
+use Rattle.refusals.specs.declared.Refusal.{Refusal}
+use Rattle.refusals.specs.declared.Refusal.TheVariants.{Samples}
+use Rattle.refusals.specs.Number.{number, number_of}
+use Rattle.refusals.proofs.Number.{not_none, handed_on}
+use Rattle.requirements.specs.Requirement.{Requirement, outcome as requirement_outcome, requirement_of}
+use Rattle.sheet_rows.specs.Answer.{Answer as RowsAnswer, outcome as rows_outcome, answer_of}
+use Rattle.sheets.specs.Form.{SheetAnswer, outcome as sheet_outcome}
+use Rattle.outcomes.specs.Outcome.{outcome_of, refused_by}
+use Rattle.answers.specs.Answers.{ROWS, VALUES, rows_part, requirement_part, listing, measured, Stored}
 use Rattle.answers.proofs.Rows.{none_judged, rows_few, values_few, rows_judged}
-use Rattle.answers.proofs.Wholes.{requirement_refused, table_read}
-use borrow.Author.Rules.{rules}
+use Rattle.answers.proofs.Wholes.{requirement_refused, requirement_two, table_read}
+use Rattle.answers.proofs.Runs.{none_refused}
 use Rattle.answers.proofs.answer_for.Goals as goal
-use Rattle.answers.proofs.answer_for.Goals.{Else-read-ne0}
+use Rattle.answers.proofs.answer_for.Goals.{Start, In-Ok}
 
--- as many rows and values as there is room for
-few_rows : (c : Else-read-ne0) → c.args.read.rows ≤ ROWS
-few_rows c = rows_few (rows_part c.args.text.now c.args.sheet) c.args.sheet.head c.requires.1.checked c.args.read c.requires.2.answer c.if-read-ne0.false
+-- the sheet as the definitions have it
+abbrev sheet_in : Start → SheetAnswer
+sheet_in c = sheet_outcome (Ok c.args.sheet)
 
-few_values : (c : Else-read-ne0) → c.args.read.rows * c.args.sheet.head.setup.channels ≤ VALUES
-few_values c = values_few (rows_part c.args.text.now c.args.sheet) c.args.sheet.head c.requires.1.checked c.args.read c.requires.2.answer c.if-read-ne0.false
+-- the rows that were read, and as many of them and of values as there is room for
+read_now : (c : In-Ok) → Stored c.args.text.now (sheet_in (goal.at.In-Ok c).Start) (rows_outcome (Ok c.in-Ok.counts)) c.args.times.now c.args.values.now
+read_now c = rw c.in-Ok.is at c.requires.2
+
+few_rows : (c : In-Ok) → c.in-Ok.counts.rows ≤ ROWS
+few_rows c = let x = sheet_in (goal.at.In-Ok c).Start in let k = read_now c in rows_few (rows_part c.args.text.now x) x.head c.requires.1.checked _ k.answer refl
+
+few_values : (c : In-Ok) → c.in-Ok.counts.rows * c.args.sheet.head.setup.channels ≤ VALUES
+few_values c = let x = sheet_in (goal.at.In-Ok c).Start in let k = read_now c in values_few (rows_part c.args.text.now x) x.head c.requires.1.checked _ k.answer refl
+
+-- no rows are refused, and what they are refused by is the answer
+refused_anyway : {A : Type 0} (o : Result A Refusal) → (number_of o ≡ 0 → ⊥) → outcome_of (result_and o (Err Samples)) ≡ refused_by (number_of o)
+refused_anyway (Ok x) h = absurd (h refl)
+refused_anyway (Err e) h = refl
 
 pub slice_bounds-read_requirement-count : goal.slice_bounds-read_requirement-count
 slice_bounds-read_requirement-count c = c.requires.1.ordered _ c.requires.0
@@ -32,34 +46,41 @@ slice_bounds-read_requirement-start c = omega (arith, c.requires.1.ordered _ c.r
 pub slice_bounds-read_requirement-end : goal.slice_bounds-read_requirement-end
 slice_bounds-read_requirement-end c = c.requires.1.inside _ c.requires.0
 
-pub returns-then-requirement-ne0 : goal.returns-then-requirement-ne0
-returns-then-requirement-ne0 c =
-    let e : c.read_requirement-requirement.result ≡ requirement_of (requirement_part c.args.text.now c.args.sheet c.args.k) = c.read_requirement-requirement.ensures in
-    c.refused.ensures ∙ requirement_refused _ _ _ (λ z. c.if-requirement-ne0.true (ap (λ (q : Requirement). q.refusal) e ∙ z))
+pub returns-in_err-table : goal.returns-in_err-table
+returns-in_err-table c =
+    let x = sheet_in (goal.at.returns-in_err-table c).Start in
+    let n : (requirement_of (requirement_part c.args.text.now x c.args.k)).refusal ≡ number c.in_err-table.field-0.0 = sym (ap (λ (q : Requirement). q.refusal) c.in_err-table.ensures) in
+    ap outcome_of (handed_on c.from_residual.result c.from_residual.ensures.1)
+    ∙ ap refused_by (requirement_two x.head (listing c.args.text.now x) _ _ n (not_none _))
+    ∙ requirement_refused x.head (listing c.args.text.now x) _ (λ z. not_none _ (sym n ∙ z))
 
-pub returns-then-read-ne0 : goal.returns-then-read-ne0
-returns-then-read-ne0 c =
-    let h : Head = c.args.sheet.head in
-    let l : Listing = listing c.args.text.now c.args.sheet in
-    c.refused-then-read-ne0.ensures
-    ∙ (ap refused_by c.refusal-early.ensures
-    ∙ (none_judged (rows_part c.args.text.now c.args.sheet) h c.requires.1.checked (λ z. c.if-read-ne0.true (ap (λ (a : RowsAnswer). a.number) c.requires.2.answer ∙ z)) c.read_requirement-requirement.result.table
-    ∙ table_read h l (requirement_part c.args.text.now c.args.sheet c.args.k) c.read_requirement-requirement.result c.read_requirement-requirement.ensures c.if-requirement-ne0.false))
+pub returns-in_default : goal.returns-in_default
+returns-in_default c =
+    let x = sheet_in (goal.at.returns-in_default c).Start in
+    let s = c.args.text.now in
+    let t = c.in_ok-table.table in
+    let none : (answer_of (rows_part s x) x.head.setup.channels ROWS VALUES).number ≡ 0 → ⊥ = λ z. not_none _ (ap (λ (a : RowsAnswer). a.number) (rw c.in_default.is at c.requires.2.answer) ∙ z) in
+    ap outcome_of c.and.ensures
+    ∙ (refused_anyway c.refusal.result (λ z. none_refused (measured x.head (listing s x)) t x.head.step x.head.drift (sym c.refusal.ensures ∙ z))
+    ∙ (ap refused_by c.refusal.ensures
+    ∙ (none_judged (rows_part s x) x.head c.requires.1.checked none t
+    ∙ table_read x.head (listing s x) (requirement_part s x c.args.k) (requirement_outcome (Ok t)) c.in_ok-table.ensures refl)))
 
-pub overflow_mul-wide : goal.overflow_mul-wide
-overflow_mul-wide c = search (rules, few_values (goal.at.overflow_mul-wide c).Else-read-ne0)
+pub overflow_mul-recording : goal.overflow_mul-recording
+overflow_mul-recording c = search (rules, few_values (goal.at.overflow_mul-recording c).In-Ok)
 
-pub slice_bounds-judge-end : goal.slice_bounds-judge-end
-slice_bounds-judge-end c = sym (length-take-le _ _ (omega (arith, few_rows (goal.at.slice_bounds-judge-end c).Else-read-ne0, c.requires.2.times_long)))
+pub slice_bounds-recording-end : goal.slice_bounds-recording-end
+slice_bounds-recording-end c = sym (length-take-le _ _ (omega (arith, few_rows (goal.at.slice_bounds-recording-end c).In-Ok, c.requires.2.times_long)))
 
-pub slice_bounds-judge-end-2 : goal.slice_bounds-judge-end-2
-slice_bounds-judge-end-2 c = sym (length-take-le _ _ (omega (arith, few_values (goal.at.slice_bounds-judge-end-2 c).Else-read-ne0, c.requires.2.values_long)))
+pub slice_bounds-recording-end-2 : goal.slice_bounds-recording-end-2
+slice_bounds-recording-end-2 c = sym (length-take-le _ _ (omega (arith, few_values (goal.at.slice_bounds-recording-end-2 c).In-Ok, c.requires.2.values_long)))
 
 pub returns : goal.returns
 returns c =
-    let h : Head = c.args.sheet.head in
-    let l : Listing = listing c.args.text.now c.args.sheet in
-    let z = c.if-read-ne0.false in
+    let x = sheet_in (goal.at.returns c).Start in
+    let s = c.args.text.now in
+    let t = c.in_ok-table.table in
+    let k = read_now (goal.at.returns c).In-Ok in
     c.judge.ensures
-    ∙ (rows_judged (rows_part c.args.text.now c.args.sheet) h c.requires.1.checked c.args.read c.requires.2.answer z c.args.times.now c.args.values.now (c.requires.2.times_read z) (c.requires.2.values_read z) c.read_requirement-requirement.result.table
-    ∙ table_read h l (requirement_part c.args.text.now c.args.sheet c.args.k) c.read_requirement-requirement.result c.read_requirement-requirement.ensures c.if-requirement-ne0.false)
+    ∙ (rows_judged (rows_part s x) x.head c.requires.1.checked _ k.answer refl c.args.times.now c.args.values.now (k.times_read refl) (k.values_read refl) t
+    ∙ table_read x.head (listing s x) (requirement_part s x c.args.k) (requirement_outcome (Ok t)) c.in_ok-table.ensures refl)

@@ -2,8 +2,5 @@
 -- Assumes nothing.
 use Rattle.answers.proofs.answer_lines.Goals as goal
 
-pub returns : goal.returns
-returns c =
-    let e = c.answers.ensures in
-    let p = c.lines.ensures in
-    record { result_value = rw e at p.result_value; room = rw e at p.room }
+pub returns-clause-result_value : goal.returns-clause-result_value
+returns-clause-result_value c = rw (c.new-out.ensures, c.answers.ensures) at c.lines.ensures.result_value
