@@ -68,7 +68,7 @@ binder_at s at = timed_among binders s at
 abbrev pub prefix_at : List ℕ → ℕ → Operator
 prefix_at s at = after (mark_at (letter not_kind) s at) (λ n. Over not_kind no_span n) (timed_among prefixes s at)
 
--- a tree and the place after it, or none
+-- a tree and the place after it, or none; it is no `Option`, since its clauses name both at once, and no clause takes a record apart
 pub data Reading : Type 0 where
   got : Tree → ℕ → Reading
   none : Reading

@@ -269,7 +269,7 @@ fn take_unary(
     take_timed(cells, node, e, left, right, opening, since, k)
 }
 
-// Node k takes the row. Its kind is asked for here alone, and once, and its other numbers in the arm that they count in: each question costs a row time.
+// Node k takes the row. Its kind is asked for here alone, and once, as the number that it is, and its other numbers in the arm that they count in: each question costs a row time.
 fn take_node(
     numbers: &[u64; NUMBERS],
     cells: &mut [i64; CELLS],
