@@ -1,6 +1,6 @@
 -- What a row does to the cells of a watch's nodes, one after the other.
 -- Assumes nothing.
-use Rattle.std.specs.Prelude.{◌≡◌, Bool, true, false, cond, List, ℕ, suc, ◌+◌, ◌-◌, ◌≤◌, ◌<◌, eqb, length, get_or, ℤ, pos, neg_ℤ}
+use Rattle.std.specs.Prelude.{◌≡◌, Bool, true, false, cond, List, Option, Some, None, ℕ, suc, ◌+◌, ◌-◌, ◌≤◌, ◌<◌, eqb, length, get_or, ℤ, pos, neg_ℤ}
 use Rattle.numbers.specs.Order.{Within}
 use Rattle.logic.specs.Window.{inside}
 use Rattle.logic.specs.declared.Extremum.{Extremum}
@@ -32,6 +32,11 @@ point_of Unknown leaf l r = leaf
 point_of (Joined e) leaf l r = margin_extreme e l r
 point_of (Binary d e) leaf l r = leaf
 point_of (Unary d e) leaf l r = leaf
+
+-- "not", or "and" or "or" by its extremum
+abbrev pub untimed : Option Extremum → Operator
+untimed None = Negated
+untimed (Some e) = Joined e
 
 -- what part of a child's cells holds, if it is a child
 pub record Operand (cells : List ℤ) (k part child : ℕ) (v : ℤ) : Type 0 where

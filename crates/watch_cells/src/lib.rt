@@ -16,7 +16,7 @@ ghost use Rattle.tables.specs.declared.Operator.TheVariants.{Negated, Joined, Bi
 ghost use Rattle.tables.specs.Tree.{NODES, NO_END};
 ghost use Rattle.arrivals.specs.Arrivals.{Row};
 ghost use Rattle.watch_cells.specs.State.{node_in, kept_window, held_in};
-ghost use Rattle.watch_cells.specs.Taking.{IsDistance, LeafValue, IsPoint, TimedAsks, so_far, margin_after, newest_of, SameBeyond, Arriving, Taking, NodeTakes};
+ghost use Rattle.watch_cells.specs.Taking.{IsDistance, LeafValue, untimed, IsPoint, TimedAsks, so_far, margin_after, newest_of, SameBeyond, Arriving, Taking, NodeTakes};
 
 use logic::Extremum;
 use tables::Node;
@@ -97,23 +97,16 @@ fn opposite(a: i64) -> i64
     }
 }
 
-// "Not", from one part of its operand's cells.
-fn negation_at(cells: &[i64; CELLS], node: Node, part: usize) -> i64
+// "Not", or "and" or "or" by its extremum, from one part of its operands' cells.
+fn point_at(cells: &[i64; CELLS], node: Node, junction: Option<Extremum>, part: usize) -> i64
     requires { part < 3 }
-    ensures { (k : _) → k ≤ NODES → operator node.kind ≡ Negated → IsPoint cells.now node k part result }
+    ensures { (k : _) → k ≤ NODES → operator node.kind ≡ untimed junction → IsPoint cells.now node k part result }
 {
     let a = operand(cells, node.left, part);
-    opposite(a)
-}
-
-// "And" or "or", from one part of their operands' cells.
-fn junction_at(cells: &[i64; CELLS], node: Node, e: Extremum, part: usize) -> i64
-    requires { part < 3 }
-    ensures { (k : _) → k ≤ NODES → operator node.kind ≡ Joined e → IsPoint cells.now node k part result }
-{
-    let a = operand(cells, node.left, part);
-    let b = operand(cells, node.right, part);
-    points::extreme(e, a, b)
+    match junction {
+        None => opposite(a),
+        Some(e) => points::extreme(e, a, operand(cells, node.right, part)),
+    }
 }
 
 // Whether a sample so many seconds after the first is in the window of the first. Both ends of a kept window count, and one without end needs no test: no sample is so late.
@@ -170,38 +163,22 @@ fn take_leaf(cells: &mut [i64; CELLS], leaf: i64, opening: bool, k: usize)
     }
 }
 
-// "Not", "and" or "or" takes the row: it has a value there, and one at sample 0.
-fn take_point(cells: &mut [i64; CELLS], newest: i64, margin: i64, k: usize)
+// "Not", or "and" or "or" by its extremum, takes the row: it has a value there, and one at sample 0.
+fn take_point(
+    numbers: &[u64; NUMBERS],
+    cells: &mut [i64; CELLS],
+    junction: Option<Extremum>,
+    k: usize,
+)
     requires { k < NODES }
-    ensures taken { (numbers values : _) (opening : _) (since : _) (n : _) → n ≡ node_in numbers k → IsPoint cells.old n k 0 newest → IsPoint cells.old n k 1 margin → NodeTakes numbers cells.old cells.new values opening since k }
+    ensures taken { (values : _) (opening : _) (since : _) → operator (node_in numbers.now k).kind ≡ untimed junction → NodeTakes numbers.now cells.old cells.new values opening since k }
     ensures beyond { SameBeyond cells.old cells.new }
 {
+    let node = node_of(numbers, k);
+    let newest = point_at(cells, node, junction, NEWEST);
+    let margin = point_at(cells, node, junction, MARGIN);
     cells[HELD_AT + tables::NODES * NEWEST + k] = newest;
     cells[HELD_AT + tables::NODES * MARGIN + k] = margin;
-}
-
-// "Not" takes the row.
-fn take_not(numbers: &[u64; NUMBERS], cells: &mut [i64; CELLS], k: usize)
-    requires { k < NODES }
-    ensures taken { (values : _) (opening : _) (since : _) → operator (node_in numbers.now k).kind ≡ Negated → NodeTakes numbers.now cells.old cells.new values opening since k }
-    ensures beyond { SameBeyond cells.old cells.new }
-{
-    let node = node_of(numbers, k);
-    let newest = negation_at(cells, node, NEWEST);
-    let margin = negation_at(cells, node, MARGIN);
-    take_point(cells, newest, margin, k)
-}
-
-// "And" or "or" takes the row.
-fn take_joined(numbers: &[u64; NUMBERS], cells: &mut [i64; CELLS], e: Extremum, k: usize)
-    requires { k < NODES }
-    ensures taken { (values : _) (opening : _) (since : _) → operator (node_in numbers.now k).kind ≡ Joined e → NodeTakes numbers.now cells.old cells.new values opening since k }
-    ensures beyond { SameBeyond cells.old cells.new }
-{
-    let node = node_of(numbers, k);
-    let newest = junction_at(cells, node, e, NEWEST);
-    let margin = junction_at(cells, node, e, MARGIN);
-    take_point(cells, newest, margin, k)
 }
 
 // A temporal operator takes the row, given its operands there.
@@ -289,9 +266,9 @@ fn take_node(
             let leaf = distance_of(numbers, cells, values, node_of(numbers, k));
             take_leaf(cells, leaf, opening, k)
         }
-        tables::NOT => take_not(numbers, cells, k),
-        tables::AND => take_joined(numbers, cells, Extremum::Smallest, k),
-        tables::OR => take_joined(numbers, cells, Extremum::Largest, k),
+        tables::NOT => take_point(numbers, cells, None, k),
+        tables::AND => take_point(numbers, cells, Some(Extremum::Smallest), k),
+        tables::OR => take_point(numbers, cells, Some(Extremum::Largest), k),
         tables::UNTIL => take_binary(numbers, cells, Extremum::Largest, opening, since, k),
         tables::RELEASE => take_binary(numbers, cells, Extremum::Smallest, opening, since, k),
         tables::EVENTUALLY => take_unary(numbers, cells, Extremum::Largest, opening, since, k),

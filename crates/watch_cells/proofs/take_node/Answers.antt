@@ -24,17 +24,17 @@ returns-in-1 c =
 pub returns-in-2 : goal.returns-in-2
 returns-in-2 c =
     let s = c.args in
-    record { taken = c.take_not.ensures.taken s.values.now s.opening s.since (rw (sym c.kind_of-kind.ensures ∙ c.in-2.is) refl); beyond = c.take_not.ensures.beyond }
+    record { taken = c.take_point.ensures.taken s.values.now s.opening s.since (rw (sym c.kind_of-kind.ensures ∙ c.in-2.is) refl); beyond = c.take_point.ensures.beyond }
 
 pub returns-in-3 : goal.returns-in-3
 returns-in-3 c =
     let s = c.args in
-    record { taken = c.take_joined.ensures.taken s.values.now s.opening s.since (rw (sym c.kind_of-kind.ensures ∙ c.in-3.is) refl); beyond = c.take_joined.ensures.beyond }
+    record { taken = c.take_point-in-3.ensures.taken s.values.now s.opening s.since (rw (sym c.kind_of-kind.ensures ∙ c.in-3.is) refl); beyond = c.take_point-in-3.ensures.beyond }
 
 pub returns-in-4 : goal.returns-in-4
 returns-in-4 c =
     let s = c.args in
-    record { taken = c.take_joined-in-4.ensures.taken s.values.now s.opening s.since (rw (sym c.kind_of-kind.ensures ∙ c.in-4.is) refl); beyond = c.take_joined-in-4.ensures.beyond }
+    record { taken = c.take_point-in-4.ensures.taken s.values.now s.opening s.since (rw (sym c.kind_of-kind.ensures ∙ c.in-4.is) refl); beyond = c.take_point-in-4.ensures.beyond }
 
 pub returns-in-5 : goal.returns-in-5
 returns-in-5 c =
