@@ -82,6 +82,7 @@ pub fn unset_predicates() -> [Predicate; 16]
 }
 
 // The predicates of the lines from a place on. Their numbers rise, so that each stands once and sixteen lines are the most.
+#[tactic(auto, using(std::proofs::lemmas::Grind::common_steps, crate::proofs::Rest::line_known))]
 pub fn read_predicates(s: &[u8], at: usize) -> Option<Read<[Predicate; 16]>>
     ensures { result ≡ lines_at s.now at }
 {

@@ -89,10 +89,7 @@ module _ (s : List ℕ) (at count : ℕ) (places : List Place) (next : ℕ) (i :
       past : next < l.next
       past = requirement_past s next l b
 
-      -- a line has a byte at least, so the count and the bytes that are left have room
-      pub collect_few : count < l.next
-      collect_few = omega (arith, past, i.few, i.counted)
-
+      -- a line has a byte at least, so the bytes that are left get fewer
       pub collect_less : length s - l.next < length s - next
       collect_less = omega (arith, past, key_inside (bytes "req=") s next h)
 

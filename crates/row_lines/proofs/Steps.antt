@@ -33,3 +33,12 @@ end_also v None = refl
 pub ends_next : (k c : ℕ) (s : List ℕ) (at : ℕ) (v : ℤ) (n : ℕ) → c < k → value_at s at c ≡ Number v n
     → end_of (values_from (k - (c + 1)) (c + 1) s n) ≡ end_of (values_from (k - c) c s at)
 ends_next k c s at v n l h = sym (ap end_of (values_next k c s at v n l h) ∙ end_also v (values_from (k - (c + 1)) (c + 1) s n))
+
+pub end_over : (k c : ℕ) (s : List ℕ) (at : ℕ) → k ≤ c → end_of (values_from (k - c) c s at) ≡ Some at
+end_over k c s at l = ap end_of (values_over k c s at l)
+
+pub end_none : (k c : ℕ) (s : List ℕ) (at : ℕ) → c < k → value_at s at c ≡ Bad → end_of (values_from (k - c) c s at) ≡ None
+end_none k c s at l h = ap end_of (values_none k c s at l h)
+
+-- what the reader's loop cites
+pub ruleset turns = (end_over, end_none, ends_next)

@@ -53,6 +53,7 @@ pub fn read_value(s: &[u8], at: usize, channel: usize) -> Field<i64>
 }
 
 // The place after the values of all channels.
+#[tactic(auto, using(std::proofs::lemmas::Grind::common_steps, crate::proofs::Steps::turns))]
 fn read_values(s: &[u8], at: usize, channels: usize) -> Option<usize>
     ensures { result ≡ end_of (values_from channels 0 s.now at) }
 {

@@ -51,3 +51,6 @@ module _ (s : List ℕ) (at count channel : ℕ) (each : List ℕ) where
         → lines_from (count - channel) s at channel each ≡ lines_from (count - (channel + 1)) s r.next (channel + 1) (set each channel r.value)
     unfolding lines_from
     lines_next r h = let e : count - channel ≡ suc (count - (channel + 1)) = omega arith in rw (e, h)
+
+-- what the reader's loop cites
+pub ruleset turns = (due_most, lines_start, lines_over, lines_bad, lines_next)

@@ -46,6 +46,7 @@ pub fn no_scales() -> Scales
 }
 
 // The scales of the lines from a place on, as many as are due.
+#[tactic(auto, using(std::proofs::lemmas::Grind::common_steps, crate::proofs::Steps::turns))]
 pub fn read_scales(s: &[u8], at: usize, channels: usize) -> Option<Read<Scales>>
     ensures { result ≡ scales_at s.now at channels }
 {

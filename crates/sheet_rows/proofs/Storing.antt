@@ -3,7 +3,7 @@
 use mathlib.Core.Path.{◌≡◌, refl, sym, ap, subst, ◌∙◌}
 use mathlib.Core.List.{List, [], ◌∷◌, ◌++◌}
 use Prim.Native.Nat.{ℕ, suc, ◌+◌, ◌-◌, ◌*◌, ◌≤◌, ◌<◌}
-use native.Mathlib.Nat.{zero-add, add-zero, zero-mul, sub-zero, suc-mul}
+use native.Mathlib.Nat.{zero-add, add-zero, zero-mul, suc-mul}
 use native.Mathlib.Numerals.{add-one}
 use native.Mathlib.Omega.{arith}
 use lib.ListN.{length, set, length-set, length-append}
@@ -37,16 +37,6 @@ pub record Storing (s : List ℕ) (at ch place : ℕ) (values₀ values : List �
   pub reads : values_from (ch - c) c s next ≡ read rest end
   pub long : length values ≡ length values₀
   pub same : sets values (place + c) rest ≡ sets values₀ place (all_of (values_from ch 0 s at))
-
-pub store_start : (s : List ℕ) (at ch place : ℕ) (values : List ℤ) → Storable s at ch place (length values) → Storing s at ch place values values at 0
-store_start s at ch place values p =
-    record {
-      rest = p.worth;
-      end = p.end;
-      reads = rw sub-zero p.reads;
-      long = refl;
-      same = rw (add-zero, p.reads);
-    }
 
 module _ (s : List ℕ) (at ch place : ℕ) (values₀ values : List ℤ) (next c : ℕ) (i : Storing s at ch place values₀ values next c) where
   pub store_over : ch ≤ c → values ≡ sets values₀ place (all_of (values_from ch 0 s at))

@@ -27,9 +27,6 @@ module _ (s : List ℕ) (h : Head) where
   behind_none = refl
 
   module _ (rs : Read Requirements) where
-    pub lines_missing : rs.value.count < 1 → lines_kept s h rs ≡ false
-    lines_missing l = rw (lt-leb _ _ l)
-
     pub lines_there : 1 ≤ rs.value.count → lines_kept s h rs ≡ rows_kept s rs.next h.setup.channels
     lines_there l = rw (le-leb _ _ l)
 

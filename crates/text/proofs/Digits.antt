@@ -69,9 +69,6 @@ pub record Run (ds : List ℕ) (i v : ℕ) : Type 0 where
   pub worth : fold more 0 (take i ds) ≡ v
   pub small : v < 10 ^ i
 
-pub run_start : (ds : List ℕ) → Run ds 0 0
-run_start ds = record { worth = refl; small = omega arith }
-
 pub run_step : (ds : List ℕ) (i v : ℕ) → Run ds i v → i < length ds → (48 ≤ get_or ds i 0) × (get_or ds i 0 ≤ 57) → Run ds (i + 1) (v * 10 + (get_or ds i 0 - 48))
 run_step ds i v r l d =
     record {

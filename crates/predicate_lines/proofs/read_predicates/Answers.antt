@@ -1,10 +1,10 @@
 -- `predicate_lines::read_predicates` meets its contract: the lines that are left give what all of them give.
 -- Assumes nothing.
-use Rattle.std.proofs.Common.{◌≡◌, true, Some, None, sym, ◌∙◌, arith}
+use Rattle.std.proofs.Common.{◌≡◌, true, Some, None, sym, ◌∙◌}
 use Rattle.text.specs.Bytes.{bytes}
 use Rattle.text.specs.Mark.{key_at}
 use Rattle.predicate_lines.specs.Reading.{line_at}
-use Rattle.predicate_lines.proofs.Rest.{line_known, rest_start, rest_over, rest_bad, rest_below, rest_less, rest_more}
+use Rattle.predicate_lines.proofs.Rest.{rest_start, rest_over, rest_bad, rest_below, rest_less, rest_more}
 use Rattle.predicate_lines.proofs.read_predicates.Goals as goal
 use Rattle.predicate_lines.proofs.read_predicates.Goals.{In_ok-line}
 
@@ -25,15 +25,6 @@ returns-in_err-line c =
 
 pub returns-then-number-least : goal.returns-then-number-least
 returns-then-number-least c = let d = (goal.at.returns-then-number-least c).In_ok-line in rest_below _ _ _ _ c.loop-all.invariant (due d) _ (read d) c.if-number-least.true
-
-pub overflow_add-least : goal.overflow_add-least
-overflow_add-least c = omega (arith, line_known _ _ _ (read (goal.at.overflow_add-least c).In_ok-line))
-
-pub offset_bounds-all-number : goal.offset_bounds-all-number
-offset_bounds-all-number c = omega (arith, line_known _ _ _ (read (goal.at.offset_bounds-all-number c).In_ok-line))
-
-pub bounds-all-number : goal.bounds-all-number
-bounds-all-number c = line_known _ _ _ (read (goal.at.bounds-all-number c).In_ok-line)
 
 pub loop-all-smaller : goal.loop-all-smaller
 loop-all-smaller c = let d = (goal.at.loop-all-smaller c).In_ok-line in rest_less _ _ _ _ c.loop-all.invariant (due d) _ (read d) c.if-number-least.false
