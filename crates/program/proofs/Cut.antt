@@ -3,14 +3,15 @@
 use Rattle.std.proofs.Common.{◌≡◌, ◌<◌, List, ℕ, length, take, arith, sym, ap, ◌∙◌, take_all, length-take-le, lt-ltb}
 use native.Mathlib.Decide.{dec_lt}
 use Rattle.row_lines.specs.Reading.{limit}
-use Rattle.sheets.specs.declared.Sheet.{Sheet}
+use Rattle.sheets.specs.Form.{SheetAnswer}
 use Rattle.sheets.proofs.Chain.{sheet_long}
 use Rattle.refusals.specs.First.{unless_refused}
-use Rattle.answers.specs.Answers.{answers_of, all_answered, none_answered}
+use Rattle.answers.specs.Answers.{answers_of, all_answered}
+use Rattle.outcomes.specs.Outcome.{text_refused_by}
 
-too_long : (xs : List ℕ) → limit < length xs → answers_of xs ≡ none_answered 1
+too_long : (xs : List ℕ) → limit < length xs → answers_of xs ≡ text_refused_by 1
 unfolding answers_of
-too_long xs h = ap (λ (x : Sheet). unless_refused x.number (all_answered xs x) (none_answered x.number)) (sym (sheet_long xs (lt-ltb limit (length xs) h)))
+too_long xs h = ap (λ (x : SheetAnswer). unless_refused x.number (all_answered xs x) (text_refused_by x.number)) (sym (sheet_long xs (lt-ltb limit (length xs) h)))
 
 pub answers_cut : (xs : List ℕ) → answers_of (take 65_537 xs) ≡ answers_of xs
 answers_cut xs = elim (dec_lt limit (length xs)) [

@@ -63,7 +63,6 @@ pub fn answer_from<R: Read, W: Write>(reader: &mut R, writer: &mut W) -> io::Res
 {
     let mut text = [0u8; ROOM];
     let count = read_text(reader, &mut text)?;
-    let mut lines = [0u8; outcome_lines::LINES];
-    let len = answers::answer_lines(&text[..count], &mut lines);
-    write_lines(writer, &lines[..len])
+    let lines = answers::answer_lines(&text[..count]);
+    write_lines(writer, lines.as_slice())
 }
