@@ -89,6 +89,7 @@ pub fn read_predicates(s: &[u8], at: usize) -> Option<Read<[Predicate; 16]>>
     let mut all = unset_predicates();
     let mut next = at;
     let mut least = 0;
+    // Each line says where the next one begins, so no range counts the turns.
     while text::key_at(s, next, b"p=") {
         let line = read_line(s, next)?;
         let number = line.value.number;

@@ -60,6 +60,7 @@ pub fn read_requirements(s: &[u8], at: usize) -> Option<Read<Requirements>>
     let mut places = nowhere();
     let mut count = 0;
     let mut next = at;
+    // Each line says where the next one begins, so no range counts the turns.
     while text::key_at(s, next, b"req=") {
         let line = read_line(s, next)?;
         if count < MOST {

@@ -101,6 +101,7 @@ pub fn count_rows(s: &[u8], channels: usize) -> Option<Counts>
     let mut at = 0;
     let mut rows = 0;
     let mut filled = 0;
+    // Each row says where the next one begins, so no range counts the turns.
     while at < s.len() {
         match read_row(s, at, channels)? {
             RowLine::Measured(row) => {

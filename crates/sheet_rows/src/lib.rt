@@ -47,6 +47,7 @@ fn store_rows(s: &[u8], channels: usize, times: &mut [u64], values: &mut [i64])
 {
     let mut at = 0;
     let mut rows = 0;
+    // Each row says where the next one begins, so no range counts the turns.
     while at < s.len() {
         let Some(line) = row_lines::read_row(s, at, channels) else {
             return;

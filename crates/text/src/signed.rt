@@ -13,6 +13,7 @@ pub fn read_number(s: &[u8], at: usize) -> Field<i64>
     let Field::Number(size, next) = crate::read_number(s, digits, crate::LARGEST_SIGNED) else {
         return Field::Bad;
     };
+    // A size is at most LARGEST_SIGNED, so the casts keep it.
     match minus {
         None => Field::Number(size as i64, next),
         Some(_) if 0 < size => Field::Number(-(size as i64), next),
