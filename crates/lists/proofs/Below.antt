@@ -1,12 +1,11 @@
 -- The tests "of every number below n" and "of some number below n" say what their names say, both ways; and the steps of a loop that makes such a test.
 -- Assumes nothing.
 use mathlib.Core.Path.{◌≡◌, refl}
-use mathlib.Core.Bool.{Bool, true, false, ◌&&◌, ◌||◌}
+use mathlib.Core.Bool.{Bool, true, false, ◌||◌}
 use mathlib.Core.Logic.{◌⊎◌, inl, inr}
-use Prim.Native.Nat.{ℕ, zero, suc, ◌+◌, ◌≤◌, ◌<◌}
+use Prim.Native.Nat.{ℕ, zero, suc, ◌≤◌, ◌<◌}
 use native.Mathlib.Omega.{arith}
 use native.Mathlib.Decide.{ℕ_discrete}
-use native.Mathlib.Numerals.{add-one}
 use lib.Dec.{T}
 use mir.Facts.{and_yes, yes_and, or_yes}
 use Rattle.lists.specs.Fold.{all_below, any_below}
@@ -52,11 +51,5 @@ pub record Tested (p : ℕ → Bool) (count n : ℕ) (ok : Bool) : Type 0 where
   pub so_far : ok ≡ all_below p n
 
 module _ {p : ℕ → Bool} {count : ℕ} where
-  pub tested_none : Tested p count 0 true
-  tested_none = record { inside = omega arith; so_far = refl }
-
-  pub tested_next : {n : ℕ} {ok b : Bool} → Tested p count n ok → n < count → b ≡ p n → Tested p count (n + 1) (ok && b)
-  tested_next {n} t h e = record { inside = omega arith; so_far = rw (add-one n, t.so_far, e) refl }
-
   pub tested_all : {n : ℕ} {ok : Bool} → Tested p count n ok → count ≤ n → ok ≡ all_below p count
   tested_all {n} t h = let e : n ≡ count = omega arith in rw (← e) t.so_far

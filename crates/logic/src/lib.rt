@@ -19,7 +19,7 @@ pub enum Direction {
     Future,
 }
 
-// The end of a window: none, or the first second past it.
+// The end of a window: none, or the first second past it. No Option: the definitions and their readers say Endless and Before, and `None` would not say which end it is.
 #[derive(Clone, Copy)]
 pub enum Stop {
     Endless,

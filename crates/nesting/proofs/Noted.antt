@@ -23,7 +23,6 @@ use Rattle.tables.specs.declared.Operator.{Operator}
 use Rattle.tables.specs.declared.Operator.TheVariants.{Constant, Named, Negated, Unknown, Joined, Binary, Unary}
 use Rattle.tables.specs.Tree.{NODES, formula, node_at, tree}
 use Rattle.tables.specs.Rules.{Used, left_use, right_use, timed, NodeRules, TableRules}
-use Rattle.tables.proofs.Rules.{named_small}
 use Rattle.tables.proofs.Trees.{tree_node}
 use Rattle.nesting.specs.Nesting.{momentary, unnested}
 use Rattle.nesting.specs.Operands.{in_operands}

@@ -1,5 +1,7 @@
 // The cells of one node from the recording or from its children's cells. With `rows` places to a row, row r of the work slice owns the cells from
 // r × rows on. A margin has one row for each node; a verdict has two.
+// A row's length, the cells and a row's number are handed on one by one, also in sliding and temporal: promises are about the slice as it was lent and as it is
+// given back, which a struct around it would hide.
 #![tactic(auto)]
 
 ghost use Rattle.std.specs.Prelude.{◌≡◌, ◌+◌, ◌*◌, ◌≤◌, ◌<◌, pos, length, get_or};

@@ -1,6 +1,6 @@
 -- A fact of every kind is a test of the list `kinds`, which is computed, and of the unknown kinds; so a kind more is a line more of that list, and of no proof.
 -- Assumes nothing.
-use mathlib.Core.Path.{◌≡◌, refl, sym, subst, ◌∙◌}
+use mathlib.Core.Path.{◌≡◌, refl, sym, ◌∙◌}
 use mathlib.Core.Bool.{Bool, true, false, not, cond, ◌||◌}
 use Prim.Native.Nat.{ℕ, ◌≤◌, ◌<◌}
 use native.Mathlib.Omega.{arith}
@@ -10,11 +10,10 @@ use lib.ListN.{length, get_or-eq_default}
 use borrow.Author.Tests.{ne_eqb}
 use Rattle.lists.specs.Fold.{all_below}
 use Rattle.lists.proofs.Below.{all_at}
-use Rattle.logic.specs.declared.Direction.TheVariants.{Future}
-use Rattle.tables.specs.Kind.{kinds, operator, operator_extremum, is_not, true_kind, predicate_kind, not_kind}
+use Rattle.tables.specs.Kind.{kinds, operator, is_not, predicate_kind, not_kind}
 use Rattle.tables.specs.declared.Operator.{Operator}
-use Rattle.tables.specs.declared.Operator.TheVariants.{Constant, Named, Negated, Unknown, Joined, Binary, Unary}
-use Rattle.tables.specs.Rules.{Use, child, number, unused, is_child, left_use, right_use, timed}
+use Rattle.tables.specs.declared.Operator.TheVariants.{Unknown}
+use Rattle.tables.specs.Rules.{Use, child, number, unused, is_child, left_use}
 
 abbrev is_number : Use → Bool
 is_number child = false
@@ -70,34 +69,3 @@ no_not k h = sym (not_test k) ∙ ne_eqb k not_kind h
 -- ---- a use from the tests
 pub left_is : (k : ℕ) → left_use (operator k) ≡ cond (eqb k predicate_kind) number (cond (is_child (left_use (operator k))) child unused)
 left_is k = same_use (every_kind (λ o k. same (left_use o) (cond (eqb k predicate_kind) number (cond (is_child (left_use o)) child unused))) tt (λ k h. rw (ne_eqb k predicate_kind (λ (e : k ≡ predicate_kind). omega arith)) tt) k)
-
--- ---- an operator from the tests: neither true nor a predicate nor "not", then with or without a window, with or without a right child
-abbrev operates : Operator → Bool
-operates Constant = false
-operates Named = false
-operates Negated = false
-operates Unknown = false
-operates (Joined e) = true
-operates (Binary d e) = true
-operates (Unary d e) = true
-
-pub operating : (k : ℕ) → k < length kinds → (k ≡ true_kind → ⊥) → (k ≡ predicate_kind → ⊥) → (k ≡ not_kind → ⊥) → T (operates (operator k))
-operating k h a b c = rw (ne_eqb k true_kind a, ne_eqb k predicate_kind b, ne_eqb k not_kind c) at (known_kind (λ o k. eqb k true_kind || (eqb k predicate_kind || (eqb k not_kind || operates o))) tt k h)
-
-pub joined_form : (o : Operator) → T (operates o) → timed o ≡ false → o ≡ Joined (operator_extremum o)
-joined_form Constant t h = absurd t
-joined_form Named t h = absurd t
-joined_form Negated t h = absurd t
-joined_form Unknown t h = absurd t
-joined_form (Joined e) t h = refl
-joined_form (Binary d e) t h = absurd (subst T h tt)
-joined_form (Unary d e) t h = absurd (subst T h tt)
-
-pub temporal_form : (o : Operator) → timed o ≡ true → o ≡ cond (is_child (right_use o)) (Binary Future (operator_extremum o)) (Unary Future (operator_extremum o))
-temporal_form Constant h = absurd (subst T (sym h) tt)
-temporal_form Named h = absurd (subst T (sym h) tt)
-temporal_form Negated h = absurd (subst T (sym h) tt)
-temporal_form Unknown h = absurd (subst T (sym h) tt)
-temporal_form (Joined e) h = absurd (subst T (sym h) tt)
-temporal_form (Binary Future e) h = refl
-temporal_form (Unary Future e) h = refl

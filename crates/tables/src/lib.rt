@@ -9,7 +9,7 @@ ghost use Rattle.tables.specs.Rules.{is_child, left_use, right_use, timed, use_o
 
 use logic::{Direction, Extremum};
 
-// The kinds of nodes; the definitions have them in specs/Kind.antt.
+// The kinds of nodes; the definitions have them in specs/Kind.antt. They stay numbers, since a lent table may hold any: `Operator` is what a number stands for.
 pub const TRUE: u64 = 0;
 
 pub const PREDICATE: u64 = 1;
