@@ -55,7 +55,8 @@ bracket_is : (bracket : Bool → List ℕ) (s : List ℕ) (at m n : ℕ) → bra
 unfolding bracket_at
 bracket_is bracket s at m n h = go (mark_at (bracket false) s at) refl (mark_at (bracket true) s at) refl h
   where
-    go : (x : Option ℕ) → mark_at (bracket false) s at ≡ x → (y : Option ℕ) → mark_at (bracket true) s at ≡ y → after x (λ k. Number 0 k) (after y (λ k. Number 1 k) Field_as_Bad) ≡ Number m n → BracketIs bracket s at m n
+    go : (x : Option ℕ) → mark_at (bracket false) s at ≡ x → (y : Option ℕ) → mark_at (bracket true) s at ≡ y
+        → after x (λ k. Number 0 k) (after y (λ k. Number 1 k) Field_as_Bad) ≡ Number m n → BracketIs bracket s at m n
     go (Some k) e y f h =
         let a : 0 ≡ m = cc in
         let b : k ≡ n = cc in

@@ -47,7 +47,8 @@ module _ (a b : List ℕ) (x y : List ℤ) (long : NUMBERS ≤ length b) (wide :
 pub chunk_long : (cells x : List ℤ) → CELLS ≤ length cells → x ≡ take CELLS cells → length x ≡ CELLS
 chunk_long cells x l e = rw (e, length-take) (omega arith)
 
-module _ (numbers : List ℕ) (cells : List ℤ) (long : NUMBERS ≤ length numbers) (wide : CELLS ≤ length cells) {n : List ℕ} {x : List ℤ} (n-is : n ≡ take NUMBERS numbers) (x-is : x ≡ take CELLS cells) where
+module _ (numbers : List ℕ) (cells : List ℤ) (long : NUMBERS ≤ length numbers) (wide : CELLS ≤ length cells)
+    {n : List ℕ} {x : List ℤ} (n-is : n ≡ take NUMBERS numbers) (x-is : x ≡ take CELLS cells) where
   front_number : (i : ℕ) → i < NUMBERS → get_or n i 0 ≡ get_or numbers i 0
   front_number i h = rw n-is (get_or-take NUMBERS numbers i 0 h)
 
