@@ -4,10 +4,10 @@
 use mathlib.Core.Path.{◌≡◌, sym, ap₂, ◌∙◌, subst}
 use mathlib.Core.Bool.{true, false}
 use mathlib.Core.List.{List, [], ◌∷◌, ◌++◌}
-use Prim.Native.Nat.{ℕ, ◌+◌, ◌-◌, ◌≤◌}
+use Prim.Native.Nat.{ℕ, ◌-◌, ◌≤◌}
 use native.Mathlib.Omega.{arith}
 use native.Mathlib.Decide.{ℕ_discrete}
-use lib.Dec.{T, leb, eqb, leb→le, le→leb, eqb→eq}
+use lib.Dec.{T, leb, leb→le, le→leb, eqb→eq}
 use lib.ListN.{length, get_or}
 use lib.IntN.{ℤ}
 use mir.Facts.{and_yes, yes_and}
@@ -21,8 +21,8 @@ use Rattle.tables.specs.Tree.{root}
 use Rattle.tables.specs.Rules.{TableRules}
 use Rattle.refusals.specs.First.{Check, first}
 use Rattle.refusals.proofs.First.{first_append, first_stays, first_here, first_behind, unless_none, unless_some, answers}
-use Rattle.margins.specs.declared.Answer.TheVariants.{Margin, Refused}
-use Rattle.margins.specs.Answers.{margin_outcome}
+use Rattle.std.specs.Prelude.{Ok, Err}
+use Rattle.watches.specs.Run.{told_outcome}
 use Rattle.arrivals.specs.Arrivals.{Row, no_rows, with_row, making_checks, row_checks, offer_refusal, accepted, some_row_check, asked_refusal, margin_so_far}
 use Rattle.arrivals.proofs.Fitting.{made}
 use Rattle.watch_cells.specs.State.{NUMBERS, CELLS, held_in}
@@ -62,13 +62,13 @@ module _ {numbers : List ℕ} {cells : List ℤ} {t : Table} {c : Card} (W : Wat
   refused_watches r h = subst (Watches numbers cells t) (sym (unless_some (offer_refusal c t r) (with_row c r) c h)) W
 
   -- ---- the margin
-  pub told_refused : (get_or numbers 0 0 ≡ 0 → ⊥) → margin_outcome (Refused (get_or numbers 0 0)) ≡ margin_so_far c t
+  pub told_refused : (get_or numbers 0 0 ≡ 0 → ⊥) → told_outcome (Err (get_or numbers 0 0)) ≡ margin_so_far c t
   unfolding margin_so_far
   told_refused h =
       let e : get_or numbers 0 0 ≡ asked_refusal c t = making_first (some_row_check c ∷ []) h in
       ap₂ (λ (x : ℕ) (y : ℤ). record { number = x; margin = y }) e (sym (unless_some _ _ _ (λ z. h (e ∙ z))))
 
-  pub told_none : get_or numbers 0 0 ≡ 0 → get_or numbers 3 0 ≡ 0 → margin_outcome (Refused 5) ≡ margin_so_far c t
+  pub told_none : get_or numbers 0 0 ≡ 0 → get_or numbers 3 0 ≡ 0 → told_outcome (Err 5) ≡ margin_so_far c t
   unfolding margin_so_far
   told_none e z =
       let k = no_row_yet (kept_now e) in
@@ -85,7 +85,7 @@ module _ {numbers : List ℕ} {cells : List ℤ} {t : Table} {c : Card} (W : Wat
   ruled : get_or numbers 0 0 ≡ 0 → TableRules t
   ruled e = ((made c t (making_none e)).each 0 (omega arith)).0
 
-  pub told_margin : get_or numbers 0 0 ≡ 0 → (get_or numbers 3 0 ≡ 0 → ⊥) → {m : ℤ} → ((k : Table) (d : Card) → Kept numbers cells k d → TableRules k → 1 ≤ rows d → m ≡ margin d (root k) 0) → margin_outcome (Margin m) ≡ margin_so_far c t
+  pub told_margin : get_or numbers 0 0 ≡ 0 → (get_or numbers 3 0 ≡ 0 → ⊥) → {m : ℤ} → ((k : Table) (d : Card) → Kept numbers cells k d → TableRules k → 1 ≤ rows d → m ≡ margin d (root k) 0) → told_outcome (Ok m) ≡ margin_so_far c t
   unfolding margin_so_far first
   told_margin e h f =
       let some = some_row e h in

@@ -12,17 +12,16 @@ use Rattle.recordings.specs.Card.{Card}
 use Rattle.tables.specs.declared.Table.{Table}
 use Rattle.refusals.specs.First.{first, AllExact, Refused}
 use Rattle.refusals.proofs.First.{refused, first_is, exact_append, answers}
-use Rattle.margins.specs.declared.Answer.{Answer}
-use Rattle.margins.specs.Answers.{MarginOutcome, margin_outcome}
+use Rattle.std.specs.Prelude.{ℤ, Result}
+use Rattle.margins.specs.Answers.{MarginOutcome}
 use Rattle.arrivals.specs.Arrivals.{Row, watch_setup, no_rows, making_checks, accepted, recorded, margin_so_far}
 use Rattle.arrivals.proofs.Refusals.{making_exact}
 use Rattle.arrivals.proofs.Promises.{making_refuses, making_silences}
 use Rattle.watch_cells.specs.State.{NUMBERS, CELLS}
 use Rattle.watches.specs.declared.Watch.{Watch}
-use Rattle.watches.specs.declared.Taken.{Taken}
 use Rattle.watches.specs.Watches.{room_check, lent_checks}
 use Rattle.watches.proofs.Answers.{roomy, roomy_passes}
-use Rattle.watches.specs.Run.{Watching, Took, Told, Run, rest, offer}
+use Rattle.watches.specs.Run.{told_outcome, Watching, Taken, Took, Told, Run, rest, offer}
 
 pub run_watching : (t : Table) (c : Card) {w v : Watch} {rs : List Row} → Run w rs v → Watching w t c → Watching v t (recorded t c rs)
 run_watching t c (rest w) W = W
@@ -33,7 +32,7 @@ pub places_fixed : (t : Table) (c : Card) {w v : Watch} → Watching w t c → W
 places_fixed t c W same = (λ i h. W.numbers_are i h ∙ sym (same.numbers_are i h), λ i h. W.cells_are i h ∙ sym (same.cells_are i h))
 
 -- the margin after any list of offered rows is the margin, by the definition, of the recording made of the accepted ones
-pub margin_while_running : (t : Table) (ps : List Predicate) (ks : Scales) {w v : Watch} {rs : List Row} (a : Answer) → Watching w t (no_rows (watch_setup ps ks)) → Run w rs v → Told v a → margin_outcome a ≡ margin_so_far (recorded t (no_rows (watch_setup ps ks)) rs) t
+pub margin_while_running : (t : Table) (ps : List Predicate) (ks : Scales) {w v : Watch} {rs : List Row} (a : Result ℤ ℕ) → Watching w t (no_rows (watch_setup ps ks)) → Run w rs v → Told v a → told_outcome a ≡ margin_so_far (recorded t (no_rows (watch_setup ps ks)) rs) t
 margin_while_running t ps ks a W q f = f t _ (run_watching t (no_rows (watch_setup ps ks)) q W)
 
 -- ---- a refused making: the same number to every row, the watch equal, and the same number to the margin
@@ -45,7 +44,7 @@ module _ (t : Table) (c : Card) (h : first (making_checks c t) ≡ 0 → ⊥) wh
   run_refused W (rest w) = refl
   run_refused W (offer w v r rs a k q) = let e = (refused_for_ever r W k).1 in run_refused (subst (λ (x : Watch). Watching x t c) (sym e) W) q ∙ e
 
-  pub margin_refused : {w : Watch} (a : Answer) → Watching w t c → Told w a → (margin_outcome a).number ≡ first (making_checks c t)
+  pub margin_refused : {w : Watch} (a : Result ℤ ℕ) → Watching w t c → Told w a → (told_outcome a).number ≡ first (making_checks c t)
   margin_refused a W f = ap (λ (o : MarginOutcome). o.number) (f t c W) ∙ making_silences c t h
 
 -- ---- a watch that is lent: the making's number or 8, exactly when its condition applies and no earlier one does

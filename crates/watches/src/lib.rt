@@ -2,7 +2,7 @@
 // storing them: its size is fixed. It is a struct by value; `make`, `take` and `tell` are the same for a watch that a caller lends as two slices, and nothing is copied there.
 #![tactic(auto)]
 
-ghost use Rattle.std.specs.Prelude.{◌≡◌, map, ◌≤◌, ◌<◌, ◌+◌, ◌-◌, ◌*◌, min, eqb, pos, length, get_or};
+ghost use Rattle.std.specs.Prelude.{◌≡◌, map, ◌≤◌, ◌<◌, ◌+◌, ◌-◌, ◌*◌, min, eqb, pos, length, get_or, OnOk, IfErr};
 ghost use Rattle.lists.specs.Fill.{fill};
 ghost use Rattle.lists.specs.Front.{written};
 ghost use Rattle.flat.specs.Predicates.{ends_of};
@@ -13,14 +13,14 @@ ghost use Rattle.tables.specs.declared.Table.{Table};
 ghost use Rattle.tables.specs.Tree.{NODES, root};
 ghost use Rattle.tables.specs.Rules.{TableRules};
 ghost use Rattle.refusals.specs.First.{first};
-ghost use Rattle.margins.specs.Answers.{margin_outcome};
+ghost use Rattle.refusals.specs.Number.{number_of};
 ghost use Rattle.arrivals.specs.Arrivals.{watch_setup, no_rows, with_row, offer_refusal, accepted, margin_so_far};
 ghost use Rattle.watch_cells.specs.State.{NUMBERS, CELLS, HELD_AT, kept_node};
 ghost use Rattle.watches.specs.Watches.{Kept, Watches, Roomy, room_check, lent_checks, SameBehind, setup_numbers, fresh_numbers, fresh_cells, begun};
-ghost use Rattle.watches.specs.Run.{lent, Watching, Took, Told};
+ghost use Rattle.watches.specs.Run.{lent, Watching, number_in, Took, Told};
 
-use margins::Answer;
 use recordings::{Predicate, Scales, Setup};
+use refusals::Refusal;
 use tables::{Node, Table};
 use watch_cells::{NODES_AT, RANGES_AT, SCALES_AT};
 
@@ -42,13 +42,6 @@ pub struct Watch {
     pub cells: [i64; Watch::CELLS],
 }
 
-// The answer to a row: the number of its refusal, 0 for none, and the watch afterwards.
-#[derive(Clone, Copy)]
-pub struct Taken {
-    pub number: u64,
-    pub watch: Watch,
-}
-
 impl Watch {
     // A watch is so many numbers and cells long, whatever it has seen.
     pub const NUMBERS: usize = NODES_AT + building::CELLS;
@@ -61,36 +54,22 @@ impl Watch {
     {
         let mut numbers = [0u64; Watch::NUMBERS];
         let mut cells = [0i64; Watch::CELLS];
-        make(table, predicates, scales, &mut numbers, &mut cells);
-        Watch {
-            numbers: numbers,
-            cells: cells,
-        }
+        let _ = make(table, predicates, scales, &mut numbers, &mut cells);
+        Watch { numbers, cells }
     }
 
-    // One row more. A refused one hands back the watch as it was.
-    pub fn row(self, time: u64, values: &[i64]) -> Taken
-        ensures { Took self (record { time = time; values = values.now }) result }
+    // One row more. A refused one leaves the watch as it was.
+    pub fn row(&mut self, time: u64, values: &[i64]) -> Result<(), u64>
+        ensures { Took self.old (record { time = time; values = values.now }) (record { number = number_in result; watch = self.new }) }
     {
-        let mut numbers = self.numbers;
-        let mut cells = self.cells;
-        let number = take(&mut numbers, &mut cells, time, values);
-        Taken {
-            number: number,
-            watch: Watch {
-                numbers: numbers,
-                cells: cells,
-            },
-        }
+        take(&mut self.numbers, &mut self.cells, time, values)
     }
 
     // The margin of the rows accepted so far.
-    pub fn margin(self) -> Answer
-        ensures { Told self result }
+    pub fn margin(&self) -> Result<i64, u64>
+        ensures { Told self.now result }
     {
-        let numbers = self.numbers;
-        let cells = self.cells;
-        tell(&numbers, &cells)
+        tell(&self.numbers, &self.cells)
     }
 }
 
@@ -99,11 +78,7 @@ fn put_numbers(new: &[u64], out: &mut [u64], at: usize)
     requires { at + length new.now ≤ length out.old }
     ensures { out.new ≡ fill at (length new.now) (λ i. get_or new.now i 0) out.old }
 {
-    let mut i = 0;
-    while i < new.len() {
-        out[at + i] = new[i];
-        i += 1;
-    }
+    out[at..at + new.len()].copy_from_slice(new);
 }
 
 // Whether two slices have room for a watch.
@@ -132,8 +107,7 @@ fn clear_nodes(cells: &mut [i64])
     requires { CELLS ≤ length cells.old }
     ensures { cells.new ≡ fill HELD_AT (3 * NODES) (λ i. pos 0) cells.old }
 {
-    let from = watch_cells::HELD_AT;
-    rows::fill_same(3 * tables::NODES, 0, &mut cells[from..]);
+    rows::fill_same(3 * tables::NODES, 0, &mut cells[watch_cells::HELD_AT..]);
 }
 
 // A node as a watch keeps it: its window closed, so that no row asks for marks. A window that breaks the rules, of a refused making, stays as it is.
@@ -143,24 +117,16 @@ fn kept_node(node: Node) -> Node
     if !tables::window_obeys(node.span) {
         return node;
     }
-    let w = windows::closed(node.span);
     Node {
-        kind: node.kind,
-        left: node.left,
-        right: node.right,
-        span: w,
+        span: windows::closed(node.span),
+        ..node
     }
 }
 
 fn kept_nodes(nodes: [Node; tables::NODES]) -> [Node; tables::NODES]
     ensures { result ≡ map kept_node nodes }
 {
-    let mut kept = nodes;
-    for k in 0..tables::NODES {
-        let node = nodes[k];
-        kept[k] = kept_node(node);
-    }
-    kept
+    nodes.map(kept_node)
 }
 
 // A fresh watch, whatever its making was refused by.
@@ -177,14 +143,22 @@ fn write_fresh(
     ensures cells { cells.new ≡ fresh_cells predicates cells.old }
     ensures arrays { (length table.nodes ≡ NODES) × (length predicates ≡ 16) }
 {
-    let nodes = table.nodes;
-    let kept = kept_nodes(nodes);
-    let places = building::cells_of(kept);
+    let places = building::cells_of(kept_nodes(table.nodes));
     put_numbers(&places, numbers, NODES_AT);
     write_setup(predicates, scales, numbers, cells);
     let head = [number, table.count as u64, 0, 0, scales.count as u64];
     put_numbers(&head, numbers, 0);
     clear_nodes(cells);
+}
+
+// The number of what a making was refused by, 0 where nothing applies.
+pub fn number_of(made: Result<(), Refusal>) -> u64
+    ensures { result ≡ number_of made }
+{
+    match made {
+        Ok(()) => 0,
+        Err(refusal) => u64::from(refusal),
+    }
 }
 
 // A fresh watch in two slices. A refused making leaves a watch there that gives its number to every later call; slices too short for a watch are left as they are.
@@ -194,40 +168,39 @@ pub fn make(
     scales: Scales,
     numbers: &mut [u64],
     cells: &mut [i64],
-) -> u64
-    ensures number { result ≡ first (lent_checks (watch_setup predicates scales) table (length numbers.old) (length cells.old)) }
+) -> Result<(), Refusal>
+    ensures number { number_of result ≡ first (lent_checks (watch_setup predicates scales) table (length numbers.old) (length cells.old)) }
     ensures watch { Roomy (length numbers.old) (length cells.old) → Watching (lent numbers.new cells.new) table (no_rows (watch_setup predicates scales)) }
     ensures short { (Roomy (length numbers.old) (length cells.old) → ⊥) → (numbers.new ≡ numbers.old) × (cells.new ≡ cells.old) }
     ensures behind { SameBehind NUMBERS 0 numbers.old numbers.new × SameBehind CELLS (pos 0) cells.old cells.new }
 {
     let setup = Setup {
         channels: scales.count,
-        scales: scales,
-        predicates: predicates,
+        scales,
+        predicates,
     };
-    let number = arrivals::making_refusal(table, setup);
+    let made = arrivals::making_refusal(table, setup);
     if !is_roomy(numbers.len(), cells.len()) {
-        if number != 0 {
-            return number;
-        }
-        return 8;
+        return made.and(Err(Refusal::Work));
     }
-    write_fresh(number, table, predicates, scales, numbers, cells);
-    number
+    write_fresh(number_of(made), table, predicates, scales, numbers, cells);
+    made
 }
 
-// The first refusal that applies to a row.
-fn offer_refusal(numbers: &[u64], time: u64, values: &[i64]) -> u64
+// The first refusal that applies to a row. It is a number, because that of the making stands in the watch, where a caller may have put any other.
+fn offer_refusal(numbers: &[u64], time: u64, values: &[i64]) -> Result<(), u64>
     requires { NUMBERS ≤ length numbers.now }
-    ensures number { (cells : _) (t : Table) (c : Card) → Watches numbers.now cells t c → result ≡ offer_refusal c t (record { time = time; values = values.now }) }
-    ensures early { result ≡ 0 → time ≤ LATEST }
-    ensures values { result ≡ 0 → Values values.now }
+    ensures number { (cells : _) (t : Table) (c : Card) → Watches numbers.now cells t c → number_in result ≡ offer_refusal c t (record { time = time; values = values.now }) }
+    ensures early { OnOk result (time ≤ LATEST) }
+    ensures values { OnOk result (Values values.now) }
+    ensures some { IfErr result (λ n. 1 ≤ n) }
 {
     let refusal = numbers[REFUSAL];
     if refusal != 0 {
-        return refusal;
+        return Err(refusal);
     }
-    arrivals::row_refusal(numbers[CHANNELS], numbers[NEXT], time, values)
+    arrivals::row_refusal(numbers[CHANNELS], numbers[NEXT], time, values)?;
+    Ok(())
 }
 
 // Whether the row is the first; then its time is the first time.
@@ -243,21 +216,11 @@ fn begin(numbers: &mut [u64], time: u64) -> bool
     opening
 }
 
-fn seconds(start: u64, time: u64) -> u64
-    ensures { result ≡ time - start }
-{
-    if start <= time { time - start } else { 0 }
-}
-
 // A count of nodes. Numbers that no making left have no more than there is room for.
 fn node_count(count: u64) -> usize
     ensures { result ≡ min count NODES }
 {
-    if count < 64 {
-        count as usize
-    } else {
-        tables::NODES
-    }
+    count.min(tables::NODES as u64) as usize
 }
 
 // A row that was accepted.
@@ -267,27 +230,24 @@ fn take_row(numbers: &mut [u64], cells: &mut [i64], time: u64, values: &[i64])
     ensures behind { SameBehind NUMBERS 0 numbers.old numbers.new × SameBehind CELLS (pos 0) cells.old cells.new }
 {
     let opening = begin(numbers, time);
-    let since = seconds(numbers[START], time);
+    let since = time.saturating_sub(numbers[START]);
     let count = node_count(numbers[COUNT]);
     watch_cells::take_nodes(numbers, cells, values, opening, since, count);
     numbers[NEXT] = time + 1;
 }
 
 // One row more, in a watch that is lent. A refused one leaves it as it is.
-pub fn take(numbers: &mut [u64], cells: &mut [i64], time: u64, values: &[i64]) -> u64
-    ensures row { Took (lent numbers.old cells.old) (record { time = time; values = values.now }) (record { number = result; watch = lent numbers.new cells.new }) }
-    ensures short { (Roomy (length numbers.old) (length cells.old) → ⊥) → result ≡ 8 }
+pub fn take(numbers: &mut [u64], cells: &mut [i64], time: u64, values: &[i64]) -> Result<(), u64>
+    ensures row { Took (lent numbers.old cells.old) (record { time = time; values = values.now }) (record { number = number_in result; watch = lent numbers.new cells.new }) }
+    ensures short { (Roomy (length numbers.old) (length cells.old) → ⊥) → result ≡ Err 8 }
     ensures behind { SameBehind NUMBERS 0 numbers.old numbers.new × SameBehind CELLS (pos 0) cells.old cells.new }
 {
     if !is_roomy(numbers.len(), cells.len()) {
-        return 8;
+        return Err(u64::from(Refusal::Work));
     }
-    let number = offer_refusal(numbers, time, values);
-    if number != 0 {
-        return number;
-    }
+    offer_refusal(numbers, time, values)?;
     take_row(numbers, cells, time, values);
-    0
+    Ok(())
 }
 
 // Where the root's margin stands: in the second of the nodes' runs, at the last node. The remainder gives numbers that no making left some node, too.
@@ -302,25 +262,23 @@ fn root_margin(numbers: &[u64], cells: &[i64]) -> i64
     requires { (NUMBERS ≤ length numbers.now) × (CELLS ≤ length cells.now) }
     ensures { (t : Table) (c : Card) → Kept numbers.now cells.now t c → TableRules t → 1 ≤ rows c → result ≡ margin c (root t) 0 }
 {
-    let at = root_cell(numbers[COUNT]);
-    cells[at]
+    cells[root_cell(numbers[COUNT])]
 }
 
 // The margin of the rows accepted so far, of a watch that is lent.
-pub fn tell(numbers: &[u64], cells: &[i64]) -> Answer
+pub fn tell(numbers: &[u64], cells: &[i64]) -> Result<i64, u64>
     ensures margin { Told (lent numbers.now cells.now) result }
-    ensures short { (Roomy (length numbers.now) (length cells.now) → ⊥) → (margin_outcome result).number ≡ 8 }
+    ensures short { (Roomy (length numbers.now) (length cells.now) → ⊥) → result ≡ Err 8 }
 {
     if !is_roomy(numbers.len(), cells.len()) {
-        return Answer::Refused(8);
+        return Err(u64::from(Refusal::Work));
     }
     let refusal = numbers[REFUSAL];
     if refusal != 0 {
-        return Answer::Refused(refusal);
+        return Err(refusal);
     }
     if numbers[NEXT] == 0 {
-        return Answer::Refused(5);
+        return Err(u64::from(Refusal::Samples));
     }
-    let margin = root_margin(numbers, cells);
-    Answer::Margin(margin)
+    Ok(root_margin(numbers, cells))
 }

@@ -17,8 +17,8 @@ returns-then-not-window_obeys c =
     let e : window_obeys c.args.node.span ≡ false = sym c.window_obeys.ensures ∙ not-true _ c.if-not-window_obeys.true-raw in
     rw e
 
-pub closed-w-requires : goal.closed-w-requires
-closed-w-requires c = window_rules c.args.node.span (holds (obeys (goal.at.closed-w-requires c).Else-not-window_obeys))
+pub closed-requires : goal.closed-requires
+closed-requires c = window_rules c.args.node.span (holds (obeys (goal.at.closed-requires c).Else-not-window_obeys))
 
 pub returns : goal.returns
-returns c = rw (obeys (goal.at.returns c).Else-not-window_obeys, c.closed-w.ensures)
+returns c = rw (obeys (goal.at.returns c).Else-not-window_obeys, c.closed.ensures)

@@ -15,5 +15,5 @@ returns c =
     let n = K.planned.count in
     let f = R.few_nodes in
     let o = R.some_node in
-    let at = c.root_cell-at.ensures.1 (omega arith) (omega arith) in
+    let at = c.root_cell.ensures.1 (omega arith) (omega arith) in
     back_ok _ c.result-1.given ∙ ap (λ (i : ℕ). get_or c.args.cells.now i (pos 0)) at ∙ root_held K R some

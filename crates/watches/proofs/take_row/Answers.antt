@@ -16,7 +16,7 @@ use Rattle.watches.proofs.take_row.Goals.{Start}
 pub returns : goal.returns
 returns c =
     let bg = c.begin-opening.ensures in
-    let se = c.seconds-since.ensures in
+    let se = c.saturating_sub-since.ensures in
     let nc = c.node_count-count.ensures in
     let tn = c.take_nodes.ensures in record {
       watch = λ t k W e.

@@ -17,7 +17,7 @@ returns c =
     let w = c.write_setup in
     let q = c.put_numbers-2 in
     let o = c.cells_of-places in
-    let k = c.kept_nodes-kept in
+    let k = c.kept_nodes in
     let l : length o.result ≡ CELLS = search rules in
     let n : length c.args.table.nodes ≡ NODES = omega (arith, l, ap length (o.ensures ∙ ap cells_of k.ensures), length_cells (map kept_node c.args.table.nodes), length-map c.args.table.nodes kept_node) in
     record { numbers = rw (w.ensures.numbers, p.ensures, o.ensures, k.ensures) at q.ensures; cells = rw w.ensures.cells at c.clear_nodes.ensures; arrays = (n, search rules) }
