@@ -1,5 +1,5 @@
 // The printed lines of a text's outcomes.
-#![tactic(auto, using(printing::proofs::Printed::printed_append))]
+#![tactic(auto, using(printing::proofs::Printed::printed_append), unfolding(printing::specs::Output::printed))]
 
 ghost use Rattle.std.specs.Prelude.{◌≡◌, ◌++◌, ◌≤◌, ◌<◌, length, map};
 ghost use Rattle.printing.specs.Decimal.{decimal, decimal_signed};

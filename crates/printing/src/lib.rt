@@ -1,5 +1,5 @@
 // Words and numbers, printed one behind the other into a buffer of a fixed length. A byte that has no place is left out.
-#![tactic(auto)]
+#![tactic(auto, using(crate::proofs::Printed::printed_append, crate::proofs::Decimal::decimal_one, crate::proofs::Decimal::decimal_more), unfolding(crate::specs::Output::printed))]
 
 ghost use Rattle.std.specs.Prelude.{◌≡◌, [], ◌∷◌, take};
 ghost use Rattle.printing.specs.Decimal.{decimal, decimal_signed};

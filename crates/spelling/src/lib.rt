@@ -1,5 +1,5 @@
 // The text of a requirement's tree, in pieces that hold no other requirement: parts of the grammar, and an operator's letter and window. What the whole text is, specs/Text says.
-#![tactic(auto, using(printing::proofs::Printed::printed_append))]
+#![tactic(auto, using(printing::proofs::Printed::printed_append), unfolding(printing::specs::Output::printed))]
 
 ghost use Rattle.std.specs.Prelude.{◌≡◌, ◌++◌, [], true, cond, ltb};
 ghost use Rattle.printing.specs.Decimal.{decimal};

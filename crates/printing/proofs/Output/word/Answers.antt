@@ -1,11 +1,8 @@
 -- One byte more of the word.
 -- Assumes nothing.
-use Rattle.std.proofs.Common.{rules, ◌∙◌}
-use Rattle.printing.proofs.Printed.{printed_none, printed_next}
+use Rattle.std.proofs.Common.{◌∙◌, rules}
+use Rattle.printing.proofs.Printed.{printed_next}
 use Rattle.printing.proofs.Output.word.Goals as goal
-
-pub loop-b-init : goal.loop-b-init
-loop-b-init g c = printed_none _
 
 pub loop-b-preserved : goal.loop-b-preserved
 loop-b-preserved g c = c.byte.ensures ∙ printed_next c.args.word.now _ _ (search rules) c.loop-b.invariant
