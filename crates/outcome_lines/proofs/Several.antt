@@ -36,7 +36,8 @@ unfolding lines_in
 printing_none xs start = record { inside = omega arith; so_far = printed_none start; short = omega arith }
 
 -- the place that stands next in the order
-pub printing_next : (xs : List Outcome) {start here there : Output} {n k : ℕ} {x : Outcome} → Printing xs start here n → n < length xs → k ≡ get_or (arrangement xs) n 0 → x ≡ entry xs k → there ≡ printed here (numbered_line k x) → length (numbered_line k x) ≤ NUMBERED → Printing xs start there (n + 1)
+pub printing_next : (xs : List Outcome) {start here there : Output} {n k : ℕ} {x : Outcome} → Printing xs start here n → n < length xs
+    → k ≡ get_or (arrangement xs) n 0 → x ≡ entry xs k → there ≡ printed here (numbered_line k x) → length (numbered_line k x) ≤ NUMBERED → Printing xs start there (n + 1)
 printing_next xs {start} {n = n} {k} {x} p h e f t r =
     let l = lines_next xs (arrangement xs) n (omega (arith, length_arrangement xs)) in
     record {

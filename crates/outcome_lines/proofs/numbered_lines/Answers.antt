@@ -33,4 +33,5 @@ loop-k-preserved g c =
     let e = c.as_slice-k-items.ensures.value ∙ c.arrange-order.ensures in
     let p = next_place outcome_of ys e c.loop-k-test.true in
     let n : c.loop-k.k-index < length (map outcome_of ys) = omega (arith, c.loop-k-test.true, ap length e, length_arrangement (map outcome_of ys)) in
-    printing_next (map outcome_of ys) c.loop-k.invariant n (ap (λ xs. get_or xs c.loop-k.k-index 0) e) (rw c.as_slice-entries.ensures.value (entry_of outcome_of ys k _ p)) c.numbered_line.ensures.result_value c.numbered_line.ensures.room
+    printing_next (map outcome_of ys) c.loop-k.invariant n (ap (λ xs. get_or xs c.loop-k.k-index 0) e)
+    (rw c.as_slice-entries.ensures.value (entry_of outcome_of ys k _ p)) c.numbered_line.ensures.result_value c.numbered_line.ensures.room
