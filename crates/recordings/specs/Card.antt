@@ -1,7 +1,6 @@
 -- All that a requirement is read against: a card's recording, and its setup: the channels, their scales and the predicates that the requirement names.
 -- Assumes nothing.
 use Rattle.std.specs.Prelude.{List, ◌++◌, ℕ, suc, ◌+◌, ◌-◌, ◌*◌, length, get_or, replicate, ℤ, pos}
-use Rattle.std.specs.Borrow.{Bor}
 use Rattle.logic.specs.Reading.{Places}
 use Rattle.recordings.specs.declared.Predicate.{Predicate}
 use Rattle.recordings.specs.declared.Scales.{Scales}
@@ -70,7 +69,3 @@ card setup times values = record { setup = setup; times = times; values = values
 -- the card of a recording as its caller lends it
 abbrev pub card_of : Recording → Card
 card_of r = card r.setup r.times.now r.values.now
-
--- the card of two slices, as they are at a call's entry or exit
-abbrev pub lent : Setup → Bor (List ℕ) → Bor (List ℤ) → Card
-lent setup times values = card setup times.now values.now
