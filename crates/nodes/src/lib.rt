@@ -32,7 +32,21 @@ pub fn node_row(
     let rows = times.len();
     match Operator::from(node.kind) {
         Operator::Constant | Operator::Unknown => rows::true_row(rows, affirmed, work, row),
-        Operator::Named => rows::predicate_row(recording, node.left, affirmed, work, row),
+        Operator::Named => {
+            let setup = recording.setup;
+            let predicate = setup.predicates[node.left];
+            let scale = setup.scales.each[predicate.channel];
+            rows::predicate_row(
+                predicate,
+                scale,
+                setup.channels,
+                recording.values,
+                rows,
+                affirmed,
+                work,
+                row,
+            )
+        }
         Operator::Negated => rows::signed_row(rows, true, work, left, row),
         Operator::Joined(e) => {
             rows::joined_row(rows, logic::turn(affirmed, e), work, left, right, row)

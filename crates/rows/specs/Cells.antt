@@ -3,8 +3,8 @@
 use Rattle.std.specs.Prelude.{List, ℕ, ◌+◌, ◌*◌, ◌≤◌, ◌<◌, ℤ, pos, length, get_or}
 use Rattle.numbers.specs.Order.{Within}
 use Rattle.recordings.specs.Distance.{TOP}
-use Rattle.recordings.specs.Card.{Card, rows, scale, predicate}
-use Rattle.recordings.specs.Accepted.{MOST_CHANNELS, MOST_SCALE, Ends, Values}
+use Rattle.recordings.specs.Accepted.{MOST_SCALE, Ends, Values}
+use Rattle.recordings.specs.declared.Predicate.{Predicate}
 
 -- the value of row r at place i
 abbrev pub cell : List ℤ → ℕ → ℕ → ℕ → ℤ
@@ -19,12 +19,10 @@ pub record Above (w : List ℤ) (n child row : ℕ) : Type 0 where
 pub record Bounded (w : List ℤ) (n child : ℕ) : Type 0 where
   pub bounded : (i : ℕ) → i < n → Within TOP (cell w n child i)
 
--- the recording has what predicate p reads: its channel at every place, all in range, and the scale
-pub record Leaf (c : Card) (p : ℕ) : Type 0 where
-  pub listed : p ≤ 15
-  pub small_scale : scale c (predicate c p).channel ≤ MOST_SCALE
-  pub known : (predicate c p).channel < c.setup.channels
-  pub few_channels : c.setup.channels ≤ MOST_CHANNELS
-  pub ends : Ends (predicate c p).range
-  pub all_values : rows c * c.setup.channels ≤ length c.values
-  pub in_range : Values c.values
+-- the recording has what a predicate reads: its channel at every place, all in range, and the scale
+pub record Leaf (values : List ℤ) (channels : ℕ) (p : Predicate) (scale n : ℕ) : Type 0 where
+  pub small_scale : scale ≤ MOST_SCALE
+  pub known : p.channel < channels
+  pub ends : Ends p.range
+  pub all_values : n * channels ≤ length values
+  pub in_range : Values values

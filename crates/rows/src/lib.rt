@@ -4,18 +4,16 @@
 // given back, which a struct around it would hide.
 #![tactic(auto)]
 
-ghost use Rattle.std.specs.Prelude.{◌≡◌, ◌+◌, ◌*◌, ◌≤◌, ◌<◌, length};
+ghost use Rattle.std.specs.Prelude.{◌≡◌, ◌+◌, ◌*◌, ◌≤◌, ◌<◌, pos, length, get_or};
 ghost use Rattle.lists.specs.Fill.{fill};
 ghost use Rattle.logic.specs.declared.Extremum.TheVariants.{Smallest};
 ghost use Rattle.logic.specs.Reading.{margin_extreme, margin_nothing};
-ghost use Rattle.recordings.specs.Card.{card_of, rows};
-ghost use Rattle.recordings.specs.Distance.{TOP};
-ghost use Rattle.recordings.specs.Margin.{distance_at};
+ghost use Rattle.recordings.specs.Distance.{TOP, scaled_distance};
 ghost use Rattle.points.specs.Point.{signed};
 ghost use Rattle.rows.specs.Cells.{cell, Above, Bounded, Leaf};
 
 use logic::Extremum;
-use recordings::{Predicate, Recording};
+use recordings::Predicate;
 
 // The value of a row at place i.
 pub fn cell_at(rows: usize, work: &[i64], row: usize, i: usize) -> i64
@@ -43,37 +41,54 @@ pub fn true_row(rows: usize, affirmed: bool, work: &mut [i64], row: usize)
     fill_same(rows, value, &mut work[from..]);
 }
 
-// A part's first places, one for each sample, with the distances of predicate `named`.
-fn fill_distances(recording: &Recording, named: usize, affirmed: bool, part: &mut [i64])
-    requires rows_in_bounds { rows (card_of recording.now) ≤ length part.old }
-    requires leaf { Leaf (card_of recording.now) named }
-    ensures { let c = card_of recording.now in part.new ≡ fill 0 (rows c) (λ i. signed affirmed (distance_at TOP c named i)) part.old }
+// The first `rows` places of a part, with a channel's distances from a range.
+fn fill_distances(
+    predicate: Predicate,
+    scale: u64,
+    channels: usize,
+    values: &[i64],
+    rows: usize,
+    affirmed: bool,
+    part: &mut [i64],
+)
+    requires rows_in_bounds { rows ≤ length part.old }
+    requires leaf { Leaf values.now channels predicate scale rows }
+    ensures { part.new ≡ fill 0 rows (λ i. signed affirmed (scaled_distance TOP scale predicate.range (get_or values.now (i * channels + predicate.channel) (pos 0)))) part.old }
 {
-    let Predicate { channel, range } = recording.setup.predicates[named];
-    let scale = recording.setup.scales.each[channel];
-    let channels = recording.setup.channels;
-    let values = recording.values;
-    for i in 0..recording.times.len() {
+    let channel = predicate.channel;
+    let range = predicate.range;
+    for i in 0..rows {
         let value = values[i * channels + channel];
         let far = points::scaled_distance(range, scale, value);
         part[i] = points::signed_of(affirmed, far);
     }
 }
 
-// The row of a predicate, or of its negation.
+// The row of a predicate, or of its negation. Its parts come one by one: a whole recording would ask for its limits on channels and predicates too.
 pub fn predicate_row(
-    recording: &Recording,
-    named: usize,
+    predicate: Predicate,
+    scale: u64,
+    channels: usize,
+    values: &[i64],
+    rows: usize,
     affirmed: bool,
     work: &mut [i64],
     row: usize,
 )
-    requires rows_in_bounds { let n = rows (card_of recording.now) in row * n + n ≤ length work.old }
-    requires leaf { Leaf (card_of recording.now) named }
-    ensures { let c = card_of recording.now in work.new ≡ fill (row * rows c) (rows c) (λ i. signed affirmed (distance_at TOP c named i)) work.old }
+    requires rows_in_bounds { row * rows + rows ≤ length work.old }
+    requires leaf { Leaf values.now channels predicate scale rows }
+    ensures { work.new ≡ fill (row * rows) rows (λ i. signed affirmed (scaled_distance TOP scale predicate.range (get_or values.now (i * channels + predicate.channel) (pos 0)))) work.old }
 {
-    let from = row * recording.times.len();
-    fill_distances(recording, named, affirmed, &mut work[from..]);
+    let from = row * rows;
+    fill_distances(
+        predicate,
+        scale,
+        channels,
+        values,
+        rows,
+        affirmed,
+        &mut work[from..],
+    );
 }
 
 // Another row's values, or minus them.

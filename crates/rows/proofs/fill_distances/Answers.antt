@@ -6,7 +6,6 @@ use native.Mathlib.Nat.{mul-le-mul_right}
 use Rattle.std.proofs.Common.{rules, get_or, pos}
 use Rattle.lists.proofs.Filled.{fill_none}
 use Rattle.numbers.proofs.Parts.{within_neg}
-use Rattle.recordings.specs.Card.{card_of, predicate, scale}
 use Rattle.points.proofs.Fits.{top_fits, scaled_within}
 use Rattle.rows.proofs.Kept.{fill_more}
 use Rattle.rows.proofs.fill_distances.Goals as goal
@@ -17,11 +16,9 @@ loop-i-init c = fill_none _ _ _
 pub signed_of-requires : goal.signed_of-requires
 signed_of-requires c =
     let leaf = c.requires.leaf in
-    let card = card_of c.args.recording.now in
-    let p = predicate card c.args.named in
-    let i = c.loop-i.i * card.setup.channels + p.channel in
-    let value = leaf.in_range.each i (omega (arith, mul-le-mul_right card.setup.channels c.loop-i-test.true)) in
-    let fits = top_fits (within_neg (scaled_within (scale card p.channel) leaf.small_scale p.range (get_or card.values i (pos 0)) leaf.ends value)) in
+    let i = c.loop-i.i * c.args.channels + c.args.predicate.channel in
+    let value = leaf.in_range.each i (omega (arith, mul-le-mul_right c.args.channels c.loop-i-test.true)) in
+    let fits = top_fits (within_neg (scaled_within c.args.scale leaf.small_scale c.args.predicate.range (get_or c.args.values.now i (pos 0)) leaf.ends value)) in
     search rules
 
 pub loop-i-preserved : goal.loop-i-preserved
