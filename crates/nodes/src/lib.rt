@@ -26,7 +26,8 @@ pub fn node_row(
     row: usize,
 )
     requires { NodeAsks work.old (card_of recording.now) node left right row }
-    ensures { let c = card_of recording.now in work.new ≡ fill (row * rows c) (rows c) (node_value c affirmed window (operator node.kind) node (cell work.old (rows c) left) (cell work.old (rows c) right)) work.old }
+    ensures { let c = card_of recording.now in
+        work.new ≡ fill (row * rows c) (rows c) (node_value c affirmed window (operator node.kind) node (cell work.old (rows c) left) (cell work.old (rows c) right)) work.old }
 {
     let times = recording.times;
     let rows = times.len();

@@ -13,7 +13,8 @@ use Rattle.arrivals.proofs.making_refusal.Goals as goal
 pub returns-in_err-table_refusal : goal.returns-in_err-table_refusal
 returns-in_err-table_refusal c =
     let e = c.in_err-table_refusal.ensures in
-    ap number_of (handed_on c.from_residual.result c.from_residual.ensures.1) ∙ e ∙ sym (first_stays (table_checks (no_rows c.args.setup) c.args.table) (nesting_check c.args.table ∷ []) (λ z. not_none _ (e ∙ z)))
+    ap number_of (handed_on c.from_residual.result c.from_residual.ensures.1) ∙ e
+    ∙ sym (first_stays (table_checks (no_rows c.args.setup) c.args.table) (nesting_check c.args.table ∷ []) (λ z. not_none _ (e ∙ z)))
 
 pub unnested-requires : goal.unnested-requires
 unnested-requires c = ((table_passed _ _ (sym c.in_ok-table_refusal.ensures)).each 0 (omega arith)).0

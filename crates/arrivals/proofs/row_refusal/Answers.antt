@@ -10,10 +10,14 @@ pub returns-then-values-channels-clause-number : goal.returns-then-values-channe
 returns-then-values-channels-clause-number c = λ k hc hn. row_five k (record { time = c.args.time; values = c.args.values.now }) hc c.if-values-channels.true
 
 pub returns-then-not-in_time-clause-number : goal.returns-then-not-in_time-clause-number
-returns-then-not-in_time-clause-number c = λ k hc hn. row_later k (record { time = c.args.time; values = c.args.values.now }) hc hn c.if-values-channels.false c.if-not-in_time.ensures refl
+returns-then-not-in_time-clause-number c =
+    λ k hc hn.
+    row_later k (record { time = c.args.time; values = c.args.values.now }) hc hn c.if-values-channels.false c.if-not-in_time.ensures refl
 
 pub returns-then-not-values_obey-clause-number : goal.returns-then-not-values_obey-clause-number
-returns-then-not-values_obey-clause-number c = λ k hc hn. row_later k (record { time = c.args.time; values = c.args.values.now }) hc hn c.if-values-channels.false c.if-not-in_time.ensures c.if-not-values_obey.ensures
+returns-then-not-values_obey-clause-number c =
+    λ k hc hn.
+    row_later k (record { time = c.args.time; values = c.args.values.now }) hc hn c.if-values-channels.false c.if-not-in_time.ensures c.if-not-values_obey.ensures
 
 pub returns-clause-number : goal.returns-clause-number
 returns-clause-number c = λ k hc hn. row_later k (record { time = c.args.time; values = c.args.values.now }) hc hn c.if-values-channels.false c.if-not-in_time.ensures c.if-not-values_obey.ensures

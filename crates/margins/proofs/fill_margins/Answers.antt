@@ -12,7 +12,8 @@ use Rattle.margins.proofs.fill_margins.Goals.{In-loop-k}
 -- the rows before k hold the margins of their nodes
 hold : (c : In-loop-k) → Holds (card_of c.args.recording.now) c.loop-k.work c.loop-k.k (tree c.args.table.nodes)
 hold c =
-    filled_holds (card_of c.args.recording.now) (tree c.args.table.nodes) c.loop-k.k c.args.work.now (omega (arith, c.requires.room, earlier_row c.loop-k.k c.args.table.count (rows (card_of c.args.recording.now)) c.loop-k-test.true)) c.loop-k.invariant
+    filled_holds (card_of c.args.recording.now) (tree c.args.table.nodes) c.loop-k.k c.args.work.now
+    (omega (arith, c.requires.room, earlier_row c.loop-k.k c.args.table.count (rows (card_of c.args.recording.now)) c.loop-k-test.true)) c.loop-k.invariant
 
 pub loop-k-init : goal.loop-k-init
 loop-k-init c = filled_none (card_of c.args.recording.now) (tree c.args.table.nodes) c.args.work.now
@@ -31,4 +32,5 @@ margin_row-requires c =
 pub loop-k-preserved : goal.loop-k-preserved
 loop-k-preserved c =
     let k = c.loop-k.k in
-    filled_next (card_of c.args.recording.now) c.args.table.nodes k c.args.work.now (c.requires.sound.ruled.each k c.loop-k-test.true) c.loop-k.invariant (c.margin_row.ensures (tree c.args.table.nodes) (hold (goal.at.loop-k-preserved c).In-loop-k))
+    filled_next (card_of c.args.recording.now) c.args.table.nodes k c.args.work.now (c.requires.sound.ruled.each k c.loop-k-test.true) c.loop-k.invariant
+    (c.margin_row.ensures (tree c.args.table.nodes) (hold (goal.at.loop-k-preserved c).In-loop-k))

@@ -35,7 +35,8 @@ cell_at-requires c =
 pub returns-clause-answer : goal.returns-clause-answer
 returns-clause-answer c =
     let f = fine (goal.at.returns-clause-answer c).In_ok-refusal_of in
-    accepted_outcome (card_of c.args.recording.now) c.args.table (length c.args.work.now) _ c.in_ok-refusal_of.ensures (back_ok _ c.cell_at.type_inv ∙ c.cell_at.ensures ∙ root_cell (card_of c.args.recording.now) c.args.table c.args.work.now f.0 f.1 c.fill_margins.ensures)
+    accepted_outcome (card_of c.args.recording.now) c.args.table (length c.args.work.now) _ c.in_ok-refusal_of.ensures
+    (back_ok _ c.cell_at.type_inv ∙ c.cell_at.ensures ∙ root_cell (card_of c.args.recording.now) c.args.table c.args.work.now f.0 f.1 c.fill_margins.ensures)
 
 pub returns-clause-cells : goal.returns-clause-cells
 returns-clause-cells c = cells_filled (card_of c.args.recording.now) c.args.table c.args.work.now (sym c.in_ok-refusal_of.ensures) c.fill_margins.ensures

@@ -38,7 +38,8 @@ returns-then-not-times_obey c = sym (behind (goal.at.returns-then-not-times_obey
 
 pub returns-then-not-values_obey : goal.returns-then-not-values_obey
 unfolding first
-returns-then-not-values_obey c = sym (behind (goal.at.returns-then-not-values_obey c).In_ok-table_refusal ∙ rw (sym c.if-not-lengths_obey.ensures, sym c.if-not-times_obey.ensures, sym c.if-not-values_obey.ensures))
+returns-then-not-values_obey c =
+    sym (behind (goal.at.returns-then-not-values_obey c).In_ok-table_refusal ∙ rw (sym c.if-not-lengths_obey.ensures, sym c.if-not-times_obey.ensures, sym c.if-not-values_obey.ensures))
 
 pub returns : goal.returns
 unfolding first

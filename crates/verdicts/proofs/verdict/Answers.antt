@@ -19,7 +19,8 @@ fine c = nothing_refused (card_of c.args.recording.now) c.args.table c.args.step
 
 pub returns-in_err-refusal_of-clause-answer : goal.returns-in_err-refusal_of-clause-answer
 returns-in_err-refusal_of-clause-answer c =
-    ap verdict_outcome (handed_on c.from_residual.result c.from_residual.ensures.1) ∙ refused_outcome (card_of c.args.recording.now) c.args.table c.args.step c.args.drift (length c.args.work.now) _ c.in_err-refusal_of.ensures
+    ap verdict_outcome (handed_on c.from_residual.result c.from_residual.ensures.1)
+    ∙ refused_outcome (card_of c.args.recording.now) c.args.table c.args.step c.args.drift (length c.args.work.now) _ c.in_err-refusal_of.ensures
 
 pub returns-in_err-refusal_of-clause-cells : goal.returns-in_err-refusal_of-clause-cells
 returns-in_err-refusal_of-clause-cells c = cells_kept (card_of c.args.recording.now) c.args.table c.args.step c.args.drift c.args.work.now _ c.in_err-refusal_of.ensures
