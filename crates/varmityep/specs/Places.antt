@@ -1,6 +1,6 @@
 -- What each place of a C function's slices holds.
 -- Assumes nothing.
-use Rattle.std.specs.Prelude.{List, [], ◌∷◌, ℕ, ℤ, pos}
+use Rattle.std.specs.Prelude.{List, [], ◌∷◌, ℕ, ℤ, pos, Result, Ok, Err}
 use Rattle.recordings.specs.declared.Verdict.{Verdict}
 use Rattle.recordings.specs.declared.Verdict.TheVariants.{Holds, Fails, NotShown}
 use Rattle.recordings.specs.Card.{Card, card}
@@ -10,8 +10,8 @@ use Rattle.refusals.specs.First.{unless_refused}
 use Rattle.distances.specs.Answers.{DistanceOutcome}
 use Rattle.margins.specs.Answers.{MarginOutcome as Margin}
 use Rattle.verdicts.specs.Answer.{VerdictOutcome as Judgement}
-use Rattle.sheets.specs.declared.Sheet.{Sheet}
-use Rattle.sheet_rows.specs.declared.Answer.{Answer as Rows}
+use Rattle.sheets.specs.Form.{SheetAnswer}
+use Rattle.sheet_rows.specs.Answer.{Answer as Rows}
 use Rattle.flat.specs.Predicates.{range_from, predicates_from}
 use Rattle.flat.specs.Scales.{scales_from, setup_from}
 use Rattle.arrivals.specs.Arrivals.{watch_setup}
@@ -33,6 +33,11 @@ predicate_of range channel lo hi = record { channel = channel; range = range_fro
 abbrev pub handed : {X : Type 0} → ℕ → List X → List X → List X
 handed number new old = unless_refused number (written new old) old
 
+-- and after an answer of several numbers
+abbrev pub answer_handed : {E : Type 0} → Result (List ℤ) E → List ℤ → List ℤ
+answer_handed (Ok new) old = written new old
+answer_handed (Err e) old = old
+
 -- the distance
 abbrev pub distance_handed : DistanceOutcome → List ℤ → List ℤ
 distance_handed d old = handed d.number (d.distance ∷ []) old
@@ -51,7 +56,7 @@ abbrev pub verdict_handed : Judgement → List ℤ → List ℤ
 verdict_handed j old = handed j.number (verdict_number j.verdict ∷ j.hold ∷ j.fail ∷ []) old
 
 -- channels, step, drift, the rows' first place, the count of requirements
-abbrev pub sheet_numbers : Sheet → List ℕ
+abbrev pub sheet_numbers : SheetAnswer → List ℕ
 sheet_numbers s = s.head.setup.channels ∷ s.head.step ∷ s.head.drift ∷ s.rows ∷ s.count ∷ []
 
 -- measured rows, filled rows

@@ -12,6 +12,7 @@ ghost use Rattle.requirements.specs.Requirement.{requirement_of};
 ghost use Rattle.writing.specs.Written.{written_of, text_slice};
 ghost use Rattle.row_lines.specs.Reading.{rows_of};
 ghost use Rattle.refusals.specs.First.{unless_refused};
+ghost use Rattle.refusals.specs.Number.{number_of};
 ghost use Rattle.lists.specs.Front.{in_front, written};
 ghost use Rattle.sheet_rows.specs.Answer.{answer_of, times_of, values_of};
 ghost use Rattle.distances.specs.Answers.{distance_outcome, distance_judged};
@@ -26,9 +27,10 @@ ghost use Rattle.arrivals.specs.Arrivals.{no_rows, margin_so_far};
 ghost use Rattle.watch_cells.specs.State.{NUMBERS, CELLS};
 ghost use Rattle.watches.specs.Watches.{Roomy, lent_checks, SameBehind};
 ghost use Rattle.watches.specs.Run.{lent, Watching, Took};
-ghost use Rattle.varmityep.specs.Places.{watch_setup_from, sheet_numbers, row_places, card_from, predicate_of, handed, distance_handed, margin_handed, verdict_number, verdict_handed};
+ghost use Rattle.varmityep.specs.Places.{watch_setup_from, sheet_numbers, row_places, card_from, predicate_of, handed, answer_handed, distance_handed, margin_handed, verdict_number, verdict_handed};
 
-use recordings::{Predicate, Verdict};
+use recordings::{Predicate, Recording, Verdict};
+use refusals::Refusal;
 use writing::Written;
 
 // The printed lines of the answers to a whole text, and their length.
@@ -38,10 +40,10 @@ pub extern "C" fn varmityep_answer(text: &[u8], lines: &mut [u8]) -> usize
     ensures room { result ≤ LINES }
     ensures lines { lines.new ≡ written (lines_of (answers_of text.now)) lines.old }
 {
-    let mut printed = [0u8; outcome_lines::LINES];
-    let len = answers::answer_lines(text, &mut printed);
-    printing::write_bytes(&printed[..len], lines);
-    len
+    let printed = answers::answer_lines(text);
+    let whole = printed.as_slice();
+    lists::write_front(whole, lines);
+    whole.len()
 }
 
 // A sheet without its rows. Like every function below, it writes nothing under a refusal.
@@ -61,27 +63,22 @@ pub extern "C" fn varmityep_sheet(
     ensures ranges { ranges.new ≡ handed (sheet_of text.now).number (ranges_of (sheet_of text.now).head.setup.predicates) ranges.old }
     ensures ends { ends.new ≡ handed (sheet_of text.now).number (ends_of (sheet_of text.now).head.setup.predicates) ends.old }
 {
-    let sheet = sheets::read_sheet(text);
-    if sheet.number != 0 {
-        return sheet.number;
-    }
+    let sheet = match sheets::read_sheet(text) {
+        Ok(sheet) => sheet,
+        Err(refusal) => return u64::from(refusal),
+    };
     let head = sheet.head;
-    let setup = head.setup;
     let contents = [
-        setup.channels as u64,
+        head.setup.channels as u64,
         head.step,
         head.drift,
         sheet.rows as u64,
         sheet.count as u64,
     ];
-    flat::write_numbers(&contents, numbers);
-    let requirements = sheet.requirements;
-    let stand = flat::places_of(requirements);
-    flat::write_numbers(&stand, places);
-    let units = setup.scales;
-    flat::write_scales(units, scales);
-    let predicates = setup.predicates;
-    flat::write_predicates(predicates, ranges, ends);
+    lists::write_front(&contents, numbers);
+    lists::write_front(&flat::places_of(sheet.requirements), places);
+    flat::write_scales(head.setup.scales, scales);
+    flat::write_predicates(head.setup.predicates, ranges, ends);
     0
 }
 
@@ -93,14 +90,14 @@ pub extern "C" fn varmityep_requirement(text: &[u8], nodes: &mut [u64], count: &
     ensures count { count.new ≡ handed (requirement_of text.now).refusal ((requirement_of text.now).table.count ∷ []) count.old }
 {
     let mut cells = [0u64; building::CELLS];
-    let read = requirements::read_numbers(text, &mut cells);
-    if read.refusal != 0 {
-        return read.refusal;
+    match requirements::read_numbers(text, &mut cells) {
+        Ok(read) => {
+            lists::write_front(&cells, nodes);
+            lists::write_front(&[read as u64], count);
+            0
+        }
+        Err(refusal) => u64::from(refusal),
     }
-    flat::write_numbers(&cells, nodes);
-    let places = [read.count as u64];
-    flat::write_numbers(&places, count);
-    0
 }
 
 // The text of a table, and its length.
@@ -110,9 +107,9 @@ pub extern "C" fn varmityep_write(nodes: &[u64], count: u64, text: &mut [u8]) ->
     ensures text { text.new ≡ text_slice (table_from nodes.now count) text.old }
 {
     let mut cells = [0u64; building::CELLS];
-    flat::write_numbers(nodes, &mut cells);
+    lists::write_front(nodes, &mut cells);
     let table = building::table_from(&cells, count as usize);
-    writing::write_numbered(&cells, table, text)
+    Written::from(writing::write_numbered(&cells, table, text))
 }
 
 // The measured rows of a text, and the counts of measured and filled rows.
@@ -129,38 +126,26 @@ pub extern "C" fn varmityep_rows(
     ensures values { values.new ≡ unless_refused result (in_front (values_of (rows_of channels text.now)) values.old) values.old }
     ensures counts { counts.new ≡ handed result (row_places (answer_of text.now channels (length times.old) (length values.old))) counts.old }
 {
-    let answer = sheet_rows::read_rows(text, channels as usize, times, values);
-    if answer.number != 0 {
-        return answer.number;
+    match sheet_rows::read_rows(text, channels as usize, times, values) {
+        Ok(read) => {
+            lists::write_front(&[read.rows as u64, read.filled as u64], counts);
+            0
+        }
+        Err(refusal) => u64::from(refusal),
     }
-    let places = [answer.rows as u64, answer.filled as u64];
-    flat::write_numbers(&places, counts);
-    0
 }
 
-fn hand(number: u64, places: &[i64], res: &mut [i64]) -> u64
-    ensures number { result ≡ number }
-    ensures res { res.new ≡ handed number places.now res.old }
-{
-    if number == 0 {
-        flat::write_values(places, res);
-    }
-    number
-}
-
-fn hand_distance(answer: distances::Answer, res: &mut [i64]) -> u64
-    ensures number { result ≡ (distance_outcome answer).number }
-    ensures res { res.new ≡ distance_handed (distance_outcome answer) res.old }
+// Hands over a function's places with number 0, or the number of a refusal, under which the slice keeps what it holds.
+fn hand<const N: usize>(answer: Result<[i64; N], Refusal>, res: &mut [i64]) -> u64
+    ensures number { result ≡ number_of answer.entry }
+    ensures res { res.new ≡ answer_handed answer.entry res.old }
 {
     match answer {
-        distances::Answer::Distance(distance) => {
-            let places = [distance];
-            hand(0, &places, res)
+        Ok(places) => {
+            lists::write_front(&places, res);
+            0
         }
-        distances::Answer::Refused(number) => {
-            let places = [0i64];
-            hand(number, &places, res)
-        }
+        Err(refused) => u64::from(refused),
     }
 }
 
@@ -182,24 +167,15 @@ pub extern "C" fn varmityep_distance(
         channel: channel as usize,
         range: flat::range_from(range, lo, hi),
     };
-    let answer = distances::distance(predicate, scale, value);
-    hand_distance(answer, res)
-}
-
-fn hand_margin(answer: margins::Answer, res: &mut [i64]) -> u64
-    ensures number { result ≡ (margin_outcome answer).number }
-    ensures res { res.new ≡ margin_handed (margin_outcome answer) res.old }
-{
-    match answer {
-        margins::Answer::Margin(margin) => {
-            let places = [margin];
-            hand(0, &places, res)
-        }
-        margins::Answer::Refused(number) => {
-            let places = [0i64];
-            hand(number, &places, res)
-        }
-    }
+    let distance = distances::distance(predicate, scale, value);
+    hand(
+        distance.map(
+            |d|
+                ensures { result ≡ d ∷ [] }
+            { [d] },
+        ),
+        res,
+    )
 }
 
 // The margin of a table over a recording, and in `work` the cells of every node.
@@ -221,9 +197,20 @@ pub extern "C" fn varmityep_margin(
     ensures res { res.new ≡ margin_handed (margin_judged (card_from ranges.now ends.now channels scales.now times.now values.now) (table_from nodes.now count) (length work.old)) res.old }
 {
     let table = flat::table_from(nodes, count);
-    let setup = flat::setup_from(ranges, ends, channels, scales);
-    let answer = margins::margin(table, setup, times, values, work);
-    hand_margin(answer, res)
+    let recording = Recording {
+        setup: flat::setup_from(ranges, ends, channels, scales),
+        times,
+        values,
+    };
+    let margin = margins::margin(table, &recording, work);
+    hand(
+        margin.map(
+            |m|
+                ensures { result ≡ m ∷ [] }
+            { [m] },
+        ),
+        res,
+    )
 }
 
 fn verdict_number(verdict: Verdict) -> i64
@@ -233,23 +220,6 @@ fn verdict_number(verdict: Verdict) -> i64
         Verdict::NotShown => 0,
         Verdict::Holds => 1,
         Verdict::Fails => 2,
-    }
-}
-
-fn hand_verdict(answer: verdicts::Answer, res: &mut [i64]) -> u64
-    ensures number { result ≡ (verdict_outcome answer).number }
-    ensures res { res.new ≡ verdict_handed (verdict_outcome answer) res.old }
-{
-    match answer {
-        verdicts::Answer::Judged(judged) => {
-            let verdict = judged.verdict;
-            let places = [verdict_number(verdict), judged.hold, judged.fail];
-            hand(0, &places, res)
-        }
-        verdicts::Answer::Refused(number) => {
-            let places = [0i64; 3];
-            hand(number, &places, res)
-        }
     }
 }
 
@@ -274,9 +244,20 @@ pub extern "C" fn varmityep_verdict(
     ensures res { res.new ≡ verdict_handed (verdict_judged (card_from ranges.now ends.now channels scales.now times.now values.now) (table_from nodes.now count) step drift (length work.old)) res.old }
 {
     let table = flat::table_from(nodes, count);
-    let setup = flat::setup_from(ranges, ends, channels, scales);
-    let answer = verdicts::verdict(table, setup, times, values, step, drift, work);
-    hand_verdict(answer, res)
+    let recording = Recording {
+        setup: flat::setup_from(ranges, ends, channels, scales),
+        times,
+        values,
+    };
+    let judged = verdicts::verdict(table, &recording, step, drift, work);
+    hand(
+        judged.map(
+            |j|
+                ensures { result ≡ verdict_number j.verdict ∷ j.hold ∷ j.fail ∷ [] }
+            { [verdict_number(j.verdict), j.hold, j.fail] },
+        ),
+        res,
+    )
 }
 
 // A fresh watch in two slices of VARMITYEP_WATCH_NUMBERS numbers and VARMITYEP_WATCH_CELLS cells; the count of scales is its channel count. A refused making leaves a watch that gives
@@ -296,10 +277,14 @@ pub extern "C" fn varmityep_watch_fresh(
     ensures short { (Roomy (length numbers.old) (length cells.old) → ⊥) → (numbers.new ≡ numbers.old) × (cells.new ≡ cells.old) }
     ensures behind { SameBehind NUMBERS 0 numbers.old numbers.new × SameBehind CELLS (pos 0) cells.old cells.new }
 {
-    let table = flat::table_from(nodes, count);
-    let predicates = flat::predicates_from(ranges, ends);
-    let units = flat::scales_from(scales);
-    watches::make(table, predicates, units, numbers, cells)
+    let made = watches::make(
+        flat::table_from(nodes, count),
+        flat::predicates_from(ranges, ends),
+        flat::scales_from(scales),
+        numbers,
+        cells,
+    );
+    watches::number_of(made)
 }
 
 // One row more for a watch. A refused one leaves it as it is.
@@ -315,6 +300,8 @@ pub extern "C" fn varmityep_watch_row(
     ensures behind { SameBehind NUMBERS 0 numbers.old numbers.new × SameBehind CELLS (pos 0) cells.old cells.new }
 {
     watches::take(numbers, cells, time, values)
+        .err()
+        .unwrap_or(0)
 }
 
 // The margin of the rows that a watch has accepted.
@@ -325,6 +312,11 @@ pub extern "C" fn varmityep_watch_margin(numbers: &[u64], cells: &[i64], res: &m
     ensures refused { (result ≡ 0 → ⊥) → res.new ≡ res.old }
     ensures short { (Roomy (length numbers.now) (length cells.now) → ⊥) → result ≡ 8 }
 {
-    let answer = watches::tell(numbers, cells);
-    hand_margin(answer, res)
+    match watches::tell(numbers, cells) {
+        Ok(margin) => {
+            lists::write_front(&[margin], res);
+            0
+        }
+        Err(number) => number,
+    }
 }

@@ -269,6 +269,7 @@ fn root_margin(numbers: &[u64], cells: &[i64]) -> i64
 pub fn tell(numbers: &[u64], cells: &[i64]) -> Result<i64, u64>
     ensures margin { Told (lent numbers.now cells.now) result }
     ensures short { (Roomy (length numbers.now) (length cells.now) → ⊥) → result ≡ Err 8 }
+    ensures some { IfErr result (λ n. 1 ≤ n) }
 {
     if !is_roomy(numbers.len(), cells.len()) {
         return Err(u64::from(Refusal::Work));

@@ -1,21 +1,17 @@
--- An array of `LINES` bytes holds all lines, and that is what is written.
+-- An output of `LINES` bytes holds all lines, and that is what is written.
 -- Assumes nothing.
-use mathlib.Core.Path.{sym}
-use native.Mathlib.Omega.{arith}
-use lib.ListN.{replicate}
-use lib.Seq.{length-take-le}
-use Rattle.printing.proofs.Printed.{place_inside, front_says}
-use Rattle.outcome_lines.specs.Printed.{LINES}
+use Rattle.std.proofs.Common.{◌≡◌, length, replicate, ap, ◌∙◌}
+use Rattle.printing.proofs.Printed.{front_says}
+use Rattle.outcome_lines.specs.Printed.{LINES, lines_of}
+use Rattle.answers.specs.Answers.{answers_of}
 use Rattle.varmityep.proofs.varmityep_answer.Goals as goal
+use Rattle.varmityep.proofs.varmityep_answer.Goals.{After-as_slice-whole}
 
-pub slice_bounds-printed-end : goal.slice_bounds-printed-end
-slice_bounds-printed-end c = place_inside _ _ c.answer_lines-len.ensures.result_value (omega arith)
+whole : (c : After-as_slice-whole) → c.as_slice-whole.result.now ≡ lines_of (answers_of c.args.text.now)
+whole c = let a = c.answer_lines-printed.ensures in c.as_slice-whole.ensures ∙ (front_says (replicate LINES 0) _ a.result_value a.room).1
 
-pub slice_bounds-write_bytes-end : goal.slice_bounds-write_bytes-end
-slice_bounds-write_bytes-end c = sym (length-take-le _ _ (place_inside _ _ c.answer_lines-len.ensures.result_value (omega arith)))
+pub returns-clause-length : goal.returns-clause-length
+returns-clause-length c = ap length (whole (goal.at.returns-clause-length c).After-as_slice-whole)
 
-pub returns : goal.returns
-returns c =
-    let a = c.answer_lines-len in
-    let s = front_says (replicate LINES 0) _ a.ensures.result_value a.ensures.room in
-    record { length = s.0; room = rw s.0 a.ensures.room; lines = rw s.1 at c.write_bytes.ensures }
+pub returns-clause-lines : goal.returns-clause-lines
+returns-clause-lines c = rw (whole (goal.at.returns-clause-lines c).After-as_slice-whole) at c.write_front.ensures
