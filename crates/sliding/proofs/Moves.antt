@@ -9,11 +9,12 @@ use lib.IntN.{ℤ}
 use borrow.Author.Tests.{lt-ltb, le-ltb}
 use Rattle.lists.specs.Fold.{fold}
 use Rattle.logic.specs.declared.Extremum.{Extremum}
-use Rattle.logic.specs.Reading.{margin_extreme}
+use Rattle.logic.specs.Reading.{margin_extreme, margin_nothing}
+use Rattle.recordings.specs.Distance.{TOP}
 use Rattle.sliding.specs.declared.SlidingExtremum.{SlidingExtremum}
 use Rattle.sliding.specs.Run.{over, at_start, sliding_over, next_cut}
 use Rattle.sliding.specs.Asks.{Sliding}
-use Rattle.sliding.proofs.Over.{over_cong, over_on, over_split}
+use Rattle.sliding.proofs.Over.{over_cong, over_empty, over_on, over_split}
 
 -- ---- where a move parts the run
 module _ (cut low high : ℕ) where
@@ -35,6 +36,11 @@ module _ (e : Extremum) (f stored : ℕ → ℤ) (s : SlidingExtremum) (low high
       let x : tail ≡ over e f s.cut high = t ∙ rw S.tail_is (over_on e f s.cut s.high high o k) in
       let y : value ≡ over e f low high = v ∙ rw (x, S.stored_are low (omega arith) h) (sym (over_split e f low s.cut high (omega arith) (omega arith))) in
       rw (cut_kept s.cut low high h, x, y) refl
+
+-- the low end has come to cut: the extremum is found anew
+pub sliding_anew : (e : Extremum) (f : ℕ → ℤ) (cut low high : ℕ) {tail value : ℤ} → cut ≤ low → tail ≡ margin_nothing TOP e → value ≡ over e f low high
+    → ◌≡◌ {A = SlidingExtremum} (record { cut = high; high = high; tail = tail; value = value }) (sliding_over e f low (next_cut cut low high) high)
+sliding_anew e f cut low high h t v = rw (cut_anew cut low high h, t, v, over_empty e f high high (omega arith)) refl
 
 -- ---- what is known of a run: before its first place, after a move, and while other places are written
 pub sliding_start : (e : Extremum) (f stored : ℕ → ℤ) (low : ℕ) → Sliding e f stored (at_start e) low
