@@ -3,11 +3,11 @@
 use mathlib.Core.Path.{◌≡◌, refl, sym, ap, ◌∙◌, subst}
 use mathlib.Core.List.{List}
 use mathlib.Core.Bool.{Bool, true, false, cond, ◌&&◌}
-use Prim.Native.Nat.{ℕ, zero, suc, ◌+◌, ◌-◌, ◌≤◌, ◌<◌}
+use Prim.Native.Nat.{ℕ, zero, suc, ◌-◌, ◌≤◌, ◌<◌}
 use native.Mathlib.Nat.{add-zero}
 use native.Mathlib.Omega.{arith}
 use native.Mathlib.Decide.{ℕ_discrete}
-use lib.Dec.{T, leb, eqb, leb→le, le→leb, ltb→lt, lt→ltb}
+use lib.Dec.{T, leb, eqb, eqb→eq, leb→le, le→leb, ltb→lt, lt→ltb}
 use lib.ListN.{length}
 use lib.IntN.{ℤ, pos, negsuc, neg_ℤ}
 use lib.Signed.{le_z}
@@ -21,17 +21,20 @@ use Rattle.logic.specs.declared.Stop.TheVariants.{Endless, Before}
 use Rattle.logic.specs.Window.{reaches, inside}
 use Rattle.logic.specs.declared.Extremum.{Extremum}
 use Rattle.logic.specs.Formula.{dual}
+use Rattle.logic.specs.declared.Direction.{Direction}
 use Rattle.logic.specs.declared.Direction.TheVariants.{Future}
 use Rattle.logic.specs.Reading.{margin_nothing}
 use Rattle.recordings.specs.declared.Range.{Range}
 use Rattle.recordings.specs.Distance.{TOP, scaled_distance}
 use Rattle.tables.specs.declared.Node.{Node}
 use Rattle.tables.specs.Kind.{kinds, operator, predicate_kind}
-use Rattle.tables.specs.declared.Operator.TheVariants.{Binary, Unary}
+use Rattle.tables.specs.declared.Operator.{Operator}
+use Rattle.tables.specs.declared.Operator.TheVariants.{Constant, Named, Unknown, Binary, Unary}
 use Rattle.tables.specs.Tree.{NODES, NO_END}
 use Rattle.tables.specs.Rules.{window_obeys, WindowRules}
 use Rattle.tables.specs.Closed.{closed_node}
 use Rattle.tables.proofs.Rules.{window_passes}
+use Rattle.tables.proofs.EveryKind.{every_kind, known_kind}
 use Rattle.refusals.proofs.First.{answers}
 use Rattle.watch_cells.specs.State.{kept_node, kept_window, held_in}
 use Rattle.watch_cells.specs.Taking.{point_of, IsDistance, LeafValue, TimedAsks}
@@ -58,12 +61,34 @@ leaf_point zero leaf l r h = refl
 leaf_point (suc zero) leaf l r h = refl
 leaf_point (suc (suc kind)) leaf l r h = absurd (omega arith)
 
--- a number that is none of the next four is past them
-pub past : (n x : ℕ) → n ≤ x → (x ≡ n → ⊥) → (x ≡ n + 1 → ⊥) → (x ≡ n + 2 → ⊥) → (x ≡ n + 3 → ⊥) → n + 4 ≤ x
-past n x h a b c d = omega arith
+-- ---- which kind an operator is of
+abbrev is_constant : Operator → Bool
+is_constant Constant = true
+is_constant _ = false
 
-pub last_kind : (x : ℕ) → x < length kinds → 8 ≤ x → x ≡ 8
-last_kind x below h = omega arith
+abbrev is_named : Operator → Bool
+is_named Named = true
+is_named _ = false
+
+abbrev is_known : Operator → Bool
+is_known Unknown = false
+is_known _ = true
+
+pub constant_kind : (k : ℕ) → operator k ≡ Constant → k ≡ 0
+constant_kind k e = eqb→eq k 0 (rw e at (every_kind (λ o j. cond (is_constant o) (eqb j 0) true) tt (λ j h. tt) k))
+
+pub named_kind : (k : ℕ) → operator k ≡ Named → k ≡ 1
+named_kind k e = eqb→eq k 1 (rw e at (every_kind (λ o j. cond (is_named o) (eqb j 1) true) tt (λ j h. tt) k))
+
+pub no_unknown : (k : ℕ) → k < length kinds → operator k ≡ Unknown → ⊥
+no_unknown k h e = rw e at (known_kind (λ o j. is_known o) tt k h)
+
+-- operators look at later places alone
+pub binary_ahead : (d : Direction) (e : Extremum) → Binary d e ≡ Binary Future e
+binary_ahead Future e = refl
+
+pub unary_ahead : (d : Direction) (e : Extremum) → Unary d e ≡ Unary Future e
+unary_ahead Future e = refl
 
 -- ---- what a leaf and a temporal operator are worked out from, by the kind
 pub true_leaf : {numbers : List ℕ} {cells values : List ℤ} {n : Node} → n.kind ≡ 0 → LeafValue numbers cells values n (pos TOP)

@@ -19,7 +19,7 @@ ghost use Rattle.watch_cells.specs.State.{node_in, kept_window, held_in};
 ghost use Rattle.watch_cells.specs.Taking.{IsDistance, LeafValue, untimed, IsPoint, TimedAsks, so_far, margin_after, newest_of, SameBeyond, Arriving, Taking, NodeTakes};
 
 use logic::Extremum;
-use tables::Node;
+use tables::{Node, Operator};
 
 // Where the scales, the predicates' numbers and the nodes begin, and the nodes' cells.
 pub const SCALES_AT: usize = 5;
@@ -246,7 +246,8 @@ fn take_unary(
     take_timed(cells, node, e, left, right, opening, since, k)
 }
 
-// Node k takes the row. Its kind is asked for here alone, and once, as the number that it is, and its other numbers in the arm that they count in: each question costs a row time.
+// Node k takes the row. Its kind is asked for here alone, and once, and its other numbers in the arm that they count in: each question costs a row time.
+// A kind that no table has may stand there, too.
 fn take_node(
     numbers: &[u64; NUMBERS],
     cells: &mut [i64; CELLS],
@@ -259,20 +260,17 @@ fn take_node(
     ensures taken { NodeTakes numbers.now cells.old cells.new values.now opening since k }
     ensures beyond { SameBeyond cells.old cells.new }
 {
-    let kind = kind_of(numbers, k);
-    match kind {
-        tables::TRUE => take_leaf(cells, recordings::TOP, opening, k),
-        tables::PREDICATE => {
+    match Operator::from(kind_of(numbers, k)) {
+        Operator::Constant => take_leaf(cells, recordings::TOP, opening, k),
+        Operator::Named => {
             let leaf = distance_of(numbers, cells, values, node_of(numbers, k));
             take_leaf(cells, leaf, opening, k)
         }
-        tables::NOT => take_point(numbers, cells, None, k),
-        tables::AND => take_point(numbers, cells, Some(Extremum::Smallest), k),
-        tables::OR => take_point(numbers, cells, Some(Extremum::Largest), k),
-        tables::UNTIL => take_binary(numbers, cells, Extremum::Largest, opening, since, k),
-        tables::RELEASE => take_binary(numbers, cells, Extremum::Smallest, opening, since, k),
-        tables::EVENTUALLY => take_unary(numbers, cells, Extremum::Largest, opening, since, k),
-        _ => take_unary(numbers, cells, Extremum::Smallest, opening, since, k),
+        Operator::Negated => take_point(numbers, cells, None, k),
+        Operator::Joined(e) => take_point(numbers, cells, Some(e), k),
+        Operator::Binary(_, e) => take_binary(numbers, cells, e, opening, since, k),
+        Operator::Unary(_, e) => take_unary(numbers, cells, e, opening, since, k),
+        Operator::Unknown => take_unary(numbers, cells, Extremum::Smallest, opening, since, k),
     }
 }
 
