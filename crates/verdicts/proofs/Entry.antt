@@ -61,8 +61,12 @@ module _ (c : Card) (t : Table) (step drift size : ℕ) where
   unfolding verdict_judged
   refused_outcome r e =
       let z : verdict_refusal c t step drift size ≡ 0 → ⊥ = λ z. not_none r (e ∙ z) in
-      rw (unless_some (verdict_refusal c t step drift size) (verdict c step drift (root t)) NotShown z,
-      unless_some (verdict_refusal c t step drift size) (hold c step (root t)) (pos 0) z, unless_some (verdict_refusal c t step drift size) (fail c step (root t)) (pos 0) z, e) refl
+      rw (
+        unless_some (verdict_refusal c t step drift size) (verdict c step drift (root t)) NotShown z,
+        unless_some (verdict_refusal c t step drift size) (hold c step (root t)) (pos 0) z,
+        unless_some (verdict_refusal c t step drift size) (fail c step (root t)) (pos 0) z,
+        e,
+      ) refl
 
   pub accepted_outcome : {v : Verdict} {h f : ℤ} → verdict_refusal c t step drift size ≡ 0 → v ≡ verdict c step drift (root t) → h ≡ hold c step (root t) → f ≡ fail c step (root t)
       → verdict_outcome (Ok (record { verdict = v; hold = h; fail = f })) ≡ verdict_judged c t step drift size

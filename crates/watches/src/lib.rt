@@ -60,14 +60,16 @@ impl Watch {
 
     // One row more. A refused one leaves the watch as it was.
     pub fn row(&mut self, time: u64, values: &[i64]) -> Result<(), u64>
-        ensures { Took self.old (record { time = time; values = values.now }) (record { number = number_in result; watch = self.new }) }
+        ensures row { Took self.old (record { time = time; values = values.now }) (record { number = number_in result; watch = self.new }) }
+        ensures some { IfErr result (λ n. 1 ≤ n) }
     {
         take(&mut self.numbers, &mut self.cells, time, values)
     }
 
     // The margin of the rows accepted so far.
     pub fn margin(&self) -> Result<i64, u64>
-        ensures { Told self.now result }
+        ensures margin { Told self.now result }
+        ensures some { IfErr result (λ n. 1 ≤ n) }
     {
         tell(&self.numbers, &self.cells)
     }
@@ -241,6 +243,7 @@ pub fn take(numbers: &mut [u64], cells: &mut [i64], time: u64, values: &[i64]) -
     ensures row { Took (lent numbers.old cells.old) (record { time = time; values = values.now }) (record { number = number_in result; watch = lent numbers.new cells.new }) }
     ensures short { (Roomy (length numbers.old) (length cells.old) → ⊥) → result ≡ Err 8 }
     ensures behind { SameBehind NUMBERS 0 numbers.old numbers.new × SameBehind CELLS (pos 0) cells.old cells.new }
+    ensures some { IfErr result (λ n. 1 ≤ n) }
 {
     if !is_roomy(numbers.len(), cells.len()) {
         return Err(u64::from(Refusal::Work));

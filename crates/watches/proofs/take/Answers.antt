@@ -27,7 +27,7 @@ none c t k W = sym (c.in_ok-offer_refusal.ensures.number c.args.cells.now t k W)
 pub returns-then-not-is_roomy : goal.returns-then-not-is_roomy
 returns-then-not-is_roomy c =
     let h = cramped _ _ (sym c.is_roomy.ensures ∙ not-true c.is_roomy.result c.if-not-is_roomy.true-raw) in
-    record { row = record { equal = λ z. refl; number = λ t k W. absurd (h (watch_roomy W)); watch = λ t k W. absurd (h (watch_roomy W)) }; short = λ z. ap Err c.from.ensures; behind = (record { same = λ i h. refl }, record { same = λ i h. refl }) }
+    record { row = record { equal = λ z. refl; number = λ t k W. absurd (h (watch_roomy W)); watch = λ t k W. absurd (h (watch_roomy W)) }; short = λ z. ap Err c.from.ensures; behind = (record { same = λ i h. refl }, record { same = λ i h. refl }); some = let e = c.from.ensures in omega (arith, e) }
 
 pub offer_refusal-requires : goal.offer_refusal-requires
 offer_refusal-requires c = (room (goal.at.offer_refusal-requires c).Else-not-is_roomy).long
@@ -44,6 +44,7 @@ returns-in_err-offer_refusal c =
       };
       short = λ z. absurd (z (room (goal.at.returns-in_err-offer_refusal c).Else-not-is_roomy));
       behind = (record { same = λ i h. refl }, record { same = λ i h. refl });
+      some = rw p.2 o.some;
     })
 
 pub take_row-requires : goal.take_row-requires
@@ -61,4 +62,5 @@ returns c =
       };
       short = λ z. absurd (z (room (goal.at.returns c).Else-not-is_roomy));
       behind = t3.behind;
+      some = tt;
     }

@@ -1,6 +1,7 @@
+-- What each run is written with.
+-- Assumes nothing.
 use Rattle.watches.proofs.write_setup.Goals as goal
 
--- src/lib.rt:119:1
 pub returns : goal.returns
 returns c =
     let w = c.write_predicates in
