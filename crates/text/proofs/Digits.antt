@@ -10,13 +10,13 @@ use native.Mathlib.Omega.{arith}
 use lib.ListN.{length, get_or, take, drop}
 use lib.Seq.{take_all, get_or-drop}
 use lib.Dec.{leb}
-use borrow.Author.Tests.{leb-true}
+use borrow.Author.Tests.{leb-true, lt-leb}
 use Rattle.std.specs.List.{fold, prefix_len, take_while}
-use Rattle.std.proofs.lemmas.List.{length-take}
+use Rattle.std.proofs.lemmas.List.{length-take, length-take-le}
 use Rattle.std.proofs.lemmas.List.Sums.{fold_more, take_while-cons}
 use Rattle.text.specs.Number.{is_digit, digits, value, is_numeral, number_at}
 use Rattle.text.specs.declared.Field.TheVariants.{Number, Bad}
-use Rattle.text.proofs.Tests.{both, by_test}
+use Rattle.text.proofs.Tests.{both, never, by_test, by_le}
 
 -- a digit is 48 to 57
 pub digit_range : (b : ℕ) → is_digit b ≡ true → (48 ≤ b) × (b ≤ 57)
@@ -54,6 +54,13 @@ run_over [] (suc i) h = refl
 run_over (b ∷ s) zero h = rw h
 run_over (b ∷ s) (suc i) h = run_over s i h
 
+-- the digits among the first bytes are the first of the digits
+digits_within : (n : ℕ) (l : List ℕ) → digits (take n l) ≡ take n (digits l)
+unfolding digits
+digits_within zero l = refl
+digits_within (suc n) [] = refl
+digits_within (suc n) (b ∷ l) = by_test (is_digit b) (λ e. rw (e, digits_within n l)) (λ e. rw e)
+
 -- ---- what digits are worth
 
 abbrev more : ℕ → ℕ → ℕ
@@ -83,6 +90,23 @@ first_digit : (l : List ℕ) (first : ℕ) → get_or l 0 0 ≡ first → is_num
 unfolding digits
 first_digit [] first e = refl
 first_digit (b ∷ l) first e = by_test (is_digit b) (λ t. rw (t, ← e)) (λ t. rw t)
+
+-- sixty-four bytes tell whether the digits are a number, since more than ten digits are none
+pub numeral_seen : (l : List ℕ) → is_numeral (get_or (digits (take 64 l)) 0 0) (length (digits (take 64 l))) ≡ is_numeral (get_or (digits l) 0 0) (length (digits l))
+numeral_seen l =
+    by_le (length (digits l)) 64 (λ h. rw (digits_within 64 l, take_all 64 (digits l) h))
+    (λ h.
+    let m : 64 ≤ length (digits l) = omega arith in
+    let many : leb (length (digits l)) 10 ≡ false = lt-leb (length (digits l)) 10 (omega arith) in
+    rw (digits_within 64 l, length-take-le 64 (digits l) m, many, never (leb 1 (length (digits l)))))
+
+-- and where they are one, all of them are among them
+pub digits_seen : (l : List ℕ) → is_numeral (get_or (digits (take 64 l)) 0 0) (length (digits (take 64 l))) ≡ true → digits (take 64 l) ≡ digits l
+digits_seen l h =
+    let e = digits_within 64 l in
+    let c = both (leb 1 (length (digits (take 64 l)))) _ h in
+    let d = leb-true (length (digits (take 64 l))) 10 (both (leb (length (digits (take 64 l))) 10) _ c.1).0 in
+    e ∙ take_all 64 (digits l) (omega (arith, length-take 64 (digits l), ap length e))
 
 numeral_head : (s : List ℕ) (at : ℕ) → is_numeral (get_or (digits (drop at s)) 0 0) (length (digits (drop at s))) ≡ is_numeral (get_or s at 0) (length (digits (drop at s)))
 numeral_head s at = first_digit (drop at s) (get_or s at 0) (rw (get_or-drop at s 0 0, add-zero at))

@@ -4,7 +4,7 @@
 
 pub mod signed;
 
-ghost use Rattle.std.specs.Prelude.{◌≡◌, length, drop, get_or};
+ghost use Rattle.std.specs.Prelude.{◌≡◌, length, take, drop, get_or};
 ghost use Rattle.text.specs.Mark.{key_at, mark_at};
 ghost use Rattle.text.specs.Number.{digits, is_numeral, number_at, field_at};
 
@@ -12,6 +12,9 @@ ghost use Rattle.text.specs.Number.{digits, is_numeral, number_at, field_at};
 pub const LARGEST: u64 = 4_294_967_295;
 
 const LARGEST_SIGNED: u64 = 2_147_483_647;
+
+// How many bytes are looked at for digits. Ten are the most of a number; with as few as eleven the loop would be compiled to eleven tests, which is slower.
+const MOST_SEEN: usize = 64;
 
 // What a number field holds and the place after it. It is no `Option`, since readers name both at once: `let Field::Number(value, next) = .. else`.
 #[derive(Clone, Copy)]
@@ -27,12 +30,16 @@ pub struct Read<T> {
     pub next: usize,
 }
 
-// All the digits from a place on.
+// The digits from a place on, as far as they are looked at: a long run of digits costs no more than a short one.
 fn digits_at(s: &[u8], at: usize) -> &[u8]
-    ensures { result.now ≡ digits (drop at s.now) }
+    ensures { result.now ≡ digits (take 64 (drop at s.now)) }
 {
     let behind = s.get(at..).unwrap_or(&[]);
-    let count = behind.iter().take_while(|b| b.is_ascii_digit()).count();
+    let count = behind
+        .iter()
+        .take(MOST_SEEN)
+        .take_while(|b| b.is_ascii_digit())
+        .count();
     &behind[..count]
 }
 
