@@ -48,10 +48,10 @@ fn next_near(recording: &Recording, channel: usize, drift: u64, i: usize) -> boo
     requires followed { suc i < rows (card_of recording.now) }
     ensures { let c = card_of recording.now in result ≡ near (scale c channel) (value c channel i) (value c channel (suc i)) drift }
 {
-    let Recording { setup, values, .. } = *recording;
-    let from = values[i * setup.channels + channel];
-    let to = values[(i + 1) * setup.channels + channel];
-    near(setup.scales.each[channel], from, to, drift)
+    let channels = recording.setup.channels;
+    let from = recording.values[i * channels + channel];
+    let to = recording.values[(i + 1) * channels + channel];
+    near(recording.setup.scales.each[channel], from, to, drift)
 }
 
 fn channel_near(recording: &Recording, channel: usize, drift: u64) -> bool
