@@ -247,7 +247,7 @@ fn take_unary(
 }
 
 // Node k takes the row. Its kind is asked for here alone, and once, and its other numbers in the arm that they count in: each question costs a row time.
-// A kind that no table has may stand there, too.
+// So does an extremum that is known only at the row: each arm names its own. A kind that no table has may stand there, too.
 fn take_node(
     numbers: &[u64; NUMBERS],
     cells: &mut [i64; CELLS],
@@ -267,10 +267,24 @@ fn take_node(
             take_leaf(cells, leaf, opening, k)
         }
         Operator::Negated => take_point(numbers, cells, None, k),
-        Operator::Joined(e) => take_point(numbers, cells, Some(e), k),
-        Operator::Binary(_, e) => take_binary(numbers, cells, e, opening, since, k),
-        Operator::Unary(_, e) => take_unary(numbers, cells, e, opening, since, k),
-        Operator::Unknown => take_unary(numbers, cells, Extremum::Smallest, opening, since, k),
+        Operator::Joined(Extremum::Smallest) => {
+            take_point(numbers, cells, Some(Extremum::Smallest), k)
+        }
+        Operator::Joined(Extremum::Largest) => {
+            take_point(numbers, cells, Some(Extremum::Largest), k)
+        }
+        Operator::Binary(_, Extremum::Largest) => {
+            take_binary(numbers, cells, Extremum::Largest, opening, since, k)
+        }
+        Operator::Binary(_, Extremum::Smallest) => {
+            take_binary(numbers, cells, Extremum::Smallest, opening, since, k)
+        }
+        Operator::Unary(_, Extremum::Largest) => {
+            take_unary(numbers, cells, Extremum::Largest, opening, since, k)
+        }
+        Operator::Unary(_, Extremum::Smallest) | Operator::Unknown => {
+            take_unary(numbers, cells, Extremum::Smallest, opening, since, k)
+        }
     }
 }
 
