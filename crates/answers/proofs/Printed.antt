@@ -8,7 +8,7 @@ use native.Mathlib.Omega.{arith}
 use lib.ListN.{length}
 use Rattle.sheets.specs.Only.{only}
 use Rattle.sheets.specs.Sheets.{sheet_of}
-use Rattle.outcomes.specs.Outcome.{Outcome}
+use Rattle.outcomes.specs.declared.Outcome.{Outcome}
 use Rattle.outcomes.specs.Order.{entry}
 use Rattle.outcomes.specs.Arrangement.{Arranged}
 use Rattle.outcomes.proofs.Arrangements.{arranged, one_arrangement}

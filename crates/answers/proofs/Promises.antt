@@ -37,7 +37,8 @@ use Rattle.sheets.specs.Only.{only}
 use Rattle.sheets.specs.Sheets.{sheet_of}
 use Rattle.sheets.proofs.Exact.{contents, written_read, written_or_blank, joined_rows, sheet_cases, sheet_sound, sheet_refused, sheet_crowded, alike_written, sheet_alike}
 use Rattle.sheets.proofs.Only.{only_written}
-use Rattle.outcomes.specs.Outcome.{Outcome, TextOutcome, refused_by, text_refused_by}
+use Rattle.outcomes.specs.declared.Outcome.{Outcome}
+use Rattle.outcomes.specs.Outcome.{TextOutcome, refused_by, text_refused_by}
 use Rattle.outcomes.specs.Order.{past_end, entry}
 use Rattle.outcome_lines.specs.Printed.{lines_of}
 use Rattle.answers.specs.Answers.{ROWS, CELLS, measured, sheet_check, crowd_check, requirement_check, rows_check, table_run, requirement_run, figures, answer_for, head_in, listing_in, requirement_in, whole_run, answer_to, entries, answers_of, answers_in}

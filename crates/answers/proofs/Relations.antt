@@ -32,7 +32,7 @@ use Rattle.sheets.specs.Form.{SheetAnswer, Written}
 use Rattle.sheets.specs.Sheets.{sheet_of}
 use Rattle.sheets.proofs.Exact.{contents, written_read, rows_text, joined_rows, sheet_sound}
 use Rattle.sheets.proofs.Behind.{requirement_stands}
-use Rattle.outcomes.specs.Outcome.{Outcome}
+use Rattle.outcomes.specs.declared.Outcome.{Outcome}
 use Rattle.answers.specs.Answers.{measured, listing, requirement_part, table_run, figures, answered, table_answer, answer_for, head_in, listing_in, requirement_in, answer_to, answers_in}
 use Rattle.answers.proofs.Figures.{answered_number}
 use Rattle.answers.proofs.Wholes.{requirement_read}

@@ -21,7 +21,8 @@ use Rattle.requirement_lines.specs.declared.Place.{Place}
 use Rattle.requirement_lines.specs.Form.{MOST_REQUIREMENTS, no_place}
 use Rattle.sheets.specs.Form.{SheetAnswer, IsWritten, Crowded}
 use Rattle.sheets.specs.Sheets.{sheet_of}
-use Rattle.outcomes.specs.Outcome.{Outcome, refused_by, TextOutcome, text_refused_by}
+use Rattle.outcomes.specs.declared.Outcome.{Outcome}
+use Rattle.outcomes.specs.Outcome.{refused_by, TextOutcome, text_refused_by}
 
 -- room for 2,048 measured rows of up to eight channels, and for 8,192 cells
 abbrev pub ROWS : ℕ

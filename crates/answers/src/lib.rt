@@ -5,13 +5,13 @@ ghost use Rattle.std.specs.Prelude.{◌≡◌, ◌≤◌, ◌<◌, length, map};
 ghost use Rattle.recordings.specs.Card.{card_of};
 ghost use Rattle.verdicts.specs.Answer.{verdict_refusal};
 ghost use Rattle.outcomes.specs.Outcome.{outcome_of, text_outcome_of};
-ghost use Rattle.printing.specs.Output.{blank, printed};
+ghost use Rattle.printing.specs.Output.{blank, output, printed};
 ghost use Rattle.outcome_lines.specs.Printed.{LINES, lines_of};
 ghost use Rattle.sheet_rows.specs.Answer.{outcome as rows_outcome};
 ghost use Rattle.sheets.specs.Form.{outcome as sheet_outcome};
 ghost use Rattle.answers.specs.Answers.{CELLS, listing, requirement_part, answered, answer_for, entries, answers_of, Placed, Stored};
 
-use outcomes::{Figures, Outcomes};
+use outcomes::{Figures, OutcomeList};
 use printing::Output;
 use recordings::Recording;
 use refusals::Refusal;
@@ -75,7 +75,7 @@ fn answer_for(
 }
 
 // The answers for all requirements of a sheet, whose rows are read once.
-fn answer_all(text: &[u8], sheet: Sheet) -> Outcomes
+fn answer_all(text: &[u8], sheet: Sheet) -> OutcomeList
     requires { Placed text.now (sheet_outcome (Ok sheet)) }
     ensures { map outcome_of result ≡ entries text.now (sheet_outcome (Ok sheet)) }
 {
@@ -87,7 +87,7 @@ fn answer_all(text: &[u8], sheet: Sheet) -> Outcomes
         &mut times,
         &mut values,
     );
-    let mut all = Outcomes::new();
+    let mut all = OutcomeList::new();
     for k in 0..sheet.count {
         all.push(answer_for(text, sheet, k, read, &times, &values));
     }
@@ -95,7 +95,7 @@ fn answer_all(text: &[u8], sheet: Sheet) -> Outcomes
 }
 
 // The answers to a whole text.
-pub fn answers(text: &[u8]) -> Result<Outcomes, Refusal>
+pub fn answers(text: &[u8]) -> Result<OutcomeList, Refusal>
     ensures { text_outcome_of result ≡ answers_of text.now }
 {
     let sheet = sheets::read_sheet(text)?;
@@ -103,11 +103,20 @@ pub fn answers(text: &[u8]) -> Result<Outcomes, Refusal>
 }
 
 // The lines that are printed for a whole text.
-pub fn answer_lines(text: &[u8]) -> Output<{ outcome_lines::LINES }>
+pub fn printed_answers(text: &[u8]) -> Output<{ outcome_lines::LINES }>
     ensures result_value { result ≡ printed (blank LINES) (lines_of (answers_of text.now)) }
     ensures room { length (lines_of (answers_of text.now)) ≤ LINES }
 {
     let mut out = Output::new();
-    outcome_lines::lines(&mut out, &answers(text));
+    outcome_lines::print(&mut out, &answers(text));
     out
+}
+
+// The same at the front of a slice; with LINES places they are whole. Answers the place behind them.
+pub fn answer_lines(text: &[u8], out: &mut [u8]) -> usize
+    ensures result_value { output out.new result ≡ printed (output out.old 0) (lines_of (answers_of text.now)) }
+    ensures room { length (lines_of (answers_of text.now)) ≤ LINES }
+{
+    let lines = printed_answers(text);
+    printing::word(out, 0, lines.as_slice())
 }

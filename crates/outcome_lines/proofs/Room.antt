@@ -16,7 +16,7 @@ use Rattle.text.specs.Bytes.{bytes}
 use Rattle.printing.specs.Decimal.{digit_of, decimal, decimal_signed}
 use Rattle.printing.proofs.Decimal.{decimal_one, decimal_more}
 use Rattle.printing.proofs.Lengths.{decimal_few, signed_few}
-use Rattle.outcomes.specs.Outcome.{Outcome}
+use Rattle.outcomes.specs.declared.Outcome.{Outcome}
 use Rattle.outcome_lines.specs.Printed.{LINE, NUMBERED, word_of, field, figures_line, refusal_line, line_by, line_of, numbered_line}
 
 -- at most n bytes
@@ -68,7 +68,7 @@ numbered_few k x h l =
     let s = joined (joined (said "req=" (two k h)) (says (bytes " "))) n in
     omega (arith, s.few)
 
--- a refused outcome's line
+-- ---- by the outcome's number
 pub line_refused : (o : Outcome) → (o.number ≡ 0 → ⊥) → refusal_line o.number ≡ line_of o
 unfolding line_of
 line_refused o h = go o.number h
@@ -76,3 +76,7 @@ line_refused o h = go o.number h
     go : (n : ℕ) → (n ≡ 0 → ⊥) → refusal_line n ≡ line_by n o
     go zero h = absurd (h refl)
     go (suc n) h = refl
+
+pub line_judged : (o : Outcome) → o.number ≡ 0 → figures_line o.rows o.filled o.margin o.hold o.fail o.verdict ≡ line_of o
+unfolding line_of
+line_judged o h = rw h refl

@@ -1,17 +1,18 @@
 -- Lines of several requirements. Before turn n of the loop the lines of the first n places of the order are printed, none longer than `NUMBERED`.
 -- Assumes nothing.
 use mathlib.Core.Path.{◌≡◌, refl, sym, ap, ◌∙◌}
-use mathlib.Core.List.{List, [], ◌∷◌, ◌++◌, append_assoc, append-nil, map}
+use mathlib.Core.List.{List, [], ◌∷◌, ◌++◌, append_assoc, append-nil}
 use Prim.Native.Nat.{ℕ, zero, suc, ◌+◌, ◌*◌, ◌≤◌, ◌<◌}
 use native.Mathlib.Omega.{arith}
 use native.Mathlib.Numerals.{add-one}
 use lib.ListN.{length, get_or, take, length-append}
 use lib.Seq.{take-suc, take_all}
-use Rattle.std.proofs.lemmas.List.{length-map, get_or-map}
+use Rattle.std.proofs.lemmas.List.{get_or_default}
 use Rattle.printing.specs.Output.{Output, printed}
 use Rattle.printing.proofs.Printed.{printed_none, printed_then}
 use Rattle.refusals.specs.First.{unless_refused}
-use Rattle.outcomes.specs.Outcome.{Outcome, TextOutcome}
+use Rattle.outcomes.specs.declared.Outcome.{Outcome}
+use Rattle.outcomes.specs.Outcome.{TextOutcome}
 use Rattle.outcomes.specs.Order.{past_end, entry}
 use Rattle.outcomes.specs.Arrangement.{arrange_below, arrangement}
 use Rattle.outcomes.proofs.Arrangements.{length_arrangement, arrangement_below}
@@ -47,13 +48,11 @@ printing_next xs {start} {n = n} {k} {x} p h e f t r =
     }
 
 -- what stands there is a place of the outcomes
-pub next_place : {X : Type 0} (f : X → Outcome) (ys : List X) {order : List ℕ} {n : ℕ} → order ≡ arrangement (map f ys) → n < length order → get_or order n 0 < length ys
-next_place f ys {n = n} e h =
-    let l = length-map ys f in
-    rw e (omega (arith, arrangement_below (map f ys) n (omega (arith, ap length e, length_arrangement (map f ys))), l))
+pub next_place : (xs : List Outcome) {order : List ℕ} {n : ℕ} → order ≡ arrangement xs → n < length order → get_or order n 0 < length xs
+next_place xs {n = n} e h = rw e (arrangement_below xs n (omega (arith, ap length e, length_arrangement xs)))
 
-pub entry_of : {X : Type 0} (f : X → Outcome) (ys : List X) (k : ℕ) (d : X) → k < length ys → f (get_or ys k d) ≡ entry (map f ys) k
-entry_of f ys k d h = sym (get_or-map f ys k d past_end h)
+pub entry_at : (xs : List Outcome) (k : ℕ) (d : Outcome) → k < length xs → get_or xs k d ≡ entry xs k
+entry_at xs k d h = get_or_default xs k d past_end h
 
 -- after the last turn all lines are printed
 module _ (xs : List Outcome) {start here : Output} {n : ℕ} (p : Printing xs start here n) (all : length xs ≤ n) where

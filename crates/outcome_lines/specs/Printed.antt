@@ -7,7 +7,8 @@ use Rattle.recordings.specs.declared.Verdict.TheVariants.{Holds, Fails, NotShown
 use Rattle.text.specs.Bytes.{bytes}
 use Rattle.printing.specs.Decimal.{decimal, decimal_signed}
 use Rattle.refusals.specs.First.{unless_refused}
-use Rattle.outcomes.specs.Outcome.{Outcome, TextOutcome}
+use Rattle.outcomes.specs.declared.Outcome.{Outcome}
+use Rattle.outcomes.specs.Outcome.{TextOutcome}
 use Rattle.outcomes.specs.Order.{entry}
 use Rattle.outcomes.specs.Arrangement.{arrangement}
 

@@ -1,21 +1,13 @@
 -- The outcome of a requirement and that of a whole text as the papers have them: a number, 0 where nothing is refused, and the figures, which are nothing under a refusal.
 -- Assumes nothing.
-use Rattle.std.specs.Prelude.{ℕ, List, [], map, ℤ, pos, Result, Ok, Err}
-use Rattle.recordings.specs.declared.Verdict.{Verdict}
+use Rattle.std.specs.Prelude.{ℕ, List, [], map, take, pos, Result, Ok, Err}
 use Rattle.recordings.specs.declared.Verdict.TheVariants.{NotShown}
 use Rattle.refusals.specs.declared.Refusal.{Refusal}
 use Rattle.refusals.specs.Number.{number}
 use Rattle.outcomes.specs.declared.Figures.{Figures}
+use Rattle.outcomes.specs.declared.Outcome.{Outcome}
 use Rattle.outcomes.specs.declared.Outcomes.{Outcomes}
-
-pub record Outcome : Type 0 where
-  pub number : ℕ
-  pub rows : ℕ
-  pub filled : ℕ
-  pub margin : ℤ
-  pub hold : ℤ
-  pub fail : ℤ
-  pub verdict : Verdict
+use Rattle.outcomes.specs.declared.OutcomeList.{OutcomeList}
 
 -- a refusal's number, and nothing else
 abbrev pub refused_by : ℕ → Outcome
@@ -37,6 +29,10 @@ pub record TextOutcome : Type 0 where
 abbrev pub text_refused_by : ℕ → TextOutcome
 text_refused_by n = record { number = n; entries = [] }
 
-abbrev pub text_outcome_of : Result Outcomes Refusal → TextOutcome
+-- the first `count` of sixteen
+abbrev pub text_of : Outcomes → TextOutcome
+text_of a = record { number = a.number; entries = take a.count a.entries }
+
+abbrev pub text_outcome_of : Result OutcomeList Refusal → TextOutcome
 text_outcome_of (Ok xs) = record { number = 0; entries = map outcome_of xs }
 text_outcome_of (Err r) = text_refused_by (number r)

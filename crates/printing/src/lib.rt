@@ -1,11 +1,32 @@
-// Words and numbers, printed one behind the other into a buffer of a fixed length. A byte that has no place is left out.
+// Words and numbers, printed one behind the other into a buffer of a fixed length, and a word into a lent slice. A byte that has no place is left out.
 #![tactic(auto, using(crate::proofs::Printed::printed_append, crate::proofs::Decimal::decimal_one, crate::proofs::Decimal::decimal_more), unfolding(crate::specs::Output::printed))]
 
 ghost use Rattle.std.specs.Prelude.{◌≡◌, [], ◌∷◌, take};
 ghost use Rattle.printing.specs.Decimal.{decimal, decimal_signed};
-ghost use Rattle.printing.specs.Output.{blank, printed};
+ghost use Rattle.printing.specs.Output.{blank, output, printed};
 
 use std::marker::Model;
+
+fn byte(out: &mut [u8], at: usize, b: u8) -> usize
+    ensures { output out.new result ≡ printed (output out.old at) (b ∷ []) }
+{
+    if out.len() <= at {
+        return at;
+    }
+    out[at] = b;
+    at + 1
+}
+
+// A word in a lent slice, from a place on. Answers the place behind it.
+pub fn word(out: &mut [u8], at: usize, word: &[u8]) -> usize
+    ensures { output out.new result ≡ printed (output out.old at) word.now }
+{
+    let mut next = at;
+    for b in word.iter() {
+        next = byte(out, next, *b);
+    }
+    next
+}
 
 // What is printed: the bytes in front of `end`.
 #[derive(Drop)]

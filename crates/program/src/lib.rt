@@ -63,6 +63,6 @@ pub fn answer_from<R: Read, W: Write>(reader: &mut R, writer: &mut W) -> io::Res
 {
     let mut text = [0u8; ROOM];
     let count = read_text(reader, &mut text)?;
-    let lines = answers::answer_lines(&text[..count]);
+    let lines = answers::printed_answers(&text[..count]);
     write_lines(writer, lines.as_slice())
 }

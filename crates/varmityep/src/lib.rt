@@ -40,7 +40,7 @@ pub extern "C" fn varmityep_answer(text: &[u8], lines: &mut [u8]) -> usize
     ensures room { result ≤ LINES }
     ensures lines { lines.new ≡ written (lines_of (answers_of text.now)) lines.old }
 {
-    let printed = answers::answer_lines(text);
+    let printed = answers::printed_answers(text);
     let whole = printed.as_slice();
     lists::write_front(whole, lines);
     whole.len()

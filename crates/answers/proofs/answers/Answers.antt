@@ -3,7 +3,8 @@
 use Rattle.std.proofs.Common.{sym, ap, subst, ◌∙◌, List}
 use Rattle.refusals.proofs.Number.{not_none, handed_on}
 use Rattle.sheets.specs.Form.{SheetAnswer}
-use Rattle.outcomes.specs.Outcome.{Outcome, text_outcome_of, text_refused_by}
+use Rattle.outcomes.specs.declared.Outcome.{Outcome}
+use Rattle.outcomes.specs.Outcome.{text_outcome_of, text_refused_by}
 use Rattle.answers.specs.Answers.{all_answered, Placed}
 use Rattle.answers.proofs.Wholes.{answers_refused, answers_read, placed}
 use Rattle.answers.proofs.answers.Goals as goal

@@ -2,12 +2,10 @@
 -- Assumes nothing.
 use Rattle.std.proofs.Common.{rules, ◌≡◌, w64, to_z, of_z}
 use Rattle.printing.proofs.Printed.{printed_then}
-use Rattle.outcome_lines.specs.Printed.{line_of}
 use Rattle.outcome_lines.proofs.Room.{figures_few}
 use Rattle.outcome_lines.proofs.figures_line.Goals as goal
 
 pub returns-clause-result_value : goal.returns-clause-result_value
-unfolding line_of
 returns-clause-result_value g c =
     let f = c.args.figures in
     let margin : to_z w64 (of_z w64 f.margin) ≡ f.margin = search rules in
@@ -21,5 +19,4 @@ returns-clause-result_value g c =
     printed_then _ _ _ six c.word-3.ensures
 
 pub returns-clause-room : goal.returns-clause-room
-unfolding line_of
 returns-clause-room g c = let f = c.args.figures in figures_few f.rows f.filled f.margin f.hold f.fail f.verdict (search rules) (search rules) (search rules) (search rules) (search rules)

@@ -1,14 +1,18 @@
--- By whether the outcome is a refusal.
+-- By the outcome's number.
 -- Assumes nothing.
 use Rattle.std.proofs.Common.{ap, ◌∙◌}
-use Rattle.refusals.proofs.Number.{not_none}
 use Rattle.printing.specs.Output.{printed}
-use Rattle.outcomes.specs.Outcome.{refused_by}
-use Rattle.outcome_lines.proofs.Room.{line_refused}
+use Rattle.outcome_lines.proofs.Room.{line_refused, line_judged}
 use Rattle.outcome_lines.proofs.line.Goals as goal
 
-pub returns-in-Err-clause-result_value : goal.returns-in-Err-clause-result_value
-returns-in-Err-clause-result_value g c = rw c.in-Err.is (c.refusal_line.ensures.result_value ∙ ap (printed _) (line_refused (refused_by _) (not_none c.in-Err.refusal)))
+pub returns-then-outcome-ne0-clause-result_value : goal.returns-then-outcome-ne0-clause-result_value
+returns-then-outcome-ne0-clause-result_value g c = c.refusal_line.ensures.result_value ∙ ap (printed _) (line_refused c.args.outcome c.if-outcome-ne0.true)
 
-pub returns-in-Err-clause-room : goal.returns-in-Err-clause-room
-returns-in-Err-clause-room g c = rw (c.in-Err.is, ← line_refused (refused_by _) (not_none c.in-Err.refusal)) c.refusal_line.ensures.room
+pub returns-then-outcome-ne0-clause-room : goal.returns-then-outcome-ne0-clause-room
+returns-then-outcome-ne0-clause-room g c = rw (← line_refused c.args.outcome c.if-outcome-ne0.true) c.refusal_line.ensures.room
+
+pub returns-clause-result_value : goal.returns-clause-result_value
+returns-clause-result_value g c = c.figures_line.ensures.result_value ∙ ap (printed _) (line_judged c.args.outcome c.if-outcome-ne0.false)
+
+pub returns-clause-room : goal.returns-clause-room
+returns-clause-room g c = rw (← line_judged c.args.outcome c.if-outcome-ne0.false) c.figures_line.ensures.room

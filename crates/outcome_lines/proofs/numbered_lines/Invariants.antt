@@ -1,9 +1,7 @@
 -- Each turn of the loop prints the line that comes next in the order.
 -- Assumes nothing.
-use Rattle.std.proofs.Common.{map}
-use Rattle.outcomes.specs.Outcome.{outcome_of}
 use Rattle.outcome_lines.proofs.Several.{Printing}
 use Rattle.outcome_lines.proofs.numbered_lines.Given as goal
 
 abbrev pub invariant-loop-k : goal.invariant-loop-k
-invariant-loop-k g l = Printing (map outcome_of l.outcomes) l.initial.out l.out l.k-index
+invariant-loop-k g l = Printing l.entries l.initial.out l.out l.k-index

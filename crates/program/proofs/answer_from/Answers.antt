@@ -28,12 +28,12 @@ on_ok (Err e) f a = tt
 pub returns-clause-whole : goal.returns-clause-whole
 returns-clause-whole g c =
     let wrote = λ (bs : List ℕ). Appends (g.W.Write.contents c.args.writer.now) (g.W.Write.contents c.write_lines.new.writer) bs in
-    let printed_lines = c.answer_lines-lines.ensures in
+    let printed_lines = c.printed_answers-lines.ensures in
     on_ok c.write_lines.result (lines_for _ wrote _ _ _ c.read_text.auto.text c.in_ok-count.ensures.bytes printed_lines.result_value printed_lines.room c.as_slice.ensures)
     c.write_lines.ensures.whole
 
 pub returns-clause-front : goal.returns-clause-front
 returns-clause-front g c =
     let wrote = λ (bs : List ℕ). AppendsFront (g.W.Write.contents c.args.writer.now) (g.W.Write.contents c.write_lines.new.writer) bs in
-    let printed_lines = c.answer_lines-lines.ensures in
+    let printed_lines = c.printed_answers-lines.ensures in
     lines_for _ wrote _ _ _ c.read_text.auto.text c.in_ok-count.ensures.bytes printed_lines.result_value printed_lines.room c.as_slice.ensures c.write_lines.ensures.front

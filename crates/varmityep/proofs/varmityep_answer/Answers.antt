@@ -8,7 +8,7 @@ use Rattle.varmityep.proofs.varmityep_answer.Goals as goal
 use Rattle.varmityep.proofs.varmityep_answer.Goals.{After-as_slice-whole}
 
 whole : (c : After-as_slice-whole) → c.as_slice-whole.result.now ≡ lines_of (answers_of c.args.text.now)
-whole c = let a = c.answer_lines-printed.ensures in c.as_slice-whole.ensures ∙ (front_says (replicate LINES 0) _ a.result_value a.room).1
+whole c = let a = c.printed_answers-printed.ensures in c.as_slice-whole.ensures ∙ (front_says (replicate LINES 0) _ a.result_value a.room).1
 
 pub returns-clause-length : goal.returns-clause-length
 returns-clause-length c = ap length (whole (goal.at.returns-clause-length c).After-as_slice-whole)
